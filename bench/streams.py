@@ -76,6 +76,19 @@ def small_messages(rng, number):
     return message(rng, number, [rng.randint(64, 512)])
 
 
+def unordered_header(rng, channel, size):
+    """content_type, headers in no order, and delivery_mode."""
+    headers = table(rng, rng.randint(3, 8), 0, keys)
+    return header(channel, size, 0xb000, short(rng.choice(CONTENT_TYPES)), headers, bytes([2]))
+
+
+def unordered_headers(rng, number):
+    """Small messages, of which one in forty has headers in no order, as most clients send them."""
+    channel, size = rng.randint(1, 20), rng.randint(64, 512)
+    made = unordered_header(rng, channel, size) if rng.random() < 1 / 40 else small_header(rng, channel, size, number)
+    return opening(rng, channel, number) + made + frame(3, channel, rng.randbytes(size))
+
+
 def large_bodies(rng, number):
     if rng.random() < 0.25:
         return message(rng, number, [16384] * rng.randint(1, 4))
@@ -152,8 +165,8 @@ def tables_in_order(rng, number):
     return tables(rng, number, keys_in_order)
 
 
-STREAMS = {'small messages': small_messages, 'large bodies': large_bodies, 'tables': tables,
-           'tables in order': tables_in_order, 'acks and heartbeats': acks}
+STREAMS = {'small messages': small_messages, 'unordered headers': unordered_headers, 'large bodies': large_bodies,
+           'tables': tables, 'tables in order': tables_in_order, 'acks and heartbeats': acks}
 
 
 def block_of(name):

@@ -1,6 +1,11 @@
 """Rattle's text as `rt fmt` lays it out: as much of that as the generated files need."""
 
+import textwrap
+
 WIDTH = 100
+
+#: how long the last list of names is at least, where that costs no further one
+SHORTEST = 30
 
 #: how long the arguments of a call or the members of a tuple, and those of a struct, are at most on one line
 CALL_WIDTH = 60
@@ -17,6 +22,17 @@ def filled(words, indent, width=WIDTH):
             longer = word
         line = longer
     return lines + [indent + line] if line else lines
+
+
+def parted(names, width):
+    """Names in as few lists as have room for them, of which the last is not short where others as many can be shorter."""
+
+    def lists(most):
+        return textwrap.wrap(", ".join(names) + ",", most + 1, break_long_words=False, break_on_hyphens=False) if names else []
+
+    tries = [lists(most) for most in range(width, SHORTEST, -1)]
+    found = max((it for it in tries if len(it) == len(tries[0])), key=lambda it: min(SHORTEST, len(it[-1])) if it else 0)
+    return [it.rstrip(",") for it in found]
 
 
 def use(path, names, before="use"):

@@ -115,7 +115,9 @@ def function(row):
 
 
 def ghost_use(path, names):
-    return f"ghost use Rattle.{path}.{{{', '.join(names)}}};\n" if names else ""
+    """An import of definitions, or several of the same module where one line has no room for all."""
+    head = f"ghost use Rattle.{path}.{{"
+    return "".join(f"{head}{part}}};\n" for part in layout.parted(names, layout.WIDTH - len(head + "};")))
 
 
 def forms(rows):

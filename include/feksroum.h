@@ -179,8 +179,8 @@ typedef struct feksroum_payload {
 /* Whether a whole payload is a frame of the type that this byte names, and what stands in it. That is the same on each
  * channel. The payload of a protocol header is its three version bytes.
  *
- * status: 0 where it is a frame; 10 where the byte names no type; 12 where the payload is longer than a frame can say,
- * 2^32 - 1 bytes; else its fault, 14 to 20. */
+ * status: 0 where it is a frame; else the first of these: 10 where the byte names no type; 12 where the payload is longer than
+ * a frame can say, 2^32 - 1 bytes; its fault, 14 to 20. */
 feksroum_payload feksroum_check(uint8_t type, const uint8_t *payload, size_t length) FEKSROUM_RESULT FEKSROUM_READS(2, 3);
 
 /* Kinds of fields of methods and content headers. */
@@ -217,7 +217,7 @@ typedef struct feksroum_node {
  * 0 and false. 24 bytes, no padding. */
 typedef struct feksroum_fields {
     uint64_t body_size; /* of a content header; else 0 */
-    uint64_t nodes; /* how many are given; at status 40, how many the list has to have */
+    uint64_t nodes; /* how many are given; at status 40, how many there are: a list with room for so many is long enough */
     uint16_t class_id; /* of a method or content header; else 0 */
     uint16_t method_id; /* of a method; else 0 */
     bool canonical; /* the payload is the canonical one */
@@ -232,29 +232,33 @@ enum { FEKSROUM_SHALLOW = 0, FEKSROUM_DEEP = 1 };
 /* Reads the fields of a whole payload of this type as nodes, in the order of the bytes: those of a method that are not
  * reserved, the properties of a content header that are set, the three numbers of a protocol header. A body and a heartbeat
  * have none. At FEKSROUM_DEEP the node of each table is followed by those of its entries, and of all that lies inside them. So
- * the next node on the level of nodes[k] is nodes[k + 1 + nodes[k].inside]. Entries stand as they were sent: of equal keys
- * the last one counts. There are at most as many nodes as bytes.
+ * the next node on the level of nodes[k] is nodes[k + 1 + nodes[k].inside]. Entries stand as they were sent, each one: of
+ * equal keys the last one counts. There are at most as many nodes as bytes, so a list of `length` nodes is always long enough.
+ * All spans and keys lie in the payload, and those of nodes inside another one in its span; an empty string too begins where
+ * it stands.
  *
- * status: 0 where the nodes are given; 41 where the detail is none; 10, 12, 14 to 20 as feksroum_check has them; 40 where the
- * list is shorter than `nodes` says. What stands in the list behind the nodes, or at other statuses than 0, is not specified. */
+ * status: 0 where the nodes are given; else the first of these: 41 where the detail is none; 10, 12, 14 to 20 as
+ * feksroum_check has them; 40 where the list is shorter than `nodes` says. What stands in the list behind the nodes, or at
+ * other statuses than 0, is not specified. */
 feksroum_fields feksroum_read(uint8_t type, const uint8_t *payload, size_t length, uint8_t detail, feksroum_node *nodes,
                               size_t room) FEKSROUM_RESULT FEKSROUM_READS(2, 3);
 
 /* The same of what fills a table (kind 'F') or an array ('A') that stands alone, without its length: its entries or values, with
- * all that lies inside them. Of the result all but status and nodes is 0 and false.
+ * all that lies inside them, at most as many nodes as bytes. Of the result all but status and nodes is 0 and false.
  *
- * status: 0 where the nodes are given; 41 where the kind is neither; 12 where the content has more than 2^32 - 1 bytes; 16 and
- * 18 to 20 where it has a fault; 40 where the list is too short. */
+ * status: 0 where the nodes are given; else the first of these: 41 where the kind is neither; 12 where the content has more
+ * than 2^32 - 1 bytes; 16 and 18 to 20 where it has a fault; 40 where the list is shorter than `nodes` says. */
 feksroum_fields feksroum_open(uint8_t kind, const uint8_t *content, size_t length, feksroum_node *nodes, size_t room)
     FEKSROUM_RESULT FEKSROUM_READS(2, 3);
 
 /* The value of a key in a table: `table` is its node, followed by those inside it, and `bytes` what was read. NULL where the
- * table does not have the key. */
+ * table does not have the key; and where it was read at FEKSROUM_SHALLOW and is not empty: then `inside` is 0 and `length` is
+ * not. An empty key is looked for where key_length is 0, also with NULL. */
 static inline const feksroum_node *feksroum_find(const feksroum_node *table, const uint8_t *bytes, const void *key,
                                                  size_t key_length) {
     const feksroum_node *found = NULL;
     for (const feksroum_node *node = table + 1; node <= table + table->inside; node += 1 + node->inside) {
-        if (node->key_length == key_length && memcmp(bytes + node->key_start, key, key_length) == 0) {
+        if (node->key_length == key_length && (key_length == 0 || memcmp(bytes + node->key_start, key, key_length) == 0)) {
             found = node;
         }
     }
@@ -262,7 +266,7 @@ static inline const feksroum_node *feksroum_find(const feksroum_node *table, con
 }
 
 /* A frame among others. Its payload's bytes are counted from the front of what was read, and its nodes are a part of one list:
- * nodes[first] to nodes[first + nodes - 1]. 32 bytes, no padding. */
+ * nodes[first] to nodes[first + nodes - 1], whose spans and keys lie in its payload. 32 bytes, no padding. */
 typedef struct feksroum_head {
     uint64_t body_size; /* of a content header: the size in bytes of the body that it announces; else 0 */
     uint32_t start; /* where the payload begins */
@@ -283,7 +287,7 @@ enum { FEKSROUM_FORM_CANONICAL = 1, FEKSROUM_FORM_TIDY = 2 };
 typedef struct feksroum_batch {
     uint64_t used; /* how many bytes the frames have */
     uint64_t needed; /* at status 21: how many bytes the next frame has at least, 8 until its length is there; at 40: how many
-                        nodes it has; else 0 */
+                        nodes it has, at most as many as its bytes: lists of so many nodes and of one head take it; else 0 */
     uint32_t heads; /* how many frames are given: so many heads */
     uint32_t nodes; /* how many nodes they have */
     uint32_t status; /* 0, 10 to 21, 40 or 41 */
@@ -291,9 +295,10 @@ typedef struct feksroum_batch {
 } feksroum_batch;
 
 /* Reads as many whole frames in front of the bytes as both lists have room for, with one call: a head for each, and its nodes as
- * feksroum_read gives them. All spans, in heads and in nodes, are counted from the front of `bytes`. The time is linear; n bytes
- * have at most n / 8 frames, and at most n nodes. Of more than 2^32 - 1 bytes only so many in front are looked at; the others
- * come with the next call.
+ * feksroum_read gives them. All spans, in heads and in nodes, are counted from the front of `bytes`. The time is linear; `used`
+ * is at least 8 times `heads`, and at least `nodes`, so lists of length / 8 heads and `length` nodes are always long enough. Of
+ * more than 2^32 - 1 bytes only so many in front are looked at; the others come with the next call. A payload of more than
+ * 2^32 - 9 bytes, whose frame never fits in so many, has status 12 at any max_payload.
  *
  * status: 0 where nothing comes after these frames; 21 where the bytes end inside the next one; its fault, 10 to 20; 40 where it
  * is whole and has none, and a list has no room for it; 41 where the detail is none: then nothing is given. What stands in the
@@ -313,10 +318,10 @@ typedef struct feksroum_written {
 } feksroum_written;
 
 /* Writes the frames that heads and nodes mean at the front of `out`, one after another. All spans lie in the pool: those of nodes, and of
- * bodies. Reserved fields are written at their constants, entries of tables in the order of their nodes. So what is written is canonical
- * where the keys of each table ascend, none stands twice, and content that is given as bytes is canonical; else feksroum_canonicalize or
- * feksroum_canonicalize_in_place makes it so. What feksroum_frames gave at FEKSROUM_DEEP can be passed as it is, with the bytes that were
- * read as the pool. `out` must overlap no other.
+ * bodies. Reserved fields are written at their constants, entries of tables in the order of their nodes. What is written is an encoding of
+ * these frames, and nothing else. It is their canonical bytes where the keys of each table ascend, none stands twice, and content that is
+ * given as bytes is canonical; else feksroum_canonicalize or feksroum_canonicalize_in_place makes it so. What feksroum_frames gave at
+ * FEKSROUM_DEEP can be passed as it is, with the bytes that were read as the pool. `out` must overlap no other.
  *
  * Of a head these members count, and the others that its type does not have are 0:
  *   a method           channel, class_id, method_id, first, nodes: its fields that are not reserved, all of them, in their order
@@ -339,13 +344,15 @@ typedef struct feksroum_written {
  *      key that is not UTF-8; 20 tables and arrays nest too deep; 16, 18, 19, 20 the fault of a content that stands in the pool; 41 a
  *      field that misses or is too many;
  *   12 the payload is longer than max_payload.
+ * Heads and nodes that mean frames are refused for length alone: 42 of a node that holds 2^32 bytes or more, or 12.
  * Where nothing is refused it is 40 if `out` is shorter than `length` says; so a call with no buffer tells how long it has to be. */
 feksroum_written feksroum_write(const feksroum_head *heads, size_t head_count, const feksroum_node *nodes, size_t node_count,
                                 const uint8_t *pool, size_t pool_length, uint32_t max_payload, uint8_t *out, size_t out_length)
     FEKSROUM_RESULT FEKSROUM_READS(1, 2) FEKSROUM_READS(3, 4) FEKSROUM_READS(5, 6) FEKSROUM_WRITES(8, 9);
 
 /* The same of what fills a table (kind 'F') or an array ('A') alone, without its length: the nodes are its entries or values, with those
- * inside them. 41 where the kind is neither. */
+ * inside them. 41 where the kind is neither, which comes first. Only of what lies inside nodes is the length limited (42): the content
+ * itself may have more than 2^32 - 1 bytes. What is written is an encoding of these entries or values. */
 feksroum_written feksroum_write_content(uint8_t kind, const feksroum_node *nodes, size_t node_count, const uint8_t *pool,
                                         size_t pool_length, uint8_t *out, size_t out_length)
     FEKSROUM_RESULT FEKSROUM_READS(2, 3) FEKSROUM_READS(4, 5) FEKSROUM_WRITES(6, 7);
@@ -380,7 +387,7 @@ typedef struct feksroum_turn {
  * header may announce at most max_body bytes.
  *
  * status: 0 where the frame may come next; 24 where not, and then each later frame of the channel has fault 7; 10 where the type is none;
- * 41 where the numbers that are kept are none of a channel. */
+ * 41 where the numbers that are kept are none of a channel, which comes first. */
 feksroum_turn feksroum_step(feksroum_channel channel, uint8_t type, uint16_t class_id, uint16_t method_id, uint64_t size,
                             uint64_t max_body) FEKSROUM_RESULT;
 
@@ -430,8 +437,8 @@ typedef struct feksroum_frame_rule {
 feksroum_frame_rule feksroum_rule(const uint8_t *word, size_t length) FEKSROUM_RESULT FEKSROUM_READS(1, 2);
 
 /* Whether rules keep a frame, by its type, channel and ids, as feksroum_next and feksroum_check have them: 1 where the first rule that
- * matches says keep; 0 where it says drop, or none matches; 10 where the type is none; 41 where a rule has other numbers than are said
- * above. For whole messages, decide at the method that opens one (part 1 of feksroum_step), and let its content header and bodies
+ * matches says keep; 0 where it says drop, or none matches; 10 where the type is none; else 41 where any rule has other numbers than are
+ * said above. For whole messages, decide at the method that opens one (part 1 of feksroum_step), and let its content header and bodies
  * follow. */
 uint8_t feksroum_decide(const feksroum_frame_rule *rules, size_t count, uint8_t type, uint16_t channel, uint16_t class_id,
                         uint16_t method_id) FEKSROUM_RESULT FEKSROUM_READS(1, 2);
@@ -453,7 +460,7 @@ typedef struct feksroum_progress {
  *
  * status: 0 where nothing follows these frames; 21 where the bytes end inside the next one; else the fault of what
  * follows. The frames before a fault are used and written all the same.
- * 40 where `out` is shorter than the bytes, and 41 where the level is none: nothing is used or written.
+ * 41 where the level is none, and else 40 where `out` is shorter than the bytes: nothing is used or written.
  *
  * A stream may be fed in pieces of any size: put the bytes that a call did not use in front of the next piece. All that is
  * written, what is left and the last status are then those of one call with all the bytes. A fault stays, whatever follows.
@@ -470,8 +477,10 @@ size_t feksroum_canonical_run(const uint8_t *bytes, size_t length, uint32_t max_
  * were written is as it was. A frame that is canonical is moved, one that is not goes through `spare`, in which nothing is
  * specified afterwards.
  *
- * status: as feksroum_canonicalize has it, but 40 where a frame that is not canonical is longer than `spare`: used and written say
- * how far the call came, and it can go on from there with a longer one. max_payload + 8 bytes are enough for every frame. */
+ * status: as feksroum_canonicalize has it, but 40 where a frame that is not canonical is longer than `spare`, and only then: used
+ * and written say how far the call came, and that frame stands at `used` as it was. To go on, take the bytes written away, and call
+ * again at bytes + used with a longer spare: what that call writes stands at bytes + used. max_payload + 8 bytes of spare are enough
+ * for every frame. */
 feksroum_progress feksroum_canonicalize_in_place(uint8_t *bytes, size_t length, uint8_t *spare, size_t spare_length,
                                                  feksroum_mark *scratch, size_t scratch_length, uint32_t max_payload,
                                                  uint8_t level) FEKSROUM_RESULT;

@@ -85,6 +85,9 @@ static bool list_agrees(uint8_t type, const uint8_t *payload, size_t length, fek
         }
     }
     feksroum_fields refused = feksroum_read(type, payload, length, FEKSROUM_DEEP, other, count ? count - 1 : 0);
+    if (feksroum_read(type, payload, length, FEKSROUM_DEEP, other, count).status != FEKSROUM_OK) {
+        return false;
+    }
     return count == 0 ? refused.status == FEKSROUM_OK
                       : refused.status == FEKSROUM_BUFFER_TOO_SMALL && refused.nodes == count && refused.class_id == 0 &&
                             refused.body_size == 0 && !refused.canonical && !refused.tidy;
@@ -135,6 +138,16 @@ static bool last_key_counts(void) {
            b->kind == 'V' && !feksroum_find(nodes, content, "c", 1);
 }
 
+/* An empty key is found, and a table that was read without what lies inside it has none. */
+static bool empty_key_is_found(void) {
+    static const uint8_t content[] = {1, 'a', 't', 1, 0, 'V'};
+    feksroum_node nodes[3] = {{.kind = 'F', .length = sizeof content}};
+    bool none = !feksroum_find(nodes, content, "a", 1) && !feksroum_find(nodes, content, NULL, 0) && nodes->length > 0;
+    feksroum_fields found = feksroum_open('F', content, sizeof content, nodes + 1, 2);
+    nodes[0].inside = (uint32_t)found.nodes;
+    return none && found.status == FEKSROUM_OK && found.nodes == 2 && feksroum_find(nodes, content, NULL, 0) == nodes + 2;
+}
+
 bool fields_are_known(void) {
     feksroum_fields none = feksroum_read(FEKSROUM_HEARTBEAT, NULL, 0, FEKSROUM_DEEP, NULL, 0);
     feksroum_fields detail = feksroum_read(FEKSROUM_HEARTBEAT, NULL, 0, 2, NULL, 0);
@@ -142,5 +155,5 @@ bool fields_are_known(void) {
     feksroum_fields kind = feksroum_open('S', NULL, 0, NULL, 0);
     return none.status == FEKSROUM_OK && none.nodes == 0 && none.canonical && detail.status == FEKSROUM_BAD_ARGUMENT &&
            empty.status == FEKSROUM_OK && empty.nodes == 0 && kind.status == FEKSROUM_BAD_ARGUMENT && delivery_is_known() &&
-           last_key_counts();
+           last_key_counts() && empty_key_is_found();
 }

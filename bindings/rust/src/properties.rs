@@ -71,22 +71,50 @@ impl<'a> Properties<'a> {
     pub(crate) const KINDS: [u8; 14] = [6, 6, 8, 1, 1, 6, 6, 6, 6, 4, 6, 6, 6, 6];
 
     pub(crate) fn read(fields: &Fields<'a>) -> Properties<'a> {
-        Properties {
-            content_type: fields.has(0).then(|| fields.short_string(0)),
-            content_encoding: fields.has(1).then(|| fields.short_string(1)),
-            headers: fields.has(2).then(|| fields.table(2)),
-            delivery_mode: fields.has(3).then(|| fields.octet(3)),
-            priority: fields.has(4).then(|| fields.octet(4)),
-            correlation_id: fields.has(5).then(|| fields.short_string(5)),
-            reply_to: fields.has(6).then(|| fields.short_string(6)),
-            expiration: fields.has(7).then(|| fields.short_string(7)),
-            message_id: fields.has(8).then(|| fields.short_string(8)),
-            timestamp: fields.has(9).then(|| fields.long_long(9)),
-            kind: fields.has(10).then(|| fields.short_string(10)),
-            user_id: fields.has(11).then(|| fields.short_string(11)),
-            app_id: fields.has(12).then(|| fields.short_string(12)),
-            cluster_id: fields.has(13).then(|| fields.short_string(13)),
+        let mut properties = Properties::default();
+        if fields.has(0) {
+            properties.content_type = Some(fields.short_string(0));
         }
+        if fields.has(1) {
+            properties.content_encoding = Some(fields.short_string(1));
+        }
+        if fields.has(2) {
+            properties.headers = Some(fields.table(2));
+        }
+        if fields.has(3) {
+            properties.delivery_mode = Some(fields.octet(3));
+        }
+        if fields.has(4) {
+            properties.priority = Some(fields.octet(4));
+        }
+        if fields.has(5) {
+            properties.correlation_id = Some(fields.short_string(5));
+        }
+        if fields.has(6) {
+            properties.reply_to = Some(fields.short_string(6));
+        }
+        if fields.has(7) {
+            properties.expiration = Some(fields.short_string(7));
+        }
+        if fields.has(8) {
+            properties.message_id = Some(fields.short_string(8));
+        }
+        if fields.has(9) {
+            properties.timestamp = Some(fields.long_long(9));
+        }
+        if fields.has(10) {
+            properties.kind = Some(fields.short_string(10));
+        }
+        if fields.has(11) {
+            properties.user_id = Some(fields.short_string(11));
+        }
+        if fields.has(12) {
+            properties.app_id = Some(fields.short_string(12));
+        }
+        if fields.has(13) {
+            properties.cluster_id = Some(fields.short_string(13));
+        }
+        properties
     }
 
     pub(crate) fn list(&self) -> List<'a> {

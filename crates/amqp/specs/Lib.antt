@@ -1,4 +1,5 @@
--- The definitions that contracts of callers cite, passed on. The others stand in the crates' own specs.
+-- The definitions that contracts of callers cite, passed on. The others stand in the
+-- crates' own specs.
 pub use Rattle.amqp_types.specs.Levels
 pub use Rattle.amqp_types.specs.Judging
 pub use Rattle.amqp_types.specs.Answers

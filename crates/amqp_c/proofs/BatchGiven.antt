@@ -13,12 +13,17 @@ use Rattle.amqp_fields.specs.declared.frames.FramesEnd.TheVariants as ends
 use Rattle.amqp_fields.specs.declared.frames.FramesRead.{FramesRead}
 use Rattle.amqp_fields.specs.declared.head.Head.{Head}
 use Rattle.amqp_fields.specs.declared.node.Node.{Node}
+use Rattle.amqp_fields.proofs.FramesGiven.{verdict_whole}
 use Rattle.amqp_fields.specs.Frames.{EndsWith, ReadsFrames, SaysFault, in_reach}
 use Rattle.amqp_c.specs.declared.frames.FrameBatch.{FrameBatch}
 use Rattle.amqp_c.specs.Batches.{AreFew, Follows, GivesFrames, batch_of, end_needed, end_status}
 
-pub frames_few : (m : ℕ) (deep : Bool) (bytes : List ℕ) (heads : List Head) (nodes : List Node) (read : FramesRead) → ReadsFrames m deep bytes heads nodes read → AreFew read
-frames_few m deep bytes heads nodes read h = let size = length-take 4294967295 bytes in (omega (arith, size, h.within, h.few_heads), omega (arith, size, h.within, h.few_nodes))
+-- The frames and the fields that were read fit four bytes in number.
+pub frames_few : (m : ℕ) (deep : Bool) (bytes : List ℕ) (heads : List Head) (nodes : List Node) (read : FramesRead)
+    → ReadsFrames m deep bytes heads nodes read → AreFew read
+frames_few m deep bytes heads nodes read h =
+    let size = length-take 4294967295 bytes in
+    (omega (arith, size, h.within, h.few_heads), omega (arith, size, h.within, h.few_nodes))
 
 none_left : (m : ℕ) → verdict plain (Some m) [] ≡ past
 unfolding verdict
@@ -32,32 +37,54 @@ module _ (m : ℕ) (deep : Bool) (bytes : List ℕ) (heads : List Head) (nodes :
   left : Judged Frame
   left = verdict plain (Some m) (drop read.used (in_reach bytes))
 
-  fault_follows : (error : ParserError) (j : Judged Frame) → SaysFault error j → Follows deep bytes heads nodes (with_end (ends.Fault error)) j
+  fault_follows : (error : ParserError) (j : Judged Frame) → SaysFault error j → Follows m deep bytes heads nodes (with_end (ends.Fault error)) j
   unfolding with_end
   fault_follows errors.Incomplete j h = absurd h
-  fault_follows errors.UnknownFrameType j h = subst (Follows deep bytes heads nodes (with_end (ends.Fault errors.UnknownFrameType))) (sym h) (refl, refl)
-  fault_follows errors.BadProtocolHeader j h = subst (Follows deep bytes heads nodes (with_end (ends.Fault errors.BadProtocolHeader))) (sym h) (refl, refl)
-  fault_follows errors.BadFrameEnd j h = subst (Follows deep bytes heads nodes (with_end (ends.Fault errors.BadFrameEnd))) (sym h) (refl, refl)
-  fault_follows errors.UnknownClass j h = subst (Follows deep bytes heads nodes (with_end (ends.Fault errors.UnknownClass))) (sym h) (refl, refl)
-  fault_follows errors.UnknownMethod j h = subst (Follows deep bytes heads nodes (with_end (ends.Fault errors.UnknownMethod))) (sym h) (refl, refl)
-  fault_follows errors.ShortPayload j h = subst (Follows deep bytes heads nodes (with_end (ends.Fault errors.ShortPayload))) (sym h) (refl, refl)
-  fault_follows errors.TrailingBytes j h = subst (Follows deep bytes heads nodes (with_end (ends.Fault errors.TrailingBytes))) (sym h) (refl, refl)
-  fault_follows errors.NotUtf8 j h = subst (Follows deep bytes heads nodes (with_end (ends.Fault errors.NotUtf8))) (sym h) (refl, refl)
-  fault_follows errors.UnknownTag j h = subst (Follows deep bytes heads nodes (with_end (ends.Fault errors.UnknownTag))) (sym h) (refl, refl)
-  fault_follows errors.TooDeep j h = subst (Follows deep bytes heads nodes (with_end (ends.Fault errors.TooDeep))) (sym h) (refl, refl)
+  fault_follows errors.UnknownFrameType j h = subst (Follows m deep bytes heads nodes (with_end (ends.Fault errors.UnknownFrameType))) (sym h) (refl, refl)
+  fault_follows errors.BadProtocolHeader j h = subst (Follows m deep bytes heads nodes (with_end (ends.Fault errors.BadProtocolHeader))) (sym h) (refl, refl)
+  fault_follows errors.BadFrameEnd j h = subst (Follows m deep bytes heads nodes (with_end (ends.Fault errors.BadFrameEnd))) (sym h) (refl, refl)
+  fault_follows errors.UnknownClass j h = subst (Follows m deep bytes heads nodes (with_end (ends.Fault errors.UnknownClass))) (sym h) (refl, refl)
+  fault_follows errors.UnknownMethod j h = subst (Follows m deep bytes heads nodes (with_end (ends.Fault errors.UnknownMethod))) (sym h) (refl, refl)
+  fault_follows errors.ShortPayload j h = subst (Follows m deep bytes heads nodes (with_end (ends.Fault errors.ShortPayload))) (sym h) (refl, refl)
+  fault_follows errors.TrailingBytes j h = subst (Follows m deep bytes heads nodes (with_end (ends.Fault errors.TrailingBytes))) (sym h) (refl, refl)
+  fault_follows errors.NotUtf8 j h = subst (Follows m deep bytes heads nodes (with_end (ends.Fault errors.NotUtf8))) (sym h) (refl, refl)
+  fault_follows errors.UnknownTag j h = subst (Follows m deep bytes heads nodes (with_end (ends.Fault errors.UnknownTag))) (sym h) (refl, refl)
+  fault_follows errors.TooDeep j h = subst (Follows m deep bytes heads nodes (with_end (ends.Fault errors.TooDeep))) (sym h) (refl, refl)
   fault_follows errors.NoMemory j h = absurd h
 
-  end_follows : (end : FramesEnd) → EndsWith m deep bytes heads nodes read end → Follows deep bytes heads nodes (with_end end) left
+  end_follows : (end : FramesEnd) → EndsWith m deep bytes heads nodes read end → Follows m deep bytes heads nodes (with_end end) left
   unfolding with_end left
   end_follows ends.Done h =
-      let nothing : drop read.used (in_reach bytes) ≡ [] = nil_from_length (drop read.used (in_reach bytes)) (omega (arith, h, length-drop read.used (in_reach bytes), length-take 4294967295 bytes)) in
-      subst (Follows deep bytes heads nodes (with_end ends.Done)) (sym (ap (verdict plain (Some m)) nothing ∙ none_left m)) (λ all. (refl, refl), λ more. absurd (omega (arith, h, more)))
-  end_follows (ends.Incomplete needed) h = subst (Follows deep bytes heads nodes (with_end (ends.Incomplete needed))) (sym h.1.0) (λ all. absurd (omega (arith, h.0, all)), λ more. (refl, h.1.1))
-  end_follows ends.TooLarge h = subst (Follows deep bytes heads nodes (with_end ends.TooLarge)) (sym h.1) (refl, refl)
+      let nothing : drop read.used (in_reach bytes) ≡ [] =
+      nil_from_length (drop read.used (in_reach bytes)) (omega (arith, h, length-drop read.used (in_reach bytes), length-take 4294967295 bytes)) in
+      subst (Follows m deep bytes heads nodes (with_end ends.Done)) (sym (ap (verdict plain (Some m)) nothing ∙ none_left m))
+      (λ all. (refl, refl), λ more. absurd (omega (arith, h, more)))
+  end_follows (ends.Incomplete needed) h =
+      subst (Follows m deep bytes heads nodes (with_end (ends.Incomplete needed))) (sym h.1.0) (λ all. absurd (omega (arith, h.0, all)), λ more. (refl, h.1.1))
+  end_follows ends.TooLarge h = subst (Follows m deep bytes heads nodes (with_end ends.TooLarge)) (sym h.1) (refl, refl)
   end_follows (ends.Fault error) h = fault_follows error (verdict plain (Some m) (drop read.used (in_reach bytes))) h.1
   end_follows (ends.Full needed) h =
-      subst (Follows deep bytes heads nodes (with_end (ends.Full needed))) (sym h.found) (record { nodes = h.nodes; nodes_are = h.nodes_are; follows = (refl, h.needed_is); no_room = λ room. let none = h.no_room room in omega (arith, none, h.needed_is) })
+      let got = verdict_whole m (drop read.used (in_reach bytes)) h.raw h.size h.frame h.found h.is in
+      subst (Follows m deep bytes heads nodes (with_end (ends.Full needed))) (sym got) (record {
+        raw = h.raw;
+        found = h.found;
+        is = h.is;
+        follows = (refl, h.needed_is);
+        few = h.few;
+        no_room = h.no_room;
+      })
 
-  pub frames_given : ReadsFrames m deep bytes heads nodes read → EndsWith m deep bytes heads nodes read read.end → GivesFrames m deep bytes heads nodes (batch_of read)
+  -- What is reported of frames is what was read, and how the reading ended.
+  pub frames_given : ReadsFrames m deep bytes heads nodes read
+      → EndsWith m deep bytes heads nodes read read.end → GivesFrames m deep bytes heads nodes (batch_of read)
   unfolding with_end left
-  frames_given h end = record { within = omega (arith, h.within, length-take 4294967295 bytes); heads_fit = h.heads_fit; nodes_fit = h.nodes_fit; frames = h.frames; follows = end_follows read.end end; unused = refl }
+  frames_given h end = record {
+    within = omega (arith, h.within, length-take 4294967295 bytes);
+    heads_fit = h.heads_fit;
+    nodes_fit = h.nodes_fit;
+    frames = h.frames;
+    few_heads = h.few_heads;
+    few_nodes = h.few_nodes;
+    follows = end_follows read.end end;
+    unused = refl;
+  }

@@ -12,7 +12,8 @@ use Rattle.amqp_canonical.specs.Marks.{AreEntries, entries_in}
 use Rattle.amqp_canonical.proofs.ReadParts.{entry_parts, first_entry, is_read}
 
 -- a value has a tag
-behind_some : (inner : Option (Judge FieldValue)) (tag : Option FieldTag) (bytes : List ℕ) (v : FieldValue) (n : ℕ) → behind_tag inner tag bytes ≡ took v n → 0 < n
+behind_some : (inner : Option (Judge FieldValue)) (tag : Option FieldTag) (bytes : List ℕ) (v : FieldValue) (n : ℕ)
+    → behind_tag inner tag bytes ≡ took v n → 0 < n
 behind_some inner None bytes v n h = absurd cc
 behind_some inner (Some t) bytes v n h =
     let b = bind_took (judge_behind inner t bytes) _ v n h in
@@ -35,7 +36,8 @@ unfolding filled
 none_in room [] h = refl
 none_in room (b ∷ content) h = absurd (omega arith)
 
-few_within : (room fuel : ℕ) (content : List ℕ) → length content ≤ fuel → IsBytes content → AreEntries room content → 2 * length (entries_in room content) ≤ length content
+few_within : (room fuel : ℕ) (content : List ℕ) → length content ≤ fuel → IsBytes content
+    → AreEntries room content → 2 * length (entries_in room content) ≤ length content
 few_within room zero content le fits h = omega (arith, ap length (none_in room content le))
 few_within room (suc fuel) [] le fits h = few_within room fuel [] (omega arith) fits h
 few_within room (suc fuel) (b ∷ content) le fits h =
@@ -48,5 +50,6 @@ few_within room (suc fuel) (b ∷ content) le fits h =
     let all : length (entries_in room bytes) ≡ suc (length (entries_in room rest)) = ap length one.all in
     omega (arith, all, more, two, one.within, shorter)
 
+-- The entries that fill some bytes are at most half as many as the bytes.
 pub entries_few : (room : ℕ) (content : List ℕ) → IsBytes content → AreEntries room content → 2 * length (entries_in room content) ≤ length content
 entries_few room content = few_within room (length content) content (omega arith)

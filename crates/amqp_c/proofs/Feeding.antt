@@ -1,5 +1,6 @@
 -- Bytes that are fed in pieces.
-use Rattle.std.proofs.Common.{◌≡◌, ℕ, Bool, true, false, List, [], ◌∷◌, ◌++◌, Option, Some, Result, Ok, Err, refl, arith, sym, ap, ◌∙◌, append_assoc, append-nil}
+use Rattle.std.proofs.Common.{◌≡◌, ℕ, Bool, true, false, List, [], ◌∷◌, ◌++◌, Option, Some, Result, Ok, Err, refl, arith, sym, ap}
+use Rattle.std.proofs.Common.{◌∙◌, append_assoc, append-nil}
 use Rattle.std.proofs.lemmas.List.Concat.{flat_map-append}
 use Rattle.std.specs.List.{concat}
 use Rattle.amqp_types.specs.Levels.{Level}
@@ -23,15 +24,18 @@ use Rattle.amqp_stream.specs.Errors.{status_of}
 front_more : (level : Level) (m : Option ℕ) (a b : List ℕ) → front level m (a ++ b) ≡ front level m a ++ front level m (place level m a ++ b)
 front_more level m a b =
     let s = splits_of level m a in
-    ap (λ (xs : List ℕ). front level m (xs ++ b)) s.parts ∙ ap (front level m) (append_assoc s.used (place level m a) b) ∙ s.sequence.sequence (place level m a ++ b)
+    ap (λ (xs : List ℕ). front level m (xs ++ b)) s.parts
+    ∙ ap (front level m) (append_assoc s.used (place level m a) b) ∙ s.sequence.sequence (place level m a ++ b)
 
 place_more : (level : Level) (m : Option ℕ) (a b : List ℕ) → place level m (a ++ b) ≡ place level m (place level m a ++ b)
 place_more level m a b =
     let s = splits_of level m a in
-    ap (λ (xs : List ℕ). place level m (xs ++ b)) s.parts ∙ ap (place level m) (append_assoc s.used (place level m a) b) ∙ s.sequence.after (place level m a ++ b)
+    ap (λ (xs : List ℕ). place level m (xs ++ b)) s.parts
+    ∙ ap (place level m) (append_assoc s.used (place level m a) b) ∙ s.sequence.after (place level m a ++ b)
 
 text_more : (level : Level) (m : ℕ) (a b : List ℕ) → canon_of level m (a ++ b) ≡ canon_of level m a ++ canon_of level m (place level (Some m) a ++ b)
-text_more level m a b = ap canon_frames (front_more level (Some m) a b) ∙ flat_map-append canon (front level (Some m) a) (front level (Some m) (place level (Some m) a ++ b))
+text_more level m a b =
+    ap canon_frames (front_more level (Some m) a b) ∙ flat_map-append canon (front level (Some m) a) (front level (Some m) (place level (Some m) a ++ b))
 
 -- the status at a place
 abbrev status_at : Level → ℕ → List ℕ → ℕ
@@ -53,21 +57,26 @@ fed_more level m a (piece ∷ pieces) =
     ∙ fed_more level m (a ++ piece) pieces
     ∙ ap (called level m) (append_assoc a piece (concat pieces))
 
+-- Bytes that are fed in pieces give what one call with all of them gives.
 pub pieces_are_whole : PiecesAreWhole
 pieces_are_whole level m first pieces = fed_more level m first pieces
 
 -- ---- a fault
 
-pub status_fault : (level : Level) (m : ℕ) (bytes : List ℕ) (bad : Fault) → verdict level (Some m) bytes ≡ fault bad → status_at level m bytes ≡ fault_status bad
+pub status_fault : (level : Level) (m : ℕ) (bytes : List ℕ) (bad : Fault)
+    → verdict level (Some m) bytes ≡ fault bad → status_at level m bytes ≡ fault_status bad
 status_fault level m [] bad e = absurd (let none = verdict-none level (Some m) in cc)
 status_fault level m (b ∷ bytes) bad e = ap (λ j. status_of (answer_at (b ∷ bytes) j)) e
 
+-- After a fault nothing more is used or written, whatever is fed.
 pub faults_stay : FaultsStay
 faults_stay level m bytes more bad e =
     let left = place level (Some m) bytes in
     let again : verdict level (Some m) (left ++ more) ≡ fault bad = verdict-append level (Some m) left more (λ h. absurd cc) ∙ e in
-    let stays : place level (Some m) (bytes ++ more) ≡ left ++ more = place_more level (Some m) bytes more ∙ (front-stop level (Some m) (left ++ more) (rw again tt)).1 in
-    same_call _ _ _ _ _ _ (ap canon_frames (front_fault level (Some m) bytes more bad e)) stays (ap (status_at level m) stays ∙ status_fault level m (left ++ more) bad again)
+    let stays : place level (Some m) (bytes ++ more) ≡ left ++ more =
+    place_more level (Some m) bytes more ∙ (front-stop level (Some m) (left ++ more) (rw again tt)).1 in
+    same_call _ _ _ _ _ _ (ap canon_frames (front_fault level (Some m) bytes more bad e)) stays
+    (ap (status_at level m) stays ∙ status_fault level m (left ++ more) bad again)
 
 -- ---- what is left where more bytes are needed
 
@@ -86,6 +95,7 @@ outer-past : (level : Level) (m : ℕ) (bytes : List ℕ) → verdict level (Som
 unfolding verdict
 outer-past level m bytes e = judged-past level (outer (Some m) bytes) e
 
+-- Where more bytes are needed, fewer are left than a frame of the largest size has.
 pub little_is_left : LittleIsLeft
 little_is_left level m bytes e =
     let left = place level (Some m) bytes in

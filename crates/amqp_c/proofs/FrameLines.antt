@@ -28,21 +28,27 @@ use Rattle.amqp_c.proofs.Fronts.{fault_verdict, unscanned}
 
 -- ---- the line of the frame in front
 
-pub line_appended : (m : ℕ) (bytes old new : List ℕ) (raw : Raw) (layout : FrameLayout) (frame : Frame) → Lies m bytes layout → raw ≡ laid_out layout bytes → whole raw ≡ Ok frame → new ≡ old ++ line frame → AppendsFront m bytes old new (Ok layout.frame_len)
+-- Where the line of the whole frame in front is appended, it is that of the frame which the bytes are decoded to.
+pub line_appended : (m : ℕ) (bytes old new : List ℕ) (raw : Raw) (layout : FrameLayout) (frame : Frame) → Lies m bytes layout
+    → raw ≡ laid_out layout bytes → whole raw ≡ Ok frame → new ≡ old ++ line frame → AppendsFront m bytes old new (Ok layout.frame_len)
 line_appended m bytes old new raw layout frame lies is is_whole appended =
     let found : outer (Some m) bytes ≡ took raw layout.frame_len = lies.found ∙ ap (λ (r : Raw). took r layout.frame_len) (sym is) in
     (frame, verdict-whole plain (Some m) bytes raw layout.frame_len frame found refl is_whole, appended)
 
+-- Where no frame is in front of the bytes, the error says why.
 pub no_front : (m : ℕ) (bytes old new : List ℕ) (error : StreamError) → error_at (outer (Some m) bytes) ≡ Some error → AppendsFront m bytes old new (Err error)
 no_front m bytes old new errors.NoMemory h = tt
 no_front m bytes old new error h = unscanned plain m bytes error h
 
-at_fault : (m : ℕ) (bytes : List ℕ) (raw : Raw) (layout : FrameLayout) (bad : Fault) → Lies m bytes layout → raw ≡ laid_out layout bytes → IsFaulty plain raw bad → error_at (verdict plain (Some m) bytes) ≡ Some (error_for bad)
+at_fault : (m : ℕ) (bytes : List ℕ) (raw : Raw) (layout : FrameLayout) (bad : Fault) → Lies m bytes layout
+    → raw ≡ laid_out layout bytes → IsFaulty plain raw bad → error_at (verdict plain (Some m) bytes) ≡ Some (error_for bad)
 at_fault m bytes raw layout bad lies is h =
     let found : outer (Some m) bytes ≡ took raw layout.frame_len = lies.found ∙ ap (λ (r : Raw). took r layout.frame_len) (sym is) in
     ap error_at (fault_verdict plain m bytes raw layout.frame_len bad found h)
 
-pub no_line : (m : ℕ) (bytes old new : List ℕ) (raw : Raw) (layout : FrameLayout) (error : StreamError) → Lies m bytes layout → raw ≡ laid_out layout bytes → HasNoLine raw (cause_of error) → AppendsFront m bytes old new (Err error)
+-- Where the frame in front has no line, the error says why.
+pub no_line : (m : ℕ) (bytes old new : List ℕ) (raw : Raw) (layout : FrameLayout) (error : StreamError) → Lies m bytes layout
+    → raw ≡ laid_out layout bytes → HasNoLine raw (cause_of error) → AppendsFront m bytes old new (Err error)
 no_line m bytes old new raw layout errors.NoMemory lies is h = tt
 no_line m bytes old new raw layout errors.CutShort lies is h = absurd h
 no_line m bytes old new raw layout errors.TurnsSpent lies is h = absurd h
@@ -61,7 +67,9 @@ length_front : (text : List ℕ) (end : ℕ) → IsFirstLine text end → end �
 length_front text end first = sym (length-take-le end text first.within)
 
 -- what is written for a first line is the canonical bytes of any frame whose line it is
-pub undumped_front : (m : ℕ) (text rest canonical written old new : List ℕ) (end : ℕ) (frame : Frame) (result : FrameLine) → IsFirstLine text end → IsLineOf m (take end text) canonical → written ≡ canonical → IsStrictWithin m frame → text ≡ line frame ++ rest → Converts written end old new result → Converts (canon frame) (length (line frame)) old new result
+pub undumped_front : (m : ℕ) (text rest canonical written old new : List ℕ) (end : ℕ) (frame : Frame) (result : FrameLine)
+    → IsFirstLine text end → IsLineOf m (take end text) canonical → written ≡ canonical → IsStrictWithin m frame
+    → text ≡ line frame ++ rest → Converts written end old new result → Converts (canon frame) (length (line frame)) old new result
 undumped_front m text rest canonical written old new end frame result first of is strict e h =
     let front = front_line text rest end frame first e in
     let same : of.frame ≡ frame = same_frame of.frame frame of.strict_within.is_strict strict.is_strict (sym of.is_line ∙ front) in
@@ -75,7 +83,8 @@ front_is_line m text canonical end of none =
     none of.frame (drop end text) of.strict_within (sym (take-append-drop end text) ∙ ap (λ (xs : List ℕ). xs ++ drop end text) of.is_line)
 
 -- a first line that is that of no frame
-pub front_is_none : (m : ℕ) (text rest : List ℕ) (end : ℕ) (frame : Frame) → IsFirstLine text end → IsNoLine m (take end text) → IsStrictWithin m frame → text ≡ line frame ++ rest → ⊥
+pub front_is_none : (m : ℕ) (text rest : List ℕ) (end : ℕ) (frame : Frame) → IsFirstLine text end
+    → IsNoLine m (take end text) → IsStrictWithin m frame → text ≡ line frame ++ rest → ⊥
 front_is_none m text rest end frame first none strict e = none frame strict (front_line text rest end frame first e)
 
 -- no line is in front where no newline is

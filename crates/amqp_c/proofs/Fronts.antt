@@ -1,5 +1,6 @@
 -- One frame that is put, and the loop over the frames in front.
-use Rattle.std.proofs.Common.{◌≡◌, ◌≢◌, ℕ, ◌+◌, ◌<◌, ◌≤◌, ◌^◌, true, false, List, [], ◌∷◌, ◌++◌, length, drop, Some, Ok, Err, refl, sym, ap, subst, ◌∙◌, arith, append_assoc, append-nil}
+use Rattle.std.proofs.Common.{◌≡◌, ◌≢◌, ℕ, ◌+◌, ◌<◌, ◌≤◌, ◌^◌, true, false, List, [], ◌∷◌, ◌++◌, length, drop, Some, Ok, Err, refl, sym, ap, subst, ◌∙◌}
+use Rattle.std.proofs.Common.{arith, append_assoc, append-nil}
 use Rattle.std.proofs.lemmas.List.{length-append, length-drop, drop-drop, drop_all}
 use Rattle.amqp_types.specs.Levels.{Level, level_of, tidy}
 use Rattle.amqp_types.specs.Judging.{Fault, Judged, past, fault, took, not_tidy}
@@ -43,7 +44,8 @@ pub record HasFault (raw : Raw) (error : StreamError) : Type 0 where
   pub other : bad ≢ not_tidy
   pub error_is : error ≡ error_for bad
 
-pub has_fault : (raw : Raw) (error : ParserError) → IsPayloadError error → error ≢ parses.NoMemory → RefusesWhole error (whole raw) → HasFault raw (payload_fault error)
+pub has_fault : (raw : Raw) (error : ParserError) → IsPayloadError error → error ≢ parses.NoMemory
+    → RefusesWhole error (whole raw) → HasFault raw (payload_fault error)
 has_fault raw parses.NoMemory inside some h = absurd (some refl)
 has_fault raw parses.Incomplete inside some h = absurd inside
 has_fault raw parses.UnknownFrameType inside some h = absurd inside
@@ -53,15 +55,20 @@ has_fault raw error inside some h = record { bad = _; is_whole = h; other = λ e
 
 -- ---- at a level
 
-pub judged_refused : (level : Level) (raw : Raw) (error : ParserError) (stream : StreamError) → stream ≡ payload_fault error → IsPayloadError error → error ≢ parses.NoMemory → RefusesWhole error (whole raw) → JudgesAt level raw (Err stream)
+-- Decoding a frame at any level, where its payload is refused, returns the error of that fault.
+pub judged_refused : (level : Level) (raw : Raw) (error : ParserError) (stream : StreamError) → stream ≡ payload_fault error
+    → IsPayloadError error → error ≢ parses.NoMemory → RefusesWhole error (whole raw) → JudgesAt level raw (Err stream)
 judged_refused level raw error stream is inside some h =
     let f = has_fault raw error inside some h in
     (f.bad, is_faulty level raw f.bad f.is_whole f.other, is ∙ f.error_is)
 
+-- A frame that is not tidy is refused at level tidy.
 pub judged_untidy : (raw : Raw) (found : FrameJudgement) → IsJudged raw found → found.tidy ≡ false → JudgesAt tidy raw (Err errors.NotTidy)
 judged_untidy raw found j not = (not_tidy, is_untidy raw j.frame j.is (sym j.tidy ∙ not), refl)
 
-pub judged_as : (profile : Profile) (raw : Raw) (found : FrameJudgement) → IsJudged raw found → (profile ≡ profiles.Tidy → found.tidy ≡ true) → JudgesAt (level_of profile) raw (Ok found)
+-- A frame that is decoded, and tidy where the profile asks for it, is decoded at the level of the profile.
+pub judged_as : (profile : Profile) (raw : Raw) (found : FrameJudgement) → IsJudged raw found
+    → (profile ≡ profiles.Tidy → found.tidy ≡ true) → JudgesAt (level_of profile) raw (Ok found)
 judged_as profiles.Plain raw found j so = (j, refl)
 judged_as profiles.Tidy raw found j so = (j, sym j.tidy ∙ so refl)
 
@@ -72,7 +79,9 @@ stop_judged level (took raw n) error e = absurd cc
 stop_judged level past error e = e
 stop_judged level (fault bad) error e = e
 
-pub unscanned : (level : Level) (m : ℕ) (bytes : List ℕ) (error : StreamError) → error_at (outer (Some m) bytes) ≡ Some error → error_at (verdict level (Some m) bytes) ≡ Some error
+-- A fault of the header scan is the fault of the verdict, at each level.
+pub unscanned : (level : Level) (m : ℕ) (bytes : List ℕ) (error : StreamError)
+    → error_at (outer (Some m) bytes) ≡ Some error → error_at (verdict level (Some m) bytes) ≡ Some error
 unfolding verdict
 unscanned level m bytes error e = stop_judged level (outer (Some m) bytes) error e
 
@@ -80,7 +89,10 @@ unscanned level m bytes error e = stop_judged level (outer (Some m) bytes) error
 few_bytes : (m : ℕ) (bytes : List ℕ) (raw : Raw) (n : ℕ) → m < 2 ^ 32 → outer (Some m) bytes ≡ took raw n → length raw.payload < 2 ^ 32
 few_bytes m bytes raw n few found = omega (arith, (outer-in_bounds (Some m) bytes raw n found).payload m refl)
 
-pub front_put : (level : Level) (m : ℕ) (bytes old new : List ℕ) (at end : ℕ) (raw : Raw) (layout : FrameLayout) → Lies m bytes layout → raw ≡ laid_out layout bytes → end ≤ at + frame_length raw → PutsFrame level old new at raw (Ok end) → PutsFrom level m bytes old new at layout.frame_len end
+-- Where the canonical bytes of the frame in front are put, and are no longer than the frame, a frame is put from these bytes.
+pub front_put : (level : Level) (m : ℕ) (bytes old new : List ℕ) (at end : ℕ) (raw : Raw) (layout : FrameLayout)
+    → Lies m bytes layout → raw ≡ laid_out layout bytes → end ≤ at + frame_length raw
+    → PutsFrame level old new at raw (Ok end) → PutsFrom level m bytes old new at layout.frame_len end
 front_put level m bytes old new at end raw layout lies is within puts =
     let found : outer (Some m) bytes ≡ took raw layout.frame_len = lies.found ∙ ap (λ (r : Raw). took r layout.frame_len) (sym is) in
     record {
@@ -90,17 +102,25 @@ front_put level m bytes old new at end raw layout lies is within puts =
       no_longer = omega (arith, within, frame_fits m bytes raw layout.frame_len found);
     }
 
-pub front_room : (m : ℕ) (bytes : List ℕ) (raw : Raw) (layout : FrameLayout) (at room : ℕ) → Lies m bytes layout → raw ≡ laid_out layout bytes → at + length bytes ≤ room → at + frame_length raw ≤ room
+-- Where there is room for all of the bytes after a place, there is room for the frame in front of them.
+pub front_room : (m : ℕ) (bytes : List ℕ) (raw : Raw) (layout : FrameLayout) (at room : ℕ) → Lies m bytes layout
+    → raw ≡ laid_out layout bytes → at + length bytes ≤ room → at + frame_length raw ≤ room
 front_room m bytes raw layout at room lies is h = rw is (omega (arith, frame_fits m bytes (laid_out layout bytes) layout.frame_len lies.found, lies.inside, h))
 
-pub front_few : (m : ℕ) (bytes : List ℕ) (raw : Raw) (layout : FrameLayout) → m < 2 ^ 32 → Lies m bytes layout → raw ≡ laid_out layout bytes → length raw.payload < 2 ^ 32
+-- Within a limit below 2^32, the payload of the frame in front has fewer than 2^32 bytes.
+pub front_few : (m : ℕ) (bytes : List ℕ) (raw : Raw) (layout : FrameLayout) → m < 2 ^ 32
+    → Lies m bytes layout → raw ≡ laid_out layout bytes → length raw.payload < 2 ^ 32
 front_few m bytes raw layout few lies is = rw is (few_bytes m bytes (laid_out layout bytes) layout.frame_len few lies.found)
 
-pub fault_verdict : (level : Level) (m : ℕ) (bytes : List ℕ) (raw : Raw) (n : ℕ) (bad : Fault) → outer (Some m) bytes ≡ took raw n → IsFaulty level raw bad → verdict level (Some m) bytes ≡ fault bad
+-- A fault of the payload after the header scan is the fault of the verdict.
+pub fault_verdict : (level : Level) (m : ℕ) (bytes : List ℕ) (raw : Raw) (n : ℕ) (bad : Fault)
+    → outer (Some m) bytes ≡ took raw n → IsFaulty level raw bad → verdict level (Some m) bytes ≡ fault bad
 unfolding verdict
 fault_verdict level m bytes raw n bad found is = ap (judged level) found ∙ is.judged_bad n
 
-pub front_unput : (level : Level) (m : ℕ) (bytes old new : List ℕ) (at : ℕ) (raw : Raw) (layout : FrameLayout) (error : StreamError) → Lies m bytes layout → raw ≡ laid_out layout bytes → PutsFrame level old new at raw (Err error) → (error_at (verdict level (Some m) bytes) ≡ Some error) × (new ≡ old)
+-- Where a frame in front is not put, the error says the fault of the verdict, and the buffer is as it was.
+pub front_unput : (level : Level) (m : ℕ) (bytes old new : List ℕ) (at : ℕ) (raw : Raw) (layout : FrameLayout) (error : StreamError) → Lies m bytes layout
+    → raw ≡ laid_out layout bytes → PutsFrame level old new at raw (Err error) → (error_at (verdict level (Some m) bytes) ≡ Some error) × (new ≡ old)
 front_unput level m bytes old new at raw layout error lies is puts =
     let found : outer (Some m) bytes ≡ took raw layout.frame_len = lies.found ∙ ap (λ (r : Raw). took r layout.frame_len) (sym is) in
     (ap error_at (fault_verdict level m bytes raw layout.frame_len puts.0 found puts.1) ∙ ap (λ e. Some e) (sym puts.2), puts.3)
@@ -116,20 +136,28 @@ pub record Going (level : Level) (m : ℕ) (bytes old now : List ℕ) (used done
   pub within : used ≤ length bytes
   pub shorter : done ≤ used
 
+-- At the start no frame was decoded and nothing was put.
 pub going_start : (level : Level) (m : ℕ) (bytes old : List ℕ) → Going level m bytes old old 0 0
-going_start level m bytes old = record { frames = []; sequence = refl; after = refl; put = puts_none old 0 [] refl; within = omega arith; shorter = omega arith }
+going_start level m bytes old =
+    record { frames = []; sequence = refl; after = refl; put = puts_none old 0 [] refl; within = omega arith; shorter = omega arith }
 
-pub going_on : {level : Level} {m : ℕ} {bytes old now new : List ℕ} {used done more end : ℕ} → length bytes ≤ length old → Going level m bytes old now used done → PutsFrom level m (drop used bytes) now new done more end → Going level m bytes old new (used + more) end
+-- With one frame more, the canonical bytes of all frames so far stand at the front of the buffer.
+pub going_on : {level : Level} {m : ℕ} {bytes old now new : List ℕ} {used done more end : ℕ} → length bytes ≤ length old
+    → Going level m bytes old now used done → PutsFrom level m (drop used bytes) now new done more end → Going level m bytes old new (used + more) end
 going_on {level = level} {m = m} {bytes = bytes} {old = old} {now = now} {new = new} {used = used} {done = done} {more = more} {end = end} room g p =
     let rest = drop used bytes in
     let at = verdict-got_within level (Some m) rest p.frame more p.found in
     let goes = front-got level (Some m) rest p.frame more p.found in
     let further : drop more rest ≡ drop (used + more) bytes = drop-drop more used bytes in
-    let long : 0 + length (canon_frames g.frames ++ canon p.frame) ≤ length old = omega (arith, length-append (canon_frames g.frames) (canon p.frame), g.put.behind, p.put.behind, p.no_longer, g.shorter, at.1, length-drop used bytes) in
-    let both : Puts old new 0 (canon_frames g.frames ++ canon p.frame) end = puts_then old now new 0 done end (canon_frames g.frames) (canon p.frame) long g.put p.put in
+    let long : 0 + length (canon_frames g.frames ++ canon p.frame) ≤ length old =
+    omega (arith, length-append (canon_frames g.frames) (canon p.frame), g.put.behind, p.put.behind, p.no_longer, g.shorter, at.1, length-drop used bytes) in
+    let both : Puts old new 0 (canon_frames g.frames ++ canon p.frame) end =
+    puts_then old now new 0 done end (canon_frames g.frames) (canon p.frame) long g.put p.put in
     record {
       frames = g.frames ++ p.frame ∷ [];
-      sequence = g.sequence ∙ ap (λ (fs : List Frame). g.frames ++ fs) (goes.sequence ∙ ap (λ (xs : List ℕ). p.frame ∷ front level (Some m) xs) further) ∙ sym (append_assoc g.frames (p.frame ∷ []) (front level (Some m) (drop (used + more) bytes)));
+      sequence =
+          g.sequence ∙ ap (λ (fs : List Frame). g.frames ++ fs) (goes.sequence ∙ ap (λ (xs : List ℕ). p.frame ∷ front level (Some m) xs) further)
+          ∙ sym (append_assoc g.frames (p.frame ∷ []) (front level (Some m) (drop (used + more) bytes)));
       after = g.after ∙ goes.after ∙ ap (place level (Some m)) further;
       put = subst (λ (xs : List ℕ). Puts old new 0 xs end) (sym (canon_frames-more g.frames p.frame)) both;
       within = omega (arith, at.1, length-drop used bytes, g.within);
@@ -137,7 +165,8 @@ going_on {level = level} {m = m} {bytes = bytes} {old = old} {now = now} {new = 
     }
 
 -- as many bytes are left to the loop as measure it
-pub going_falls : (level : Level) (m : ℕ) (bytes now new : List ℕ) (used done more end : ℕ) → PutsFrom level m (drop used bytes) now new done more end → (8 ≤ more) × (used + more ≤ length bytes)
+pub going_falls : (level : Level) (m : ℕ) (bytes now new : List ℕ) (used done more end : ℕ)
+    → PutsFrom level m (drop used bytes) now new done more end → (8 ≤ more) × (used + more ≤ length bytes)
 going_falls level m bytes now new used done more end p =
     let at = verdict-got_within level (Some m) (drop used bytes) p.frame more p.found in
     (at.0, omega (arith, at.0, at.1, length-drop used bytes))
@@ -147,14 +176,17 @@ stops (took f n) error e = absurd cc
 stops past error e = tt
 stops (fault bad) error e = tt
 
-status_stop : (bytes : List ℕ) (j : Judged Frame) (error : StreamError) → 0 < length bytes → error_at j ≡ Some error → status_of (answer_at bytes j) ≡ stream_error_status error
+status_stop : (bytes : List ℕ) (j : Judged Frame) (error : StreamError) → 0 < length bytes
+    → error_at j ≡ Some error → status_of (answer_at bytes j) ≡ stream_error_status error
 status_stop [] j error some e = absurd (omega arith)
 status_stop (b ∷ bytes) (took f n) error some e = absurd cc
 status_stop (b ∷ bytes) past error some e = let is : errors.CutShort ≡ error = cc in ap stream_error_status is
 status_stop (b ∷ bytes) (fault bad) error some e = let is : error_for bad ≡ error = cc in ap stream_error_status is
 
 -- where the front is all that was used
-going_ends : {level : Level} {m : ℕ} {bytes old now : List ℕ} {used done status : ℕ} → Going level m bytes old now used done → front level (Some m) (drop used bytes) ≡ [] → place level (Some m) (drop used bytes) ≡ drop used bytes → status ≡ status_of (answer_to level m bytes) → CanonicalizesPart level m bytes old now (came used done status)
+going_ends : {level : Level} {m : ℕ} {bytes old now : List ℕ} {used done status : ℕ} → Going level m bytes old now used done
+    → front level (Some m) (drop used bytes) ≡ [] → place level (Some m) (drop used bytes) ≡ drop used bytes
+    → status ≡ status_of (answer_to level m bytes) → CanonicalizesPart level m bytes old now (came used done status)
 going_ends {level = level} {m = m} {bytes = bytes} {old = old} {now = now} {used = used} {done = done} g none stays is =
     let all : front level (Some m) bytes ≡ g.frames = g.sequence ∙ ap (λ (fs : List Frame). g.frames ++ fs) none ∙ append-nil g.frames in
     let left : place level (Some m) bytes ≡ drop used bytes = g.after ∙ stays in
@@ -167,16 +199,22 @@ going_ends {level = level} {m = m} {bytes = bytes} {old = old} {now = now} {used
       unused = refl;
     }
 
-pub going_stops : {level : Level} {m : ℕ} {bytes old now : List ℕ} {used done : ℕ} (error : StreamError) → used < length bytes → Going level m bytes old now used done → error_at (verdict level (Some m) (drop used bytes)) ≡ Some error → CanonicalizesPart level m bytes old now (came used done (stream_error_status error))
+-- Where the frames in front end at a fault, the progress says it, and their canonical bytes stand in the buffer.
+pub going_stops : {level : Level} {m : ℕ} {bytes old now : List ℕ} {used done : ℕ} (error : StreamError) → used < length bytes
+    → Going level m bytes old now used done → error_at (verdict level (Some m) (drop used bytes)) ≡ Some error
+    → CanonicalizesPart level m bytes old now (came used done (stream_error_status error))
 going_stops {level = level} {m = m} {bytes = bytes} {used = used} error some g e =
     let rest = drop used bytes in
     let stop = front-stop level (Some m) rest (stops (verdict level (Some m) rest) error e) in
     let left : place level (Some m) bytes ≡ rest = g.after ∙ stop.1 in
     let there : 0 < length rest = omega (arith, length-drop used bytes) in
-    let status : status_of (answer_to level m bytes) ≡ stream_error_status error = ap (λ (p : List ℕ). status_of (answer_at p (verdict level (Some m) p))) left ∙ status_stop rest (verdict level (Some m) rest) error there e in
+    let status : status_of (answer_to level m bytes) ≡ stream_error_status error =
+    ap (λ (p : List ℕ). status_of (answer_at p (verdict level (Some m) p))) left ∙ status_stop rest (verdict level (Some m) rest) error there e in
     going_ends g stop.0 stop.1 (sym status)
 
-pub going_finishes : {level : Level} {m : ℕ} {bytes old now : List ℕ} {used done : ℕ} → length bytes ≤ used → Going level m bytes old now used done → CanonicalizesPart level m bytes old now (came used done 0)
+-- Where the frames in front reach the end of the bytes, the progress says no fault.
+pub going_finishes : {level : Level} {m : ℕ} {bytes old now : List ℕ} {used done : ℕ} → length bytes ≤ used
+    → Going level m bytes old now used done → CanonicalizesPart level m bytes old now (came used done 0)
 going_finishes {level = level} {m = m} {bytes = bytes} {used = used} all g =
     let none : drop used bytes ≡ [] = drop_all used bytes all in
     let empty : front level (Some m) (drop used bytes) ≡ [] = ap (front level (Some m)) none ∙ front-none level (Some m) in

@@ -1,5 +1,6 @@
 -- Runs of canonical frames, and frames that are canonicalized within one buffer.
-use Rattle.std.proofs.Common.{◌≡◌, ◌≢◌, ℕ, ◌+◌, ◌-◌, ◌<◌, ◌≤◌, Bool, true, false, List, [], ◌∷◌, ◌++◌, length, take, drop, Some, Result, Ok, Err, refl, sym, ap, subst, ◌∙◌, arith, append_assoc, append-nil}
+use Rattle.std.proofs.Common.{◌≡◌, ◌≢◌, ℕ, ◌+◌, ◌-◌, ◌<◌, ◌≤◌, Bool, true, false, List, [], ◌∷◌, ◌++◌, length, take, drop, Some, Result, Ok, Err, refl, sym, ap}
+use Rattle.std.proofs.Common.{subst, ◌∙◌, arith, append_assoc, append-nil}
 use Rattle.std.specs.List.{copy_within}
 use Rattle.std.proofs.Math.Seq.{paste}
 use Rattle.std.proofs.lemmas.List.{length-append, length-drop, length-take-le, drop-drop, drop_all, take_at, take-append-drop}
@@ -42,7 +43,8 @@ use Rattle.amqp_c.proofs.Fronts.{Going, fault_verdict, going_on, judged_refused,
 -- ---- the frame in front
 
 -- a frame that lies there, by its outer parts
-lies_as : (m : ℕ) (bytes : List ℕ) (raw : Raw) (layout : FrameLayout) → Lies m bytes layout → raw ≡ laid_out layout bytes → outer (Some m) bytes ≡ took raw layout.frame_len
+lies_as : (m : ℕ) (bytes : List ℕ) (raw : Raw) (layout : FrameLayout) → Lies m bytes layout
+    → raw ≡ laid_out layout bytes → outer (Some m) bytes ≡ took raw layout.frame_len
 lies_as m bytes raw layout lies is = lies.found ∙ ap (λ (r : Raw). took r layout.frame_len) (sym is)
 
 -- what has an error is no frame
@@ -60,7 +62,8 @@ below_level : (t : Bool) (read : Result Frame Fault) (f : Frame) (n : ℕ) → r
 below_level true read f n e h = absurd cc
 below_level false read f n e h = ap (λ r. judged_frame false r n) e
 
-not_strict : (m : ℕ) (bytes : List ℕ) (raw : Raw) (n : ℕ) (f : Frame) → outer (Some m) bytes ≡ took raw n → whole raw ≡ Ok f → is_at strict raw ≡ false → verdict strict (Some m) bytes ≡ fault not_tidy
+not_strict : (m : ℕ) (bytes : List ℕ) (raw : Raw) (n : ℕ) (f : Frame) → outer (Some m) bytes ≡ took raw n
+    → whole raw ≡ Ok f → is_at strict raw ≡ false → verdict strict (Some m) bytes ≡ fault not_tidy
 unfolding verdict
 not_strict m bytes raw n f found e h = ap (judged strict) found ∙ below_level (is_at strict raw) (whole raw) f n e h
 
@@ -72,14 +75,17 @@ strict_bytes m bytes f n fits e =
     (one_strict strict (Some m) (take n bytes) (f ∷ []) sequence).only (take n bytes) sequence ∙ append-nil (canon f)
 
 -- no other frame has its canonical bytes
-other_bytes : (level : Level) (m : ℕ) (bytes : List ℕ) (f : Frame) (n : ℕ) → IsBytes bytes → verdict level (Some m) bytes ≡ took f n → verdict strict (Some m) bytes ≡ fault not_tidy → take n bytes ≢ canon f
+other_bytes : (level : Level) (m : ℕ) (bytes : List ℕ) (f : Frame) (n : ℕ) → IsBytes bytes
+    → verdict level (Some m) bytes ≡ took f n → verdict strict (Some m) bytes ≡ fault not_tidy → take n bytes ≢ canon f
 other_bytes level m bytes f n fits e bad same =
     let spelled = verdict-spells level (Some m) bytes f n fits e in
     let sequence : SpellsFrames level (Some m) (take n bytes) (f ∷ []) = (take n bytes, [], sym (append-nil (take n bytes)), spelled.0, spelled.1, refl) in
     let one = (one_strict level (Some m) (take n bytes) (f ∷ []) sequence).canonical in
     let before = SpellsFrames-precedes strict (Some m) (canon_frames (f ∷ [])) (f ∷ []) one in
-    let parts : canon_frames (f ∷ []) ++ drop n bytes ≡ bytes = ap (λ (xs : List ℕ). xs ++ drop n bytes) (append-nil (canon f) ∙ sym same) ∙ take-append-drop n bytes in
-    let some : front strict (Some m) bytes ≡ f ∷ front strict (Some m) (drop n bytes) = ap (front strict (Some m)) (sym parts) ∙ before.sequence (drop n bytes) in
+    let parts : canon_frames (f ∷ []) ++ drop n bytes ≡ bytes =
+    ap (λ (xs : List ℕ). xs ++ drop n bytes) (append-nil (canon f) ∙ sym same) ∙ take-append-drop n bytes in
+    let some : front strict (Some m) bytes ≡ f ∷ front strict (Some m) (drop n bytes) =
+    ap (front strict (Some m)) (sym parts) ∙ before.sequence (drop n bytes) in
     let none : front strict (Some m) bytes ≡ [] = (front-stop strict (Some m) bytes (subst IsStop (sym bad) tt)).0 in
     absurd (let both : [] ≡ f ∷ front strict (Some m) (drop n bytes) = sym none ∙ some in cc)
 
@@ -93,34 +99,44 @@ HasNone m bytes = (frame : Frame) (used : ℕ) → verdict strict (Some m) bytes
 abbrev pub HasOne : ℕ → List ℕ → ℕ → Type 0
 HasOne m bytes used = (frame : Frame) × (verdict strict (Some m) bytes ≡ took frame used)
 
+-- Where the header scan fails, no canonical frame is in front.
 pub run_unscanned : (m : ℕ) (bytes : List ℕ) (error : StreamError) → error_at (outer (Some m) bytes) ≡ Some error → HasNone m bytes
 run_unscanned m bytes error e = no_frame (verdict strict (Some m) bytes) error (unscanned strict m bytes error e)
 
 module _ (m : ℕ) (bytes : List ℕ) (raw : Raw) (layout : FrameLayout) (lies : Lies m bytes layout) (is : raw ≡ laid_out layout bytes) where
+  -- Where the payload of the frame in front is refused, no canonical frame is in front.
   pub run_refused : (error : ParserError) → IsPayloadError error → error ≢ parses.NoMemory → RefusesWhole error (whole raw) → HasNone m bytes
   run_refused error inside some h =
       let u = judged_refused strict raw error (payload_fault error) refl inside some h in
       fault_is_none (verdict strict (Some m) bytes) u.0 (fault_verdict strict m bytes raw layout.frame_len u.0 (lies_as m bytes raw layout lies is) u.1)
 
+  -- Where the frame in front is canonical, a canonical frame of its length is in front.
   pub run_found : (found : FrameJudgement) → IsJudged raw found → found.canonical ≡ true → HasOne m bytes layout.frame_len
-  run_found found j canonical = (j.frame, verdict-whole strict (Some m) bytes raw layout.frame_len j.frame (lies_as m bytes raw layout lies is) (sym j.canonical ∙ canonical) j.is)
+  run_found found j canonical =
+      (j.frame, verdict-whole strict (Some m) bytes raw layout.frame_len j.frame (lies_as m bytes raw layout lies is) (sym j.canonical ∙ canonical) j.is)
 
+  -- Where the frame in front is not canonical, no canonical frame is in front.
   pub run_missed : (found : FrameJudgement) → IsJudged raw found → found.canonical ≡ false → HasNone m bytes
-  run_missed found j not = fault_is_none (verdict strict (Some m) bytes) not_tidy (not_strict m bytes raw layout.frame_len j.frame (lies_as m bytes raw layout lies is) j.is (sym j.canonical ∙ not))
+  run_missed found j not =
+      fault_is_none (verdict strict (Some m) bytes) not_tidy
+      (not_strict m bytes raw layout.frame_len j.frame (lies_as m bytes raw layout lies is) j.is (sym j.canonical ∙ not))
 
 -- so many bytes are canonical frames, whatever follows
 pub record Running (m : ℕ) (bytes : List ℕ) (used : ℕ) : Type 0 where
   pub after : place strict (Some m) bytes ≡ place strict (Some m) (drop used bytes)
   pub within : used ≤ length bytes
 
+-- At the start no byte was passed.
 pub running_start : (m : ℕ) (bytes : List ℕ) → Running m bytes 0
 running_start m bytes = record { after = refl; within = omega arith }
 
+-- A canonical frame in front has at least eight bytes, and lies within the bytes.
 pub running_falls : (m : ℕ) (bytes : List ℕ) (used more : ℕ) → HasOne m (drop used bytes) more → (8 ≤ more) × (used + more ≤ length bytes)
 running_falls m bytes used more f =
     let at = verdict-got_within strict (Some m) (drop used bytes) f.0 more f.1 in
     (at.0, omega (arith, at.0, at.1, length-drop used bytes))
 
+-- Canonical frames and one more canonical frame after them are canonical frames.
 pub running_on : {m : ℕ} {bytes : List ℕ} {used more : ℕ} → Running m bytes used → HasOne m (drop used bytes) more → Running m bytes (used + more)
 running_on {m = m} {bytes = bytes} {used = used} {more = more} r f =
     let goes = front-got strict (Some m) (drop used bytes) f.0 more f.1 in
@@ -129,12 +145,14 @@ running_on {m = m} {bytes = bytes} {used = used} {more = more} r f =
       within = (running_falls m bytes used more f).1;
     }
 
-run_ends : (m : ℕ) (bytes : List ℕ) (used : ℕ) → IsBytes bytes → Running m bytes used → place strict (Some m) (drop used bytes) ≡ drop used bytes → IsCanonicalRun m bytes used
+run_ends : (m : ℕ) (bytes : List ℕ) (used : ℕ) → IsBytes bytes → Running m bytes used
+    → place strict (Some m) (drop used bytes) ≡ drop used bytes → IsCanonicalRun m bytes used
 run_ends m bytes used fits r stays =
     let left : place strict (Some m) bytes ≡ drop used bytes = r.after ∙ stays in
     let s = longest_sequence strict (Some m) bytes fits in
     let frames = front strict (Some m) bytes in
-    let size : length s.spelled ≡ used = omega (arith, ap length s.parts, length-append s.spelled (place strict (Some m) bytes), ap length left, length-drop used bytes, r.within) in
+    let size : length s.spelled ≡ used =
+    omega (arith, ap length s.parts, length-append s.spelled (place strict (Some m) bytes), ap length left, length-drop used bytes, r.within) in
     let same : take used bytes ≡ s.spelled = ap (take used) s.parts ∙ take_at s.spelled (place strict (Some m) bytes) used size in
     record {
       within = r.within;
@@ -149,9 +167,12 @@ stopped (took f n) h = absurd (h f n refl)
 stopped past h = tt
 stopped (fault bad) h = tt
 
+-- Where no canonical frame is in front of the rest, what was passed is the longest run of canonical frames.
 pub run_stops : {m : ℕ} {bytes : List ℕ} {used : ℕ} → IsBytes bytes → Running m bytes used → HasNone m (drop used bytes) → IsCanonicalRun m bytes used
-run_stops {m = m} {bytes = bytes} {used = used} fits r none = run_ends m bytes used fits r (front-stop strict (Some m) (drop used bytes) (stopped (verdict strict (Some m) (drop used bytes)) none)).1
+run_stops {m = m} {bytes = bytes} {used = used} fits r none =
+    run_ends m bytes used fits r (front-stop strict (Some m) (drop used bytes) (stopped (verdict strict (Some m) (drop used bytes)) none)).1
 
+-- Where all bytes were passed, they are the longest run of canonical frames.
 pub run_finishes : {m : ℕ} {bytes : List ℕ} {used : ℕ} → IsBytes bytes → length bytes ≤ used → Running m bytes used → IsCanonicalRun m bytes used
 run_finishes {m = m} {bytes = bytes} {used = used} fits all r =
     let none : drop used bytes ≡ [] = drop_all used bytes all in
@@ -160,16 +181,25 @@ run_finishes {m = m} {bytes = bytes} {used = used} fits all r =
 -- ---- one frame
 
 module _ (level : Level) (m : ℕ) (bytes : List ℕ) (raw : Raw) (layout : FrameLayout) (lies : Lies m bytes layout) (is : raw ≡ laid_out layout bytes) where
+  -- Where the frame in front is refused at the level, rewriting it is.
   pub rewrite_refused : (old new : List ℕ) (error : StreamError) → JudgesAt level raw (Err error) → Rewrites level m bytes old new (Err error)
-  rewrite_refused old new error j = ap error_at (fault_verdict level m bytes raw layout.frame_len j.0 (lies_as m bytes raw layout lies is) j.1) ∙ ap (λ e. Some e) (sym j.2)
+  rewrite_refused old new error j =
+      ap error_at (fault_verdict level m bytes raw layout.frame_len j.0 (lies_as m bytes raw layout lies is) j.1) ∙ ap (λ e. Some e) (sym j.2)
 
-  pub rewrite_kept : (old new : List ℕ) (judged : FrameJudgement) → IsBytes bytes → JudgesAt level raw (Ok judged) → judged.canonical ≡ true → Rewrites level m bytes old new (Ok (rewrites.Kept layout.frame_len))
+  -- Where the frame in front is canonical, it is kept as it is.
+  pub rewrite_kept : (old new : List ℕ) (judged : FrameJudgement) → IsBytes bytes → JudgesAt level raw (Ok judged)
+      → judged.canonical ≡ true → Rewrites level m bytes old new (Ok (rewrites.Kept layout.frame_len))
   rewrite_kept old new judged fits (j, at_level) so =
       let found = lies_as m bytes raw layout lies is in
-      let canonical = verdict-whole strict (Some m) bytes raw layout.frame_len j.frame found (sym j.canonical ∙ so) j.is in
-      (j.frame, verdict-whole level (Some m) bytes raw layout.frame_len j.frame found at_level j.is, strict_bytes m bytes j.frame layout.frame_len fits canonical)
+      let canonical = verdict-whole strict (Some m) bytes raw layout.frame_len j.frame found (sym j.canonical ∙ so) j.is in (
+        j.frame,
+        verdict-whole level (Some m) bytes raw layout.frame_len j.frame found at_level j.is,
+        strict_bytes m bytes j.frame layout.frame_len fits canonical,
+      )
 
-  pub rewrite_no_room : (old new : List ℕ) (judged : FrameJudgement) → IsBytes bytes → JudgesAt level raw (Ok judged) → judged.canonical ≡ false → length old < layout.frame_len → Rewrites level m bytes old new (Ok rewrites.NoRoom)
+  -- Where the frame in front is not canonical, and the spare buffer is shorter than it, it has no room there.
+  pub rewrite_no_room : (old new : List ℕ) (judged : FrameJudgement) → IsBytes bytes → JudgesAt level raw (Ok judged)
+      → judged.canonical ≡ false → length old < layout.frame_len → Rewrites level m bytes old new (Ok rewrites.NoRoom)
   rewrite_no_room old new judged fits (j, at_level) not short =
       let found = lies_as m bytes raw layout lies is in
       let taken = verdict-whole level (Some m) bytes raw layout.frame_len j.frame found at_level j.is in
@@ -177,14 +207,19 @@ module _ (level : Level) (m : ℕ) (bytes : List ℕ) (raw : Raw) (layout : Fram
         frame = j.frame;
         used = layout.frame_len;
         found = taken;
-        changed = other_bytes level m bytes j.frame layout.frame_len fits taken (not_strict m bytes raw layout.frame_len j.frame found j.is (sym j.canonical ∙ not));
+        changed =
+            other_bytes level m bytes j.frame layout.frame_len fits taken (not_strict m bytes raw layout.frame_len j.frame found j.is (sym j.canonical ∙ not));
         longer = short;
       }
 
+  -- Where there is room for what the header scan found in front, there is room for a frame with this payload.
   pub rewrite_room : (room : ℕ) → layout.frame_len ≤ room → 0 + frame_length raw ≤ room
   rewrite_room room h = omega (arith, h, frame_fits m bytes raw layout.frame_len (lies_as m bytes raw layout lies is))
 
-  pub rewrite_spare : (old new : List ℕ) (count : ℕ) (judged : FrameJudgement) → JudgesAt level raw (Ok judged) → layout.frame_len ≤ length old → puts.Rewrites old new 0 (whole raw) (Ok count) → count ≤ 0 + frame_length raw → Rewrites level m bytes old new (Ok (rewrites.Spare layout.frame_len count))
+  -- Where the canonical bytes of the frame in front are put in the spare buffer, they are no longer than it.
+  pub rewrite_spare : (old new : List ℕ) (count : ℕ) (judged : FrameJudgement) → JudgesAt level raw (Ok judged)
+      → layout.frame_len ≤ length old → puts.Rewrites old new 0 (whole raw) (Ok count)
+      → count ≤ 0 + frame_length raw → Rewrites level m bytes old new (Ok (rewrites.Spare layout.frame_len count))
   unfolding written
   rewrite_spare old new count judged j room puts within =
       let found = lies_as m bytes raw layout lies is in
@@ -200,23 +235,33 @@ module _ (level : Level) (m : ℕ) (bytes : List ℕ) (raw : Raw) (layout : Fram
 
 -- ---- the buffer
 
-pub moved_front : (buf new : List ℕ) (from count to : ℕ) → from + count ≤ length buf → new ≡ copy_within buf from (from + count) to → Puts buf new to (take count (drop from buf)) (to + count)
+-- Moving bytes within a buffer puts them at the place where they are moved to.
+pub moved_front : (buf new : List ℕ) (from count to : ℕ) → from + count ≤ length buf
+    → new ≡ copy_within buf from (from + count) to → Puts buf new to (take count (drop from buf)) (to + count)
 unfolding written
 moved_front buf new from count to inside is =
     let size : length (take count (drop from buf)) ≡ count = length-take-le count (drop from buf) (omega (arith, length-drop from buf)) in
     record {
-      put = is ∙ ap (paste buf to (drop from buf)) {x = from + count - from} {y = count} (omega arith) ∙ append_assoc (take to buf) (take count (drop from buf)) (drop (to + count) buf) ∙ ap (λ n. take to buf ++ (take count (drop from buf) ++ drop (to + n) buf)) (sym size);
+      put =
+          is ∙ ap (paste buf to (drop from buf)) {x = from + count - from} {y = count} (omega arith)
+          ∙ append_assoc (take to buf) (take count (drop from buf)) (drop (to + count) buf)
+          ∙ ap (λ n. take to buf ++ (take count (drop from buf) ++ drop (to + n) buf)) (sym size);
       behind = omega (arith, size);
     }
 
+-- Bytes that stay where they are, are put there.
 pub moved_nowhere : (buf : List ℕ) (from count to : ℕ) → from + count ≤ length buf → from ≡ to → Puts buf buf to (take count (drop from buf)) (to + count)
 unfolding written
 moved_nowhere buf from count to inside same =
     let size : length (take count (drop from buf)) ≡ count = length-take-le count (drop from buf) (omega (arith, length-drop from buf)) in
-    let rest : take count (drop from buf) ++ drop (from + count) buf ≡ drop from buf = ap (λ (xs : List ℕ). take count (drop from buf) ++ xs) (sym (drop-drop count from buf)) ∙ take-append-drop count (drop from buf) in
-    let all : take from buf ++ (take count (drop from buf) ++ drop (from + count) buf) ≡ buf = ap (λ (xs : List ℕ). take from buf ++ xs) rest ∙ take-append-drop from buf in
+    let rest : take count (drop from buf) ++ drop (from + count) buf ≡ drop from buf =
+    ap (λ (xs : List ℕ). take count (drop from buf) ++ xs) (sym (drop-drop count from buf)) ∙ take-append-drop count (drop from buf) in
+    let all : take from buf ++ (take count (drop from buf) ++ drop (from + count) buf) ≡ buf =
+    ap (λ (xs : List ℕ). take from buf ++ xs) rest ∙ take-append-drop from buf in
     record {
-      put = sym all ∙ ap (λ k. take k buf ++ (take count (drop from buf) ++ drop (k + count) buf)) same ∙ ap (λ n. take to buf ++ (take count (drop from buf) ++ drop (to + n) buf)) (sym size);
+      put =
+          sym all ∙ ap (λ k. take k buf ++ (take count (drop from buf) ++ drop (k + count) buf)) same
+          ∙ ap (λ n. take to buf ++ (take count (drop from buf) ++ drop (to + n) buf)) (sym size);
       behind = omega (arith, size);
     }
 
@@ -225,25 +270,36 @@ pub going_rest : {level : Level} {m : ℕ} {bytes now : List ℕ} {used done : �
 unfolding written
 going_rest {bytes = bytes} {now = now} {used = used} {done = done} g =
     let text = canon_frames g.frames in
-    ap (drop used) (g.put.put ∙ ap (λ n. text ++ drop n bytes) {x = 0 + length text} {y = length text} (omega arith)) ∙ drop-append-drop (length text) bytes text used (omega (arith, g.put.behind, g.shorter)) refl
+    ap (drop used) (g.put.put ∙ ap (λ n. text ++ drop n bytes) {x = 0 + length text} {y = length text} (omega arith))
+    ∙ drop-append-drop (length text) bytes text used (omega (arith, g.put.behind, g.shorter)) refl
 
+-- Frames that were put in a buffer leave its length.
 pub going_length : {level : Level} {m : ℕ} {bytes now : List ℕ} {used done : ℕ} → Going level m bytes bytes now used done → length now ≡ length bytes
-going_length {bytes = bytes} {now = now} {done = done} g = puts-length bytes now 0 done (canon_frames g.frames) (omega (arith, g.put.behind, g.shorter, g.within)) g.put
+going_length {bytes = bytes} {now = now} {done = done} g =
+    puts-length bytes now 0 done (canon_frames g.frames) (omega (arith, g.put.behind, g.shorter, g.within)) g.put
 
 -- a frame that was found in the bytes that are there
-found_in : (level : Level) (m : ℕ) (bytes now : List ℕ) (used more : ℕ) (frame : Frame) → drop used now ≡ drop used bytes → verdict level (Some m) (drop used now) ≡ took frame more → verdict level (Some m) (drop used bytes) ≡ took frame more
+found_in : (level : Level) (m : ℕ) (bytes now : List ℕ) (used more : ℕ) (frame : Frame) → drop used now ≡ drop used bytes
+    → verdict level (Some m) (drop used now) ≡ took frame more → verdict level (Some m) (drop used bytes) ≡ took frame more
 found_in level m bytes now used more frame same e = ap (verdict level (Some m)) (sym same) ∙ e
 
-pub rewritten_falls : (level : Level) (m : ℕ) (now : List ℕ) (used more : ℕ) (frame : Frame) → verdict level (Some m) (drop used now) ≡ took frame more → (8 ≤ more) × (used + more ≤ length now)
+-- A frame that is decoded from the rest of the bytes has at least eight bytes, and lies within them.
+pub rewritten_falls : (level : Level) (m : ℕ) (now : List ℕ) (used more : ℕ) (frame : Frame)
+    → verdict level (Some m) (drop used now) ≡ took frame more → (8 ≤ more) × (used + more ≤ length now)
 rewritten_falls level m now used more frame e =
     let at = verdict-got_within level (Some m) (drop used now) frame more e in
     (at.0, omega (arith, at.0, at.1, length-drop used now))
 
-pub spare_fits : (level : Level) (m : ℕ) (now old spare : List ℕ) (used done more count : ℕ) → Rewrites level m (drop used now) old spare (Ok (rewrites.Spare more count)) → done ≤ used → done + length (take count spare) ≤ length now
-spare_fits level m now old spare used done more count r h = omega (arith, h, r.4, length-take-le count spare r.2, (rewritten_falls level m now used more r.0 r.1).1)
+-- The canonical bytes in the spare buffer fit in the buffer after those that were put.
+pub spare_fits : (level : Level) (m : ℕ) (now old spare : List ℕ) (used done more count : ℕ)
+    → Rewrites level m (drop used now) old spare (Ok (rewrites.Spare more count)) → done ≤ used → done + length (take count spare) ≤ length now
+spare_fits level m now old spare used done more count r h =
+    omega (arith, h, r.4, length-take-le count spare r.2, (rewritten_falls level m now used more r.0 r.1).1)
 
 module _ {level : Level} {m : ℕ} {bytes now new : List ℕ} {used done more end : ℕ} (old spare : List ℕ) where
-  pub going_kept : Going level m bytes bytes now used done → Rewrites level m (drop used now) old spare (Ok (rewrites.Kept more)) → Puts now new done (take more (drop used now)) end → Going level m bytes bytes new (used + more) end
+  -- Where a canonical frame is kept, and put to the frames before it, one frame more was put.
+  pub going_kept : Going level m bytes bytes now used done → Rewrites level m (drop used now) old spare (Ok (rewrites.Kept more))
+      → Puts now new done (take more (drop used now)) end → Going level m bytes bytes new (used + more) end
   going_kept g r put =
       let at = rewritten_falls level m now used more r.0 r.1 in
       going_on (omega arith) g (record {
@@ -253,7 +309,9 @@ module _ {level : Level} {m : ℕ} {bytes now new : List ℕ} {used done more en
         no_longer = omega (arith, put.behind, length-take-le more (drop used now) (omega (arith, at.0, at.1, length-drop used now)));
       })
 
-  pub going_spare : (count : ℕ) → Going level m bytes bytes now used done → Rewrites level m (drop used now) old spare (Ok (rewrites.Spare more count)) → Puts now new done (take count spare) end → Going level m bytes bytes new (used + more) end
+  -- Where a frame is put to those before it out of the spare buffer, one frame more was put.
+  pub going_spare : (count : ℕ) → Going level m bytes bytes now used done → Rewrites level m (drop used now) old spare (Ok (rewrites.Spare more count))
+      → Puts now new done (take count spare) end → Going level m bytes bytes new (used + more) end
   going_spare count g r put = going_on (omega arith) g (record {
     frame = r.0;
     found = found_in level m bytes now used more r.0 (going_rest g) r.1;
@@ -261,7 +319,9 @@ module _ {level : Level} {m : ℕ} {bytes now new : List ℕ} {used done more en
     no_longer = omega (arith, put.behind, length-take-le count spare r.2, r.4);
   })
 
-pub going_lacks : {level : Level} {m : ℕ} {bytes now : List ℕ} {used done : ℕ} (room : ℕ) → Going level m bytes bytes now used done → LacksRoom level m (drop used now) room → StopsBefore level m room bytes now (came used done 40)
+-- Where the spare buffer has no room for the frame in front, the progress stops before it, with the buffer kept after the frames.
+pub going_lacks : {level : Level} {m : ℕ} {bytes now : List ℕ} {used done : ℕ} (room : ℕ) → Going level m bytes bytes now used done
+    → LacksRoom level m (drop used now) room → StopsBefore level m room bytes now (came used done 40)
 going_lacks {level = level} {m = m} room g lacks = record {
   frames = g.frames;
   sequence = g.sequence;
@@ -292,7 +352,8 @@ no_small_stream errors.CutShort e = absurd (omega (arith, e))
 no_small_stream errors.TurnsSpent e = absurd (omega (arith, e))
 no_small_stream errors.NotTidy e = absurd (omega (arith, e))
 
-limit_by : (level : Level) (m : ℕ) (bytes : List ℕ) (frame : Frame) (n : ℕ) (j : Judged Raw) → outer (Some m) bytes ≡ j → judged level j ≡ took frame n → n ≤ m + 8
+limit_by : (level : Level) (m : ℕ) (bytes : List ℕ) (frame : Frame) (n : ℕ) (j : Judged Raw)
+    → outer (Some m) bytes ≡ j → judged level j ≡ took frame n → n ≤ m + 8
 limit_by level m bytes frame n (took raw k) found e =
     let size : k ≡ n = (judged_frame-is (is_at level raw) (whole raw) k frame n e).2 in
     omega (arith, (outer-in_bounds (Some m) bytes raw k found).limit m refl, size)

@@ -8,7 +8,8 @@ use Rattle.amqp_names.specs.Tables.{field_kind}
 
 -- one more kind behind those of the first fields
 pub one_more_kind : (start kinds new : List ℕ) (fields : List Field) (place i : ℕ) (none : Field) → place ≡ i → i < length fields → length fields ≤ length start
-    → kinds ≡ written start 0 (map field_kind (take i fields)) → new ≡ written kinds place ((get_or fields i none).kind ∷ []) → new ≡ written start 0 (map field_kind (take (i + 1) fields))
+    → kinds ≡ written start 0 (map field_kind (take i fields)) → new ≡ written kinds place ((get_or fields i none).kind ∷ [])
+    → new ≡ written start 0 (map field_kind (take (i + 1) fields))
 one_more_kind start kinds new fields place i none place_is within room before put =
     let as_long : length (map field_kind (take i fields)) ≡ i = grind (arith, common_steps) in
     let more : map field_kind (take (i + 1) fields) ≡ map field_kind (take i fields) ++ (get_or fields i none).kind ∷ [] = grind (arith, common_steps) in

@@ -1,9 +1,11 @@
 -- How many bytes a frame has at least, by those that are there.
-use Rattle.std.proofs.Common.{◌≡◌, ℕ, ◌+◌, ◌<◌, ◌≤◌, eqb, true, false, cond, List, [], ◌∷◌, ◌++◌, length, get_or, Option, Some, None, refl, sym, ap, subst, arith, inl, inr}
+use Rattle.std.proofs.Common.{◌≡◌, ℕ, ◌+◌, ◌<◌, ◌≤◌, eqb, true, false, cond, List, [], ◌∷◌, ◌++◌, length, get_or, Option, Some, None, refl}
+use Rattle.std.proofs.Common.{sym, ap, subst, arith, inl, inr}
 use Rattle.std.proofs.lemmas.Bool.{cases_lt, cases_Bool, le-ltb, lt-ltb, ltb-false}
 use Rattle.std.proofs.lemmas.List.{length-append}
 use Rattle.std.specs.Int.{w32, from_be_bytes}
-use Rattle.amqp_types.specs.Judging.{Judged, past, fault, took, unknown_frame_type, bad_protocol_header, too_large, bad_frame_end, unknown_class, unknown_method, short_payload, trailing_bytes, not_utf8, unknown_tag, too_deep, not_tidy}
+use Rattle.amqp_types.specs.Judging.{Judged, past, fault, took, unknown_frame_type, bad_protocol_header, too_large, bad_frame_end, unknown_class}
+use Rattle.amqp_types.specs.Judging.{unknown_method, short_payload, trailing_bytes, not_utf8, unknown_tag, too_deep, not_tidy}
 use Rattle.amqp_types.specs.Constants.{protocol_byte, protocol_mark, method_byte, header_byte, body_byte, heartbeat_byte}
 use Rattle.amqp_wire.specs.declared.frame_type.AMQPFrameType.{AMQPFrameType}
 use Rattle.amqp_wire.specs.declared.frame_type.AMQPFrameType.TheVariants as kinds
@@ -28,19 +30,29 @@ least_typed : (byte : ℕ) (rest : List ℕ) → least_length (byte ∷ rest) �
 unfolding least_of
 least_typed byte rest = elim (cases_Bool (eqb byte protocol_byte)) [
   | inl same ↦ rw same refl
-  | inr differs ↦ rw differs (elim (eqb byte method_byte) as (λ t. least_after rest ≡ least_of (cond t (Some kinds.Method) (cond (eqb byte header_byte) (Some kinds.Header) (cond (eqb byte body_byte) (Some kinds.Body) (cond (eqb byte heartbeat_byte) (Some kinds.Heartbeat) None)))) rest) [
-    | true ↦ refl
-    | false ↦ elim (eqb byte header_byte) as (λ t. least_after rest ≡ least_of (cond t (Some kinds.Header) (cond (eqb byte body_byte) (Some kinds.Body) (cond (eqb byte heartbeat_byte) (Some kinds.Heartbeat) None))) rest) [
-      | true ↦ refl
-      | false ↦ elim (eqb byte body_byte) as (λ t. least_after rest ≡ least_of (cond t (Some kinds.Body) (cond (eqb byte heartbeat_byte) (Some kinds.Heartbeat) None)) rest) [
+  | inr differs ↦
+      rw differs (elim (eqb byte method_byte) as (λ t. least_after rest
+      ≡ least_of
+      (cond t (Some kinds.Method) (cond (eqb byte header_byte) (Some kinds.Header)
+      (cond (eqb byte body_byte) (Some kinds.Body) (cond (eqb byte heartbeat_byte) (Some kinds.Heartbeat) None))))
+      rest) [
         | true ↦ refl
-        | false ↦ elim (eqb byte heartbeat_byte) as (λ t. least_after rest ≡ least_of (cond t (Some kinds.Heartbeat) None) rest) [
-          | true ↦ refl
-          | false ↦ refl
-        ]
-      ]
-    ]
-  ])
+        | false ↦
+            elim (eqb byte header_byte) as (λ t. least_after rest
+            ≡ least_of
+            (cond t (Some kinds.Header) (cond (eqb byte body_byte) (Some kinds.Body) (cond (eqb byte heartbeat_byte) (Some kinds.Heartbeat) None))) rest) [
+              | true ↦ refl
+              | false ↦
+                  elim (eqb byte body_byte) as (λ t. least_after rest
+                  ≡ least_of (cond t (Some kinds.Body) (cond (eqb byte heartbeat_byte) (Some kinds.Heartbeat) None)) rest) [
+                    | true ↦ refl
+                    | false ↦ elim (eqb byte heartbeat_byte) as (λ t. least_after rest ≡ least_of (cond t (Some kinds.Heartbeat) None) rest) [
+                      | true ↦ refl
+                      | false ↦ refl
+                    ]
+                  ]
+            ]
+      ])
 ]
 
 -- ---- the scan wants as many bytes
@@ -106,7 +118,9 @@ typed_needs m byte rest None = tt
 
 needs : (m : ℕ) (bytes : List ℕ) → Needs m bytes (least_length bytes) (outer (Some m) bytes)
 needs m [] = subst (Needs m [] 8) (sym (outer-none (Some m))) (omega arith, omega arith)
-needs m (byte ∷ rest) = subst (λ n. Needs m (byte ∷ rest) n (outer (Some m) (byte ∷ rest))) (sym (least_typed byte rest)) (subst (Needs m (byte ∷ rest) (least_of (type_of byte) rest)) (sym (outer-typed (Some m) byte rest)) (typed_needs m byte rest (type_of byte)))
+needs m (byte ∷ rest) =
+    subst (λ n. Needs m (byte ∷ rest) n (outer (Some m) (byte ∷ rest))) (sym (least_typed byte rest))
+    (subst (Needs m (byte ∷ rest) (least_of (type_of byte) rest)) (sym (outer-typed (Some m) byte rest)) (typed_needs m byte rest (type_of byte)))
 
 pub past_needs : (m : ℕ) (bytes : List ℕ) → outer (Some m) bytes ≡ past → (length bytes < least_length bytes) × (least_length bytes ≤ m + 8)
 past_needs m bytes e = subst (Needs m bytes (least_length bytes)) e (needs m bytes)
@@ -146,6 +160,7 @@ more_needs (byte ∷ rest) more = elim (eqb byte protocol_byte) as (λ t. cond t
 
 -- ---- the error of a scan
 
+-- Where decoding ends with the error that the input was cut short, the bytes are incomplete.
 pub cut_short : {A : Type 0} (j : Judged A) → error_at j ≡ Some errors.CutShort → j ≡ past
 cut_short (took x used) e = absurd cc
 cut_short past e = refl
@@ -164,15 +179,19 @@ cut_short (fault not_tidy) e = absurd cc
 
 -- ---- what is returned
 
+-- A frame in front is at most eight bytes longer than the limit on payloads.
 pub whole_limited : (m : ℕ) (bytes : List ℕ) (layout : FrameLayout) → Lies m bytes layout → layout.frame_len ≤ m + 8
 whole_limited m bytes layout lies = (outer-in_bounds (Some m) bytes (laid_out layout bytes) layout.frame_len lies.found).limit m refl
 
 module _ (m : ℕ) (bytes : List ℕ) (e : error_at (outer (Some m) bytes) ≡ Some errors.CutShort) where
+  -- Where the input is cut short, a frame has at least one byte more than are there.
   pub cut_more : length bytes < least_length bytes
   cut_more = (past_needs m bytes (cut_short (outer (Some m) bytes) e)).0
 
+  -- What a frame has at least, where the input is cut short, is at most eight bytes more than the limit on payloads.
   pub cut_limited : least_length bytes ≤ m + 8
   cut_limited = (past_needs m bytes (cut_short (outer (Some m) bytes) e)).1
 
+-- A frame that begins with some bytes has at least as many as they say.
 pub cut_least : (m : ℕ) (bytes rest : List ℕ) (raw : Raw) (used : ℕ) → outer (Some m) (bytes ++ rest) ≡ took raw used → least_length bytes ≤ used
 cut_least m bytes rest raw used e = omega (arith, more_needs bytes rest, took_needs m (bytes ++ rest) raw used e)

@@ -1,18 +1,32 @@
 -- What is reported of writing is what was made.
-use Rattle.std.proofs.Common.{◌≡◌, ◌≤◌, ℕ, List, length, Result, Ok, Err, sym, ap, subst, ◌∙◌, arith}
+use Rattle.std.proofs.Common.{◌≡◌, ◌≤◌, ℕ, List, length, take, Some, Result, Ok, Err, sym, ap, subst, ◌∙◌, arith}
+use Rattle.std.specs.Prelude.{IfOk}
 use Rattle.std.proofs.lemmas.Bool.Decides.{nat_tests}
 use Rattle.amqp_fields.specs.declared.refusals.WriteError.{WriteError}
 use Rattle.amqp_fields.specs.declared.refusals.WriteError.TheVariants as failures
+use Rattle.amqp_fields.specs.declared.refusals.WriteRefusal.{WriteRefusal}
+use Rattle.amqp_fields.specs.declared.refusals.WriteRefusal.TheVariants as whys
+use Rattle.amqp_types.specs.declared.errors.ParserError.TheVariants as errors
 use Rattle.amqp_fields.specs.Makes.{cut_long}
-use Rattle.amqp_fields.specs.Making.{Writes}
+use Rattle.amqp_fields.specs.Canonical.{AreCanonicalInOrder}
+use Rattle.amqp_fields.specs.Making.{EncodesEntries, EncodesFrames, EncodesUnless, EncodesValues, RefusesFirst, Writes}
+use Rattle.amqp_fields.specs.Meant.{TellFrames}
+use Rattle.amqp_types.specs.Levels.{plain}
+use Rattle.amqp_wire.specs.Frames.{Frame}
+use Rattle.amqp_wire.specs.Spelling.{SpellsFrames}
+use Rattle.amqp_fields.specs.declared.head.Head.{Head}
+use Rattle.amqp_fields.specs.declared.node.Node.{Node}
 use Rattle.amqp_c.specs.declared.writing.WriteReport.{WriteReport}
-use Rattle.amqp_c.specs.Making.{Reports, all_written, report_of, too_small}
+use Rattle.amqp_c.specs.Making.{Reports, ReportsMeant, all_written, refusal_status, refused_at, report_of, too_small}
+use Rattle.amqp_c.specs.Statuses.{bad_argument}
 
 -- what is cut is no greater
 cut_le : (n : ℕ) → cut_long n ≤ n
 cut_le n = grind (arith, nat_tests)
 
-pub made_reported : (made : Result (List ℕ) WriteError) (old new : List ℕ) (written : Result ℕ WriteError) (report : WriteReport) → Writes made old new written → report ≡ report_of written → Reports made old new report
+-- What is reported of writing is the bytes that were made, or the error, with the buffer as it was.
+pub made_reported : (made : Result (List ℕ) WriteError) (old new : List ℕ) (written : Result ℕ WriteError) (report : WriteReport)
+    → Writes made old new written → report ≡ report_of written → Reports made old new report
 made_reported made old new (Ok count) report h is =
     subst (λ m. Reports m old new report) (sym h.made_is) (record {
       fits = λ room. (h.written_is, is ∙ ap all_written h.count_is);
@@ -24,3 +38,72 @@ made_reported made old new (Err (failures.TooSmall needed)) report h is =
       fits = λ room. absurd (omega (arith, room, h.more, h.needed_is, cut_le (length h.bytes)));
       too_short = λ short. (h.unchanged, is ∙ ap too_small h.needed_is);
     })
+
+refusal_some : (why : WriteRefusal) → refusal_status why ≡ 0 → ⊥
+refusal_some whys.BadArgument h = omega (arith, h)
+refusal_some whys.TooLong h = omega (arith, h)
+refusal_some whys.TooLarge h = omega (arith, h)
+refusal_some (whys.Payload errors.Incomplete) h = omega (arith, h)
+refusal_some (whys.Payload errors.UnknownFrameType) h = omega (arith, h)
+refusal_some (whys.Payload errors.BadProtocolHeader) h = omega (arith, h)
+refusal_some (whys.Payload errors.BadFrameEnd) h = omega (arith, h)
+refusal_some (whys.Payload errors.UnknownClass) h = omega (arith, h)
+refusal_some (whys.Payload errors.UnknownMethod) h = omega (arith, h)
+refusal_some (whys.Payload errors.ShortPayload) h = omega (arith, h)
+refusal_some (whys.Payload errors.TrailingBytes) h = omega (arith, h)
+refusal_some (whys.Payload errors.NotUtf8) h = omega (arith, h)
+refusal_some (whys.Payload errors.UnknownTag) h = omega (arith, h)
+refusal_some (whys.Payload errors.TooDeep) h = omega (arith, h)
+refusal_some (whys.Payload errors.NoMemory) h = omega (arith, h)
+
+-- what is said of bytes that are written holds where all is reported as written
+written_means : (Means : ℕ → Type 0) (written : Result ℕ WriteError) (report : WriteReport) (count : ℕ)
+    → IfOk written Means → report ≡ report_of written → report ≡ all_written count → Means count
+written_means Means (Ok n) report count h is all =
+    let same : n ≡ count = ap (λ (r : WriteReport). r.length) (sym is ∙ all) in
+    subst Means same h
+written_means Means (Err (failures.Refused head node why)) report count h is all =
+    absurd (refusal_some why (ap (λ (r : WriteReport). r.status) (sym is ∙ all)))
+written_means Means (Err (failures.TooSmall needed)) report count h is all =
+    absurd (omega (arith, ap (λ (r : WriteReport). r.status) (sym is ∙ all)))
+
+-- what is reported as written encodes the frames that are meant
+pub frames_encoded : (pool : List ℕ) (nodes : List Node) (heads : List Head) (m : ℕ) (old new : List ℕ) (written : Result ℕ WriteError) (report : WriteReport)
+    → IfOk written (EncodesFrames pool nodes heads m old new) → report ≡ report_of written
+    → (count : ℕ) → report ≡ all_written count → EncodesFrames pool nodes heads m old new count
+frames_encoded pool nodes heads m old new written report h is count all =
+    written_means (EncodesFrames pool nodes heads m old new) written report count h is all
+
+-- and is canonical, where keys ascend and content in the pool is canonical
+pub frames_canonical : (pool : List ℕ) (nodes : List Node) (heads : List Head) (new : List ℕ) (written : Result ℕ WriteError) (report : WriteReport)
+    → IfOk written (λ count. AreCanonicalInOrder pool nodes heads (take count new)) → report ≡ report_of written
+    → (count : ℕ) → report ≡ all_written count → AreCanonicalInOrder pool nodes heads (take count new)
+frames_canonical pool nodes heads new written report h is count all =
+    written_means (λ n. AreCanonicalInOrder pool nodes heads (take n new)) written report count h is all
+
+-- where frames are meant, nothing is refused but what is too long, and that is reported
+pub meant_reported : (pool : List ℕ) (nodes : List Node) (m : ℕ) (heads : List Head) (new : List ℕ) (written : Result ℕ WriteError) (report : WriteReport)
+    → ((frames : List Frame) → TellFrames pool nodes heads frames
+    → EncodesUnless (RefusesFirst plain pool nodes m 0 heads frames) (SpellsFrames plain (Some m)) frames new written)
+    → report ≡ report_of written
+    → (frames : List Frame) → TellFrames pool nodes heads frames → ReportsMeant pool nodes m heads frames new report
+meant_reported pool nodes m heads new written report h is frames meant =
+    record { written = written; report_is = is; encoded = h frames meant }
+
+-- what is reported as written encodes the entries that are meant
+pub entries_encoded : (pool : List ℕ) (nodes : List Node) (old new : List ℕ) (written : Result ℕ WriteError) (report : WriteReport)
+    → IfOk written (EncodesEntries pool nodes old new) → report ≡ report_of written
+    → (count : ℕ) → report ≡ all_written count → EncodesEntries pool nodes old new count
+entries_encoded pool nodes old new written report h is count all =
+    written_means (EncodesEntries pool nodes old new) written report count h is all
+
+-- the same of values
+pub values_encoded : (pool : List ℕ) (nodes : List Node) (old new : List ℕ) (written : Result ℕ WriteError) (report : WriteReport)
+    → IfOk written (EncodesValues pool nodes old new) → report ≡ report_of written
+    → (count : ℕ) → report ≡ all_written count → EncodesValues pool nodes old new count
+values_encoded pool nodes old new written report h is count all =
+    written_means (EncodesValues pool nodes old new) written report count h is all
+
+-- a kind that is neither a table's nor an array's is not reported as written
+pub no_content : (report : WriteReport) (count : ℕ) → report ≡ refused_at 0 0 bad_argument → report ≡ all_written count → ⊥
+no_content report count is all = absurd (omega (arith, ap (λ (r : WriteReport). r.status) (sym is ∙ all)))

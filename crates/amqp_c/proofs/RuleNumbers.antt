@@ -45,13 +45,16 @@ kind_back (Some kinds.Header) = refl
 kind_back (Some kinds.Body) = refl
 kind_back (Some kinds.Heartbeat) = refl
 
-span_back : (span : Option Span) → IfSome span IsSpanOfNumbers → span_in (bit_of (is_some span)) (ends_of span).0 (ends_of span).1 ≡ Some (option_map as_range span)
+span_back : (span : Option Span) → IfSome span IsSpanOfNumbers
+    → span_in (bit_of (is_some span)) (ends_of span).0 (ends_of span).1 ≡ Some (option_map as_range span)
 span_back None h = refl
 span_back (Some (spans.One only)) h = rw (le-leb only only (grind (arith))) refl
 span_back (Some (spans.Range first last)) h = rw (le-leb first last h.0) refl
 
 rule_back : (rule : Rule) → IsRule rule → rule_in (numbers_of rule) ≡ Some (back rule)
-rule_back rule h = rw (flag_back rule.keep) (rw (span_back rule.channel h.channel) (rw (kind_back rule.kind) (rw (part_back rule.class_id) (rw (part_back rule.method_id) refl))))
+rule_back rule h =
+    rw (flag_back rule.keep)
+    (rw (span_back rule.channel h.channel) (rw (kind_back rule.kind) (rw (part_back rule.class_id) (rw (part_back rule.method_id) refl))))
 
 same_one : (only channel : ℕ) → (leb only channel && leb channel only) ≡ eqb channel only
 same_one only channel = grind (arith, nat_tests)
@@ -66,25 +69,36 @@ span_holds (Some span) channel = range_contains span channel
 
 back_matches : (rule : Rule) (outline : FrameOutline) → matches (back rule) outline ≡ matches rule outline
 back_matches rule outline =
-    ap (λ b. b && holds (λ kind. is_of_kind kind outline) rule.kind && holds (λ id. has_class id outline) rule.class_id && holds (λ id. has_method id outline) rule.method_id) (span_holds rule.channel (outline_channel outline))
+    ap
+    (λ b. b && holds (λ kind. is_of_kind kind outline) rule.kind
+    && holds (λ id. has_class id outline) rule.class_id && holds (λ id. has_method id outline) rule.method_id)
+    (span_holds rule.channel (outline_channel outline))
 
 all_back : (rules : List Rule) → AllByRecursion IsRule rules → list_all (λ n. is_some (rule_in n)) (map numbers_of rules) ≡ true
 all_back [] h = refl
 all_back (rule ∷ rules) h = rw (rule_back rule h.0) (all_back rules h.1)
 
-first_by : (outline : FrameOutline) (rule : Rule) (others rules : List Rule) (matching : Bool) → matches rule outline ≡ matching → keeps (first_match others outline) ≡ keeps (first_match rules outline) → keeps (first_match (back rule ∷ others) outline) ≡ keeps (first_match (rule ∷ rules) outline)
+first_by : (outline : FrameOutline) (rule : Rule) (others rules : List Rule) (matching : Bool)
+    → matches rule outline ≡ matching → keeps (first_match others outline) ≡ keeps (first_match rules outline)
+    → keeps (first_match (back rule ∷ others) outline) ≡ keeps (first_match (rule ∷ rules) outline)
 first_by outline rule others rules true e more = rw (back_matches rule outline ∙ e) (rw e refl)
 first_by outline rule others rules false e more = rw (back_matches rule outline ∙ e) (rw e more)
 
-first_back : (outline : FrameOutline) (rules : List Rule) → AllByRecursion IsRule rules → keeps (first_match (filter_map rule_in (map numbers_of rules)) outline) ≡ keeps (first_match rules outline)
+first_back : (outline : FrameOutline) (rules : List Rule) → AllByRecursion IsRule rules
+    → keeps (first_match (filter_map rule_in (map numbers_of rules)) outline) ≡ keeps (first_match rules outline)
 first_back outline [] h = refl
-first_back outline (rule ∷ rules) h = rw (rule_back rule h.0) (first_by outline rule (filter_map rule_in (map numbers_of rules)) rules (matches rule outline) refl (first_back outline rules h.1))
+first_back outline (rule ∷ rules) h =
+    rw (rule_back rule h.0) (first_by outline rule (filter_map rule_in (map numbers_of rules)) rules (matches rule outline) refl (first_back outline rules h.1))
 
 -- rules by their numbers decide as the rules do
-pub decide_alike : (rules : List Rule) (outline : FrameOutline) → AllByRecursion IsRule rules → decision (map numbers_of rules) outline ≡ bit_of (decides rules outline)
-decide_alike rules outline h = ap (λ t. if t then bit_of (decides (filter_map rule_in (map numbers_of rules)) outline) else bad_argument) (all_back rules h) ∙ ap bit_of (first_back outline rules h)
+pub decide_alike : (rules : List Rule) (outline : FrameOutline) → AllByRecursion IsRule rules
+    → decision (map numbers_of rules) outline ≡ bit_of (decides rules outline)
+decide_alike rules outline h =
+    ap (λ t. if t then bit_of (decides (filter_map rule_in (map numbers_of rules)) outline) else bad_argument) (all_back rules h)
+    ∙ ap bit_of (first_back outline rules h)
 
 -- a word is one rule
-pub named_once : (word : List ℕ) (read : Option Rule) (found rule : Rule) → read ≡ Some found → IfSome read (IsRuleFor word) → IsRuleFor word rule → found ≡ rule
+pub named_once : (word : List ℕ) (read : Option Rule) (found rule : Rule)
+    → read ≡ Some found → IfSome read (IsRuleFor word) → IsRuleFor word rule → found ≡ rule
 named_once word None found rule e h is = absurd cc
 named_once word (Some r) found rule e h is = let same : r ≡ rule = one_rule r rule h.0 is.0 (sym h.1 ∙ is.1) in cc

@@ -18,22 +18,28 @@ use Rattle.amqp_fields.specs.Meaning.{fields_of}
 
 -- a payload of a type, by what is read of it
 abbrev read_as : AMQPFrameType → List ℕ → Result Frame Fault → PayloadSummary
-read_as kind payload (Ok frame) = with_fields (summed (is_written_for (Ok frame) payload) (is_tidy_as kind payload) (outline_of frame)) (length (fields_of frame))
+read_as kind payload (Ok frame) =
+    with_fields (summed (is_written_for (Ok frame) payload) (is_tidy_as kind payload) (outline_of frame)) (length (fields_of frame))
 read_as kind payload (Err bad) = no_summary (fault_status bad)
 
 summary-read : (kind : AMQPFrameType) (channel : ℕ) (payload : List ℕ) (read : Result Frame Fault) → whole_as kind channel payload ≡ read
     → (let raw : Raw = record { kind = kind; channel = channel; payload = payload } in summary_at raw (whole raw) ≡ read_as kind payload read)
 summary-read kind channel payload (Ok frame) e =
     let raw : Raw = record { kind = kind; channel = channel; payload = payload } in
-    ap (summary_at raw) e ∙ ap (λ (read : Result Frame Fault). with_fields (summed (is_written_for read payload) (is_tidy_as kind payload) (outline_of frame)) (length (fields_of frame))) e
+    ap (summary_at raw) e
+    ∙ ap
+    (λ (read : Result Frame Fault). with_fields (summed (is_written_for read payload) (is_tidy_as kind payload) (outline_of frame)) (length (fields_of frame)))
+    e
 summary-read kind channel payload (Err bad) e = ap (summary_at (record { kind = kind; channel = channel; payload = payload })) e
 
-read-method : (payload : List ℕ) (a b : ℕ) (read : Result Method Fault) → read_as kinds.Method payload (read_map (λ m. Meth a m) read) ≡ read_as kinds.Method payload (read_map (λ m. Meth b m) read)
+read-method : (payload : List ℕ) (a b : ℕ) (read : Result Method Fault)
+    → read_as kinds.Method payload (read_map (λ m. Meth a m) read) ≡ read_as kinds.Method payload (read_map (λ m. Meth b m) read)
 unfolding fields_of
 read-method payload a b (Ok m) = refl
 read-method payload a b (Err bad) = refl
 
-read-header : (payload : List ℕ) (a b : ℕ) (read : Result ContentHeader Fault) → read_as kinds.Header payload (read_map (λ header. Head a header) read) ≡ read_as kinds.Header payload (read_map (λ header. Head b header) read)
+read-header : (payload : List ℕ) (a b : ℕ) (read : Result ContentHeader Fault)
+    → read_as kinds.Header payload (read_map (λ header. Head a header) read) ≡ read_as kinds.Header payload (read_map (λ header. Head b header) read)
 unfolding fields_of
 read-header payload a b (Ok header) = refl
 read-header payload a b (Err bad) = refl
@@ -70,15 +76,22 @@ read-any kinds.Heartbeat a b payload = rw (beat-if a, beat-if b) (read-beat payl
 abbrev raw_if : Bool → Raw → Result Raw Fault
 raw_if t raw = if t then Err too_large else Ok raw
 
-pub summary-channel : (kind : AMQPFrameType) (a b : ℕ) (payload : List ℕ) → summary_at (raw_as kind a payload) (whole (raw_as kind a payload)) ≡ summary_at (raw_as kind b payload) (whole (raw_as kind b payload))
+pub summary-channel : (kind : AMQPFrameType) (a b : ℕ) (payload : List ℕ)
+    → summary_at (raw_as kind a payload) (whole (raw_as kind a payload)) ≡ summary_at (raw_as kind b payload) (whole (raw_as kind b payload))
 summary-channel kind a b payload =
     summary-read kind a payload (whole_as kind a payload) refl
     ∙ read-any kind a b payload
     ∙ sym (summary-read kind b payload (whole_as kind b payload) refl)
 
-pub raw-known : (byte channel : ℕ) (kind : AMQPFrameType) (payload : List ℕ) → type_of byte ≡ Some kind → length payload ≤ 4294967295 → raw_after byte channel payload ≡ Ok (raw_as kind channel payload)
-raw-known byte channel kind payload e few = ap (λ o. raw_typed o channel payload) e ∙ ap (λ t. raw_if t (raw_as kind channel payload)) (le-ltb 4294967295 (length payload) few)
+-- A payload of fewer than 2^32 bytes after a type byte that is known is a frame of this type on the channel.
+pub raw-known : (byte channel : ℕ) (kind : AMQPFrameType) (payload : List ℕ) → type_of byte ≡ Some kind
+    → length payload ≤ 4294967295 → raw_after byte channel payload ≡ Ok (raw_as kind channel payload)
+raw-known byte channel kind payload e few =
+    ap (λ o. raw_typed o channel payload) e ∙ ap (λ t. raw_if t (raw_as kind channel payload)) (le-ltb 4294967295 (length payload) few)
 
 -- what is reported of a payload after a type byte, on any channel
-pub summary_known : (byte channel : ℕ) (kind : AMQPFrameType) (payload : List ℕ) (summary : PayloadSummary) → type_of byte ≡ Some kind → length payload ≤ 4294967295 → summary ≡ summary_at (raw_as kind 0 payload) (whole (raw_as kind 0 payload)) → summary ≡ summary_of (raw_after byte channel payload)
-summary_known byte channel kind payload summary e few is = is ∙ summary-channel kind 0 channel payload ∙ ap summary_of (sym (raw-known byte channel kind payload e few))
+pub summary_known : (byte channel : ℕ) (kind : AMQPFrameType) (payload : List ℕ) (summary : PayloadSummary) → type_of byte ≡ Some kind
+    → length payload ≤ 4294967295 → summary ≡ summary_at (raw_as kind 0 payload) (whole (raw_as kind 0 payload))
+    → summary ≡ summary_of (raw_after byte channel payload)
+summary_known byte channel kind payload summary e few is =
+    is ∙ summary-channel kind 0 channel payload ∙ ap summary_of (sym (raw-known byte channel kind payload e few))

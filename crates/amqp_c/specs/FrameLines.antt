@@ -22,8 +22,10 @@ pub record RefusesLine (status : ℕ) (old new : List ℕ) (result : FrameLine) 
   pub is : result ≡ nothing_with status
   pub kept : new ≡ old
 
--- One of so many bytes is read. The text of the other is written at the front of a buffer, where it is long enough, and its length is returned.
-pub record Converts (text : List ℕ) (used : ℕ) (old new : List ℕ) (result : FrameLine) : Type 0 where
+-- One of so many bytes is read. The text of the other is written at the front of a buffer, where it
+-- is long enough, and its length is returned.
+pub record Converts (text : List ℕ) (used : ℕ)
+    (old new : List ℕ) (result : FrameLine) : Type 0 where
   pub used_is : result.used ≡ used
   pub length_is : result.length ≡ length text
   pub unused_is : result.unused ≡ 0
@@ -40,7 +42,8 @@ DumpedAt (fault bad) old new result = RefusesLine (fault_status bad) old new res
 
 -- the line of the frame in front is appended
 abbrev pub AppendsFront : ℕ → List ℕ → List ℕ → List ℕ → Result ℕ StreamError → Type 0
-AppendsFront m bytes old new (Ok used) = (frame : Frame) × (verdict plain (Some m) bytes ≡ took frame used) × (new ≡ old ++ line frame)
+AppendsFront m bytes old new (Ok used) =
+    (frame : Frame) × (verdict plain (Some m) bytes ≡ took frame used) × (new ≡ old ++ line frame)
 AppendsFront m bytes old new (Err errors.NoMemory) = Unit {0}
 AppendsFront m bytes old new (Err error) = error_at (verdict plain (Some m) bytes) ≡ Some error
 
@@ -48,4 +51,5 @@ AppendsFront m bytes old new (Err error) = error_at (verdict plain (Some m) byte
 
 -- no line of a frame within the limit is in front of the text
 abbrev pub IsNoFront : ℕ → List ℕ → Type 0
-IsNoFront m text = (frame : Frame) (rest : List ℕ) → IsStrictWithin m frame → text ≢ line frame ++ rest
+IsNoFront m text =
+    (frame : Frame) (rest : List ℕ) → IsStrictWithin m frame → text ≢ line frame ++ rest

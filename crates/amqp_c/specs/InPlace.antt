@@ -1,5 +1,6 @@
 -- Frames that are canonical already, and canonicalizing within one buffer.
-use Rattle.std.specs.Prelude.{◌≡◌, ◌≢◌, ℕ, ◌<◌, ◌≤◌, List, ◌++◌, length, take, drop, Some, Result, Ok, Err}
+use Rattle.std.specs.Prelude.{◌≡◌, ◌≢◌, ℕ, ◌<◌, ◌≤◌, List, ◌++◌, length}
+use Rattle.std.specs.Prelude.{take, drop, Some, Result, Ok, Err}
 use Rattle.amqp_types.specs.Levels.{Level, strict}
 use Rattle.amqp_types.specs.Judging.{took}
 use Rattle.amqp_types.specs.Writing.{Puts}
@@ -16,13 +17,15 @@ use Rattle.amqp_c.specs.Scans.{error_at}
 
 -- ---- a run of canonical frames
 
--- So many bytes in front are whole frames within the limit, each encoded by its canonical bytes, and no more bytes in front are that.
+-- So many bytes in front are whole frames within the limit, each encoded by its canonical bytes,
+-- and no more bytes in front are that.
 pub record IsCanonicalRun (m : ℕ) (bytes : List ℕ) (used : ℕ) : Type 0 where
   pub within : used ≤ length bytes
   pub frames : List Frame
   pub sequence : SpellsFrames strict (Some m) (take used bytes) frames
   pub canonical : take used bytes ≡ canon_frames frames
-  pub longest : (other rest : List ℕ) (fs : List Frame) → bytes ≡ other ++ rest → SpellsFrames strict (Some m) other fs → length other ≤ used
+  pub longest : (other rest : List ℕ) (fs : List Frame) → bytes ≡ other ++ rest
+      → SpellsFrames strict (Some m) other fs → length other ≤ used
 
 -- ---- one frame
 
@@ -34,18 +37,25 @@ pub record LacksRoom (level : Level) (m : ℕ) (bytes : List ℕ) (room : ℕ) :
   pub changed : take used bytes ≢ canon frame
   pub longer : room < used
 
--- The frame in front is canonical; or its canonical bytes stand in front of the spare buffer; or they would go there, and the buffer is shorter than the frame.
+-- The frame in front is canonical; or its canonical bytes stand in front of the spare buffer; or
+-- they would go there, and the buffer is shorter than the frame.
 -- Else the error says why no frame is in front.
 abbrev pub Rewrites : Level → ℕ → List ℕ → List ℕ → List ℕ → Result Rewrite StreamError → Type 0
-Rewrites level m bytes old new (Ok (rewrites.Kept used)) = (frame : Frame) × (verdict level (Some m) bytes ≡ took frame used) × (take used bytes ≡ canon frame)
-Rewrites level m bytes old new (Ok (rewrites.Spare used count)) = (frame : Frame) × (verdict level (Some m) bytes ≡ took frame used) × (count ≤ length new) × (take count new ≡ canon frame) × (count ≤ used)
+Rewrites level m bytes old new (Ok (rewrites.Kept used)) =
+    (frame : Frame) × (verdict level (Some m) bytes ≡ took frame used)
+    × (take used bytes ≡ canon frame)
+Rewrites level m bytes old new (Ok (rewrites.Spare used count)) =
+    (frame : Frame) × (verdict level (Some m) bytes ≡ took frame used)
+    × (count ≤ length new) × (take count new ≡ canon frame) × (count ≤ used)
 Rewrites level m bytes old new (Ok rewrites.NoRoom) = LacksRoom level m bytes (length old)
 Rewrites level m bytes old new (Err error) = error_at (verdict level (Some m) bytes) ≡ Some error
 
 -- ---- a buffer
 
--- The frames in front are used up to one that is not canonical and is longer than the spare buffer. Their canonical bytes stand at the front of the buffer, which is kept after them.
-pub record StopsBefore (level : Level) (m room : ℕ) (old new : List ℕ) (progress : CallProgress) : Type 0 where
+-- The frames in front are used up to one that is not canonical and is longer than the spare buffer.
+-- Their canonical bytes stand at the front of the buffer, which is kept after them.
+pub record StopsBefore (level : Level) (m room : ℕ)
+    (old new : List ℕ) (progress : CallProgress) : Type 0 where
   pub frames : List Frame
   pub sequence : front level (Some m) old ≡ frames ++ front level (Some m) (drop progress.used old)
   pub after : place level (Some m) old ≡ place level (Some m) (drop progress.used old)

@@ -2,10 +2,14 @@
 use Rattle.std.specs.Prelude.{◌≡◌, ◌<◌, ◌≤◌, ℕ, List, length, Option, Some, Result, Ok, Err}
 use Rattle.amqp_types.specs.Constants.{inner_depth}
 use Rattle.amqp_types.specs.Judging.{too_large}
+use Rattle.amqp_types.specs.Levels.{plain}
 use Rattle.amqp_types.specs.Writing.{written}
+use Rattle.amqp_wire.specs.Frames.{Frame}
+use Rattle.amqp_wire.specs.Spelling.{SpellsFrames}
 use Rattle.amqp_types.specs.declared.tag.FieldTag.{FieldTag}
 use Rattle.amqp_types.specs.declared.tag.FieldTag.TheVariants as tag
 use Rattle.amqp_stream.specs.Errors.{stream_error_status}
+use Rattle.amqp_fields.specs.declared.head.Head.{Head}
 use Rattle.amqp_fields.specs.declared.node.Node.{Node}
 use Rattle.amqp_fields.specs.declared.refusals.WriteError.{WriteError}
 use Rattle.amqp_fields.specs.declared.refusals.WriteError.TheVariants as failures
@@ -14,6 +18,7 @@ use Rattle.amqp_fields.specs.declared.refusals.WriteRefusal.TheVariants as whys
 use Rattle.amqp_fields.specs.Made.{made_each, made_entry, made_value}
 use Rattle.amqp_fields.specs.MadeFrames.{at_head}
 use Rattle.amqp_fields.specs.Makes.{cut_long}
+use Rattle.amqp_fields.specs.Making.{EncodesEntries, EncodesUnless, EncodesValues, RefusesFirst}
 use Rattle.amqp_fields.specs.Nodes.{cut}
 use Rattle.amqp_c.specs.declared.writing.WriteReport.{WriteReport}
 use Rattle.amqp_c.specs.Batches.{frame_error}
@@ -26,7 +31,8 @@ all_written count = record { length = count; head = 0; node = 0; status = 0; unu
 
 -- the buffer needs so many bytes
 abbrev pub too_small : ℕ → WriteReport
-too_small needed = record { length = needed; head = 0; node = 0; status = buffer_too_small; unused = 0 }
+too_small needed =
+    record { length = needed; head = 0; node = 0; status = buffer_too_small; unused = 0 }
 
 -- the status of a refusal
 abbrev pub refusal_status : WriteRefusal → ℕ
@@ -37,7 +43,8 @@ refusal_status whys.TooLarge = fault_status too_large
 
 -- a head and a node are refused; 4 bytes say which, or hold the greatest number that they can
 abbrev pub refused_at : ℕ → ℕ → ℕ → WriteReport
-refused_at head node status = record { length = 0; head = cut head; node = cut node; status = status; unused = 0 }
+refused_at head node status =
+    record { length = 0; head = cut head; node = cut node; status = status; unused = 0 }
 
 -- nothing was written
 abbrev pub not_written : WriteError → WriteReport
@@ -49,10 +56,13 @@ abbrev pub report_of : Result ℕ WriteError → WriteReport
 report_of (Ok count) = all_written count
 report_of (Err error) = not_written error
 
--- These bytes were made. Where the buffer has room for them they stand at its front, and what comes after them is as it was; else all of it is.
+-- These bytes were made. Where the buffer has room for them they stand at its front, and what comes
+-- after them is as it was; else all of it is.
 pub record PutsMade (bytes old new : List ℕ) (report : WriteReport) : Type 0 where
-  pub fits : length bytes ≤ length old → (new ≡ written old 0 bytes) × (report ≡ all_written (length bytes))
-  pub too_short : length old < length bytes → (new ≡ old) × (report ≡ too_small (cut_long (length bytes)))
+  pub fits : length bytes ≤ length old
+      → (new ≡ written old 0 bytes) × (report ≡ all_written (length bytes))
+  pub too_short : length old < length bytes
+      → (new ≡ old) × (report ≡ too_small (cut_long (length bytes)))
 
 -- what was made is written; where something is refused the buffer is as it was
 abbrev pub Reports : Result (List ℕ) WriteError → List ℕ → List ℕ → WriteReport → Type 0
@@ -61,7 +71,8 @@ Reports (Err error) old new report = (new ≡ old) × (report ≡ not_written er
 
 -- the entries that nodes make, one after another
 abbrev pub entries_made : List ℕ → List Node → Result (List ℕ) WriteError
-entries_made pool nodes = at_head 0 (made_each (made_entry pool (made_value pool inner_depth)) (length nodes) 0 nodes)
+entries_made pool nodes =
+    at_head 0 (made_each (made_entry pool (made_value pool inner_depth)) (length nodes) 0 nodes)
 
 -- the values that nodes make, one after another
 abbrev pub values_made : List ℕ → List Node → Result (List ℕ) WriteError
@@ -72,3 +83,22 @@ abbrev pub content_made : Option FieldTag → List ℕ → List Node → Result 
 content_made (Some tag.FieldArray) pool nodes = values_made pool nodes
 content_made (Some tag.FieldTable) pool nodes = entries_made pool nodes
 content_made other pool nodes = Err (failures.Refused 0 0 whys.BadArgument)
+
+-- What fills an array or a table, by its tag, is encoded at the front: the values or the entries
+-- that nodes mean.
+abbrev pub EncodesContent : Option FieldTag
+    → List ℕ → List Node → List ℕ → List ℕ → ℕ → Type 0
+EncodesContent (Some tag.FieldArray) pool nodes old new count =
+    EncodesValues pool nodes old new count
+EncodesContent (Some tag.FieldTable) pool nodes old new count =
+    EncodesEntries pool nodes old new count
+EncodesContent other pool nodes old new count = ⊥
+
+-- Frames that are meant are encoded at the front, or the buffer is too small, or the first head is
+-- refused that has too long a payload, or a node that holds too many bytes.
+pub record ReportsMeant (pool : List ℕ) (nodes : List Node) (m : ℕ) (heads : List Head)
+    (frames : List Frame) (new : List ℕ) (report : WriteReport) : Type 0 where
+  pub written : Result ℕ WriteError
+  pub report_is : report ≡ report_of written
+  pub encoded : EncodesUnless (RefusesFirst plain pool nodes m 0 heads frames)
+      (SpellsFrames plain (Some m)) frames new written

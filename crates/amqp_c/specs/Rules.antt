@@ -1,5 +1,6 @@
 -- Rules by numbers.
-use Rattle.std.specs.Prelude.{◌≡◌, ◌==◌, ℕ, nat_le, Bool, true, false, if◌then◌else◌, List, map, Option, Some, None, is_some, unwrap_or}
+use Rattle.std.specs.Prelude.{◌≡◌, ◌==◌, ℕ, nat_le, Bool, true, false, if◌then◌else◌, List, map}
+use Rattle.std.specs.Prelude.{Option, Some, None, is_some, unwrap_or}
 use Rattle.std.specs.Option.{option_and_then, option_map}
 use Rattle.std.specs.List.{AllByRecursion, filter_map, list_all}
 use Rattle.amqp_types.specs.Flags.{bit_of}
@@ -20,7 +21,18 @@ use Rattle.amqp_c.specs.Statuses.{bad_argument}
 
 -- no rule
 abbrev pub no_rule : FrameRule
-no_rule = record { first_channel = 0; last_channel = 0; class_id = 0; method_id = 0; keep = 0; has_channels = 0; frame_type = 0; has_class = 0; has_method = 0; status = bad_argument }
+no_rule = record {
+  first_channel = 0;
+  last_channel = 0;
+  class_id = 0;
+  method_id = 0;
+  keep = 0;
+  has_channels = 0;
+  frame_type = 0;
+  has_class = 0;
+  has_method = 0;
+  status = bad_argument;
+}
 
 -- the first and the last channel of a part, 0 and 0 where there is none
 abbrev pub ends_of : Option Span → ℕ × ℕ
@@ -64,7 +76,8 @@ part_in has id = where_set (flag_at has) (Some id)
 
 -- the part on channels; a range ends no lower than it begins
 abbrev pub span_in : ℕ → ℕ → ℕ → Option (Option Span)
-span_in has first last = where_set (flag_at has) (if nat_le first last then Some (spans.Range first last) else None)
+span_in has first last =
+    where_set (flag_at has) (if nat_le first last then Some (spans.Range first last) else None)
 
 -- the part on the type
 abbrev pub kind_in : ℕ → Option (Option AMQPFrameType)
@@ -72,14 +85,20 @@ kind_in byte = if byte == 0 then Some None else option_map (λ kind. Some kind) 
 
 -- a rule of these parts
 abbrev pub rule_with : Bool → Option Span → Option AMQPFrameType → Option ℕ → Option ℕ → Rule
-rule_with keep channel kind class method = record { keep = keep; channel = channel; kind = kind; class_id = class; method_id = method }
+rule_with keep channel kind class method =
+    record { keep = keep; channel = channel; kind = kind; class_id = class; method_id = method }
 
 -- the rule that has these numbers
 abbrev pub rule_in : FrameRule → Option Rule
 rule_in n =
     if n.status == 0 then
-    option_and_then (λ keep. option_and_then (λ channel. option_and_then (λ kind. option_and_then (λ class. option_map (λ method. rule_with keep channel kind class method)
-    (part_in n.has_method n.method_id)) (part_in n.has_class n.class_id)) (kind_in n.frame_type)) (span_in n.has_channels n.first_channel n.last_channel)) (flag_at n.keep)
+    option_and_then (λ keep.
+    option_and_then (λ channel.
+    option_and_then (λ kind.
+    option_and_then (λ class. option_map (λ method. rule_with keep channel kind class method)
+    (part_in n.has_method n.method_id)) (part_in n.has_class n.class_id)) (kind_in n.frame_type))
+    (span_in n.has_channels n.first_channel n.last_channel))
+    (flag_at n.keep)
     else None
 
 -- the outline of a frame by its numbers; no rule asks for its sizes
@@ -92,13 +111,18 @@ outline_on kinds.Heartbeat channel class method = outlines.Heartbeat channel
 
 -- what rules decide of a frame, where each of them is one
 abbrev pub decision : List FrameRule → FrameOutline → ℕ
-decision rules outline = if list_all (λ n. is_some (rule_in n)) rules then bit_of (decides (filter_map rule_in rules) outline) else bad_argument
+decision rules outline =
+    if list_all (λ n. is_some (rule_in n)) rules
+    then bit_of (decides (filter_map rule_in rules) outline) else bad_argument
 
 -- the same after a type; a byte that names none comes first
 abbrev pub decided_after : List FrameRule → Option AMQPFrameType → ℕ → ℕ → ℕ → ℕ
 decided_after rules None channel class method = 10
-decided_after rules (Some kind) channel class method = decision rules (outline_on kind channel class method)
+decided_after rules (Some kind) channel class method =
+    decision rules (outline_on kind channel class method)
 
 -- Rules by their numbers decide as the rules do.
 abbrev pub NumbersDecideAlike : Type 0
-NumbersDecideAlike = (rules : List Rule) (outline : FrameOutline) → AllByRecursion IsRule rules → decision (map numbers_of rules) outline ≡ bit_of (decides rules outline)
+NumbersDecideAlike =
+    (rules : List Rule) (outline : FrameOutline) → AllByRecursion IsRule rules
+    → decision (map numbers_of rules) outline ≡ bit_of (decides rules outline)

@@ -1,5 +1,6 @@
 -- What a header scan returns.
-use Rattle.std.specs.Prelude.{◌≡◌, ℕ, ◌+◌, ◌≤◌, List, length, take, drop, Option, Some, None, Result, Ok, Err}
+use Rattle.std.specs.Prelude.{◌≡◌, ℕ, ◌+◌, ◌≤◌, List, length, take, drop}
+use Rattle.std.specs.Prelude.{Option, Some, None, Result, Ok, Err}
 use Rattle.amqp_types.specs.Judging.{Fault, Judged, took, past, fault}
 use Rattle.amqp_wire.specs.declared.looking.FrameLayout.{FrameLayout}
 use Rattle.amqp_wire.specs.Frames.{Raw}
@@ -16,7 +17,8 @@ use Rattle.amqp_c.specs.declared.next.FrontFrame.{FrontFrame}
 abbrev pub fault_status : Fault → ℕ
 fault_status bad = stream_error_status (error_for bad)
 
--- the status of what is read from the left; where more bytes are needed, that of input that ends there
+-- the status of what is read from the left; where more bytes are needed, that of input
+-- that ends there
 abbrev pub judged_status : {A : Type 0} → Judged A → ℕ
 judged_status (took x used) = 0
 judged_status past = stream_error_status errors.CutShort
@@ -36,12 +38,21 @@ pub record IsLocated (bytes : List ℕ) (raw : Raw) (used : ℕ) (front : FrontF
 
 -- no frame lies there, and one that begins so has at least so many bytes
 abbrev pub nowhere : ℕ → ℕ → FrontFrame
-nowhere status needed = record { used = 0; needed = needed; payload_len = 0; payload_start = 0; channel = 0; frame_type = 0; status = status }
+nowhere status needed = record {
+  used = 0;
+  needed = needed;
+  payload_len = 0;
+  payload_start = 0;
+  channel = 0;
+  frame_type = 0;
+  status = status;
+}
 
 -- where the frame lies that is read from the left
 abbrev pub Locates : List ℕ → Judged Raw → FrontFrame → Type 0
 Locates bytes (took raw used) front = IsLocated bytes raw used front
-Locates bytes past front = front ≡ nowhere (stream_error_status errors.CutShort) (least_length bytes)
+Locates bytes past front =
+    front ≡ nowhere (stream_error_status errors.CutShort) (least_length bytes)
 Locates bytes (fault bad) front = front ≡ nowhere (fault_status bad) 0
 
 -- the error of a stream that ends at what is read from the left; a frame is none

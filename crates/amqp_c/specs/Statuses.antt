@@ -1,5 +1,6 @@
 -- Statuses beside those of streams, and the names of all.
-use Rattle.std.specs.Prelude.{◌≡◌, ◌==◌, ◌<◌, ◌≤◌, ℕ, List, codes, length, if◌then◌else◌, Option, Some, None}
+use Rattle.std.specs.Prelude.{◌≡◌, ◌==◌, ◌<◌, ◌≤◌, ℕ, List, codes, length}
+use Rattle.std.specs.Prelude.{if◌then◌else◌, Option, Some, None}
 use Rattle.amqp_types.specs.Writing.{written}
 use Rattle.amqp_stream.specs.declared.errors.StreamError.TheVariants as streams
 use Rattle.amqp_stream.specs.Errors.{stream_error_name, stream_error_status}
@@ -58,7 +59,8 @@ call_error_name errors.BufferTooSmall = codes "BufferTooSmall"
 call_error_name errors.BadArgument = codes "BadArgument"
 call_error_name errors.TooLong = codes "TooLong"
 
--- Bytes are written at the front of a buffer, where it is long enough, and their number is returned.
+-- Bytes are written at the front of a buffer, where it is long enough, and their
+-- number is returned.
 pub record WritesFront (bytes old new : List ℕ) (result : ℕ) : Type 0 where
   pub length_is : result ≡ length bytes
   pub fits : length bytes ≤ length old → new ≡ written old 0 bytes

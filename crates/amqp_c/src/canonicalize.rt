@@ -6,7 +6,8 @@ ghost use Rattle.amqp_wire.specs.Frames.{raw_of, frame_length};
 ghost use Rattle.amqp_wire.specs.Judgements.{IsJudged};
 ghost use Rattle.amqp_wire.specs.Rewrites.{Rewrites};
 ghost use Rattle.amqp_wire.specs.Verdicts.{whole};
-ghost use Rattle.amqp_c.specs.Rewriting.{CanonicalizesPart, JudgesAt, PutsFrame, PutsFront, RefusesPart, came, profile_at};
+ghost use Rattle.amqp_c.specs.Rewriting.{CanonicalizesPart, JudgesAt, PutsFrame, PutsFront};
+ghost use Rattle.amqp_c.specs.Rewriting.{RefusesPart, came, profile_at};
 ghost use Rattle.amqp_c.specs.Statuses.{bad_argument, buffer_too_small};
 
 use crate::next::{frame_at, scan};
@@ -239,9 +240,11 @@ pub extern "C" fn feksroum_canonicalize(
     level: u8,
 ) -> CallProgress
     ensures argument { profile_at level ≡ None → RefusesPart bad_argument out.old out.new result }
-    ensures small { (profile : Profile) → profile_at level ≡ Some profile → length out.old < length bytes.now
+    ensures small { (profile : Profile) → profile_at level ≡ Some profile
+        → length out.old < length bytes.now
         → RefusesPart buffer_too_small out.old out.new result }
-    ensures canonicalizes { (profile : Profile) → profile_at level ≡ Some profile → length bytes.now ≤ length out.old
+    ensures canonicalizes { (profile : Profile)
+        → profile_at level ≡ Some profile → length bytes.now ≤ length out.old
         → CanonicalizesPart (level_of profile) max_payload bytes.now out.old out.new result }
 {
     let status = match profile_of(level) {

@@ -95,7 +95,8 @@ fn check_raw(raw: AMQPRawFrame<'_>) -> Result<PayloadSummary, StreamError>
 
 /// The same of a whole payload after this type byte.
 fn check(frame_type: u8, payload: &[u8]) -> Result<PayloadSummary, StreamError>
-    ensures { (channel : ℕ) → summary_or result ≡ summary_of (raw_after frame_type channel payload.now) }
+    ensures { (channel : ℕ)
+        → summary_or result ≡ summary_of (raw_after frame_type channel payload.now) }
 {
     let Some(frame_type) = type_of_byte(frame_type) else {
         return Err(StreamError::UnknownFrameType);

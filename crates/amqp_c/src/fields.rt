@@ -2,7 +2,9 @@
 
 ghost use Rattle.std.specs.Prelude.{◌≡◌, ◌<◌, ◌^◌, length};
 ghost use Rattle.amqp_wire.specs.Frames.{raw_as};
-ghost use Rattle.amqp_c.specs.Fields.{Opens, OpensEntries, OpensValues, ReadsAfter, ReadsRaw, ReadsWhole, content_error, counted, deep_at, fields_with, reported};
+ghost use Rattle.amqp_c.specs.Fields.{Opens, OpensEntries, OpensValues, ReadsAfter};
+ghost use Rattle.amqp_c.specs.Fields.{ReadsRaw, ReadsWhole, content_error, counted};
+ghost use Rattle.amqp_c.specs.Fields.{deep_at, fields_with, reported};
 ghost use Rattle.amqp_types.specs.Tags.{tag_at};
 ghost use Rattle.amqp_c.specs.Checks.{raw_after};
 
@@ -77,7 +79,7 @@ fn fields_with(summary: PayloadSummary, count: u64) -> PayloadFields
 }
 
 /// The fields of a whole payload of this type.
-#[tactic(auto, using(crate::proofs::NodesGiven::nodes_given, crate::proofs::NodesGiven::nodes_wanted, crate::proofs::NodesGiven::payload_refused, crate::proofs::NodesGiven::whole_found))]
+#[tactic(auto, using(crate::proofs::NodesGiven::nodes_given, crate::proofs::NodesGiven::nodes_wanted, crate::proofs::NodesGiven::payload_refused))]
 fn read_whole(
     frame_type: AMQPFrameType,
     payload: &[u8],

@@ -1,8 +1,10 @@
 //! Whole frames as heads and nodes.
 
 ghost use Rattle.std.specs.Prelude.{◌≡◌, length};
-ghost use Rattle.amqp_c.specs.Batches.{AreFew, GivesAsked, GivesFrames, batch_of, end_needed, end_status, frame_error, no_batch};
+ghost use Rattle.amqp_c.specs.Batches.{AreFew, GivesAsked, GivesFrames, batch_of, end_needed};
+ghost use Rattle.amqp_c.specs.Batches.{end_status, frame_error, no_batch};
 ghost use Rattle.amqp_c.specs.Fields.{deep_at};
+ghost use Rattle.amqp_fields.specs.Frames.{payload_limit};
 
 use crate::fields::deep_at;
 use crate::statuses::{BAD_ARGUMENT, BUFFER_TOO_SMALL};
@@ -103,7 +105,8 @@ fn read_batch(
 ) -> FrameBatch
     ensures same_heads { length heads.new ≡ length heads.old }
     ensures same_nodes { length nodes.new ≡ length nodes.old }
-    ensures given { GivesFrames max_payload deep bytes.now heads.new nodes.new result }
+    ensures given { GivesFrames (payload_limit max_payload) deep
+        bytes.now heads.new nodes.new result }
 {
     report(read_frames(bytes, max_payload, deep, heads, nodes))
 }
@@ -111,7 +114,7 @@ fn read_batch(
 /// Reads as many whole frames in front of the bytes, with payloads of at most `max_payload` bytes, as both lists have room for:
 /// a head for each, and its nodes as `feksroum_read` gives them, with `detail` 0 those of its fields alone, with 1 all that
 /// lies inside them too. All spans are counted from the front of `bytes`. Of more than 2^32 - 1 bytes only so many in front are
-/// looked at. What stands in the lists behind what is given is not specified.
+/// looked at, and a frame of more by itself is too large at any limit. What stands in the lists behind what is given is not specified.
 #[unsafe(no_mangle)]
 pub extern "C" fn feksroum_frames(
     bytes: &[u8],

@@ -158,10 +158,13 @@ pub extern "C" fn feksroum_canonicalize_in_place(
     max_payload: u32,
     level: u8,
 ) -> CallProgress
-    ensures argument { profile_at level ≡ None → RefusesPart bad_argument bytes.old bytes.new result }
-    ensures canonicalizes { (profile : Profile) → profile_at level ≡ Some profile → result.status ≢ buffer_too_small
+    ensures argument { profile_at level ≡ None
+        → RefusesPart bad_argument bytes.old bytes.new result }
+    ensures canonicalizes { (profile : Profile)
+        → profile_at level ≡ Some profile → result.status ≢ buffer_too_small
         → CanonicalizesPart (level_of profile) max_payload bytes.old bytes.old bytes.new result }
-    ensures stops { (profile : Profile) → profile_at level ≡ Some profile → result.status ≡ buffer_too_small
+    ensures stops { (profile : Profile) → profile_at level ≡ Some profile
+        → result.status ≡ buffer_too_small
         → StopsBefore (level_of profile) max_payload (length spare.old) bytes.old bytes.new result }
     ensures enough { max_payload + 8 ≤ length spare.old → result.status ≢ buffer_too_small }
 {

@@ -9,7 +9,8 @@ ghost use Rattle.amqp_lines.specs.LineReading.{HasNoNewline};
 ghost use Rattle.amqp_lines.specs.Lines.{line};
 ghost use Rattle.amqp_lines.specs.OneLine.{IsStrictWithin};
 ghost use Rattle.amqp_lines.specs.Undumping.{HoldsNewline};
-ghost use Rattle.amqp_c.specs.FrameLines.{AppendsFront, Converts, DumpedAt, IsNoFront, RefusesLine, nothing_with};
+ghost use Rattle.amqp_c.specs.FrameLines.{AppendsFront, Converts, DumpedAt};
+ghost use Rattle.amqp_c.specs.FrameLines.{IsNoFront, RefusesLine, nothing_with};
 ghost use Rattle.amqp_c.specs.Statuses.{bad_text, incomplete, out_of_memory};
 
 use crate::next::{frame_at, scan};
@@ -93,8 +94,10 @@ pub extern "C" fn feksroum_dump(
     out: &mut [u8],
     max_payload: u32,
 ) -> FrameLine
-    ensures dumped { result.status ≢ out_of_memory → DumpedAt (verdict plain (Some max_payload) bytes.now) out.old out.new result }
-    ensures memory { result.status ≡ out_of_memory → RefusesLine out_of_memory out.old out.new result }
+    ensures dumped { result.status ≢ out_of_memory
+        → DumpedAt (verdict plain (Some max_payload) bytes.now) out.old out.new result }
+    ensures memory { result.status ≡ out_of_memory
+        → RefusesLine out_of_memory out.old out.new result }
 {
     let mut line = Vec::new(alloc);
     match append_line(alloc, &mut line, bytes, max_payload) {
@@ -112,12 +115,16 @@ pub extern "C" fn feksroum_undump(
     out: &mut [u8],
     max_payload: u32,
 ) -> FrameLine
-    ensures line { (frame : Frame) (rest : List ℕ) → IsStrictWithin max_payload frame → text.now ≡ line frame ++ rest
-        → result.status ≢ out_of_memory → Converts (canon frame) (length (line frame)) out.old out.new result }
-    ensures none { HoldsNewline text.now → IsNoFront max_payload text.now → result.status ≢ out_of_memory
+    ensures line { (frame : Frame) (rest : List ℕ)
+        → IsStrictWithin max_payload frame → text.now ≡ line frame ++ rest
+        → result.status ≢ out_of_memory
+        → Converts (canon frame) (length (line frame)) out.old out.new result }
+    ensures none { HoldsNewline text.now
+        → IsNoFront max_payload text.now → result.status ≢ out_of_memory
         → RefusesLine bad_text out.old out.new result }
     ensures incomplete { HasNoNewline text.now → RefusesLine incomplete out.old out.new result }
-    ensures memory { result.status ≡ out_of_memory → RefusesLine out_of_memory out.old out.new result }
+    ensures memory { result.status ≡ out_of_memory
+        → RefusesLine out_of_memory out.old out.new result }
 {
     let Some(end) = line_end(text, 0) else {
         return nothing_with(StreamError::CutShort.status());

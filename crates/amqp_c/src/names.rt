@@ -3,7 +3,8 @@
 ghost use Rattle.std.specs.Prelude.{◌≡◌, ◌+◌, ◌≤◌, length, map, slice_get};
 ghost use Rattle.amqp_types.specs.Writing.{written};
 ghost use Rattle.amqp_names.specs.Tables.{all_methods, field_kind, located, method_in};
-ghost use Rattle.amqp_c.specs.Names.{class_name_at, field_name_at, method_name_at, named_method, named_method_at, property_kind_at, property_name_at, shape_at};
+ghost use Rattle.amqp_c.specs.Names.{class_name_at, field_name_at, method_name_at, named_method};
+ghost use Rattle.amqp_c.specs.Names.{named_method_at, property_kind_at, property_name_at, shape_at};
 ghost use Rattle.amqp_c.specs.Statuses.{WritesName};
 
 use crate::statuses::BAD_ARGUMENT;

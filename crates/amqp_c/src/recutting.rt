@@ -1,6 +1,7 @@
 //! Bodies cut anew: which pieces of the bytes that a caller holds of a message and of a new body are to be written.
 
-ghost use Rattle.std.specs.Prelude.{◌≡◌, ◌+◌, ◌*◌, ◌==◌, ◌++◌, ◌<◌, ◌≤◌, ℕ, List, length, slice_get};
+ghost use Rattle.std.specs.Prelude.{◌≡◌, ◌+◌, ◌*◌, ◌==◌, ◌++◌, ◌<◌};
+ghost use Rattle.std.specs.Prelude.{◌≤◌, ℕ, List, length, slice_get};
 ghost use Rattle.amqp_turns.specs.Splits.{cut_count, frames_given};
 ghost use Rattle.amqp_c.specs.Recutting.{IsCut, IsPieceOf, left_count, no_cut, no_piece};
 
@@ -90,7 +91,8 @@ fn no_piece() -> BodyPiece
 /// message, and else 0.
 #[unsafe(no_mangle)]
 pub extern "C" fn feksroum_recut(size: u32, held: u32, len: u32, ends: u8) -> BodyCut
-    ensures cut { held < size → ends ≤ 1 → (front body : List ℕ) → length front ≡ held → length body ≡ len → IsCut size (ends == 1) front body result }
+    ensures cut { held < size → ends ≤ 1 → (front body : List ℕ) → length front ≡ held
+        → length body ≡ len → IsCut size (ends == 1) front body result }
     ensures below { held < size → result.left < size }
     ensures too_many_held { size ≤ held → result ≡ no_cut }
     ensures no_flag { 1 < ends → result ≡ no_cut }
@@ -109,8 +111,10 @@ pub extern "C" fn feksroum_recut(size: u32, held: u32, len: u32, ends: u8) -> Bo
 /// The payload of body frame `k` of these, counted from 0. All bytes held stand in the first.
 #[unsafe(no_mangle)]
 pub extern "C" fn feksroum_piece_at(size: u32, held: u32, len: u32, ends: u8, k: u64) -> BodyPiece
-    ensures piece { held < size → ends ≤ 1 → (front body : List ℕ) (channel : ℕ) → length front ≡ held → length body ≡ len
-        → IsPieceOf channel front body result (slice_get (frames_given size channel (ends == 1) (front ++ body)) k) }
+    ensures piece { held < size → ends ≤ 1 → (front body : List ℕ) (channel : ℕ)
+        → length front ≡ held → length body ≡ len
+        → IsPieceOf channel front body result
+        (slice_get (frames_given size channel (ends == 1) (front ++ body)) k) }
     ensures held_within { result.held_start + result.held_length ≤ held }
     ensures held_from_front { result.held_start ≡ 0 }
     ensures held_in_first { 1 ≤ k → result.held_length ≡ 0 }

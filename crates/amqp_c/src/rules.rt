@@ -6,7 +6,8 @@ ghost use Rattle.amqp_wire.specs.Outer.{type_of};
 ghost use Rattle.amqp_select.specs.Matching.{matches};
 ghost use Rattle.amqp_select.specs.Refusals.{IsRuleFor, IsRuleWord};
 ghost use Rattle.amqp_select.specs.declared.rule.Rule.{Rule};
-ghost use Rattle.amqp_c.specs.Rules.{decided_after, decision, flag_at, kind_in, no_rule, numbers_of, outline_on, part_in, rule_in, span_in};
+ghost use Rattle.amqp_c.specs.Rules.{decided_after, decision, flag_at, kind_in, no_rule};
+ghost use Rattle.amqp_c.specs.Rules.{numbers_of, outline_on, part_in, rule_in, span_in};
 
 use crate::frame_types::{byte_of_type, type_of_byte};
 use crate::statuses::BAD_ARGUMENT;

@@ -9,7 +9,8 @@ ghost use Rattle.amqp_canonical.specs.Marks.{AreEntries, entries_in};
 #[unsafe(no_mangle)]
 pub extern "C" fn feksroum_scratch(bytes: usize) -> usize
     ensures half { result ≡ bytes / 2 }
-    ensures enough { (room : ℕ) (content : List ℕ) → IsBytes content → length content ≤ bytes → AreEntries room content
+    ensures enough { (room : ℕ) (content : List ℕ) → IsBytes content
+        → length content ≤ bytes → AreEntries room content
         → length (entries_in room content) ≤ result }
 {
     bytes / 2

@@ -1,7 +1,8 @@
 //! The statuses that calls return, and their names.
 
 ghost use Rattle.std.specs.Prelude.{◌≡◌, None};
-ghost use Rattle.amqp_c.specs.Statuses.{WritesName, call_error_at, call_error_name, call_error_status};
+ghost use Rattle.amqp_c.specs.Statuses.{WritesName, call_error_at};
+ghost use Rattle.amqp_c.specs.Statuses.{call_error_name, call_error_status};
 
 use amqp_stream::StreamError;
 use amqp_types::put_bytes;
@@ -101,7 +102,8 @@ fn error_with(status: u8) -> Option<CallError>
 /// where the status is no error's.
 #[unsafe(no_mangle)]
 pub extern "C" fn feksroum_name(status: u8, out: &mut [u8]) -> usize
-    ensures named { (error : CallError) → call_error_status error ≡ status → WritesName (call_error_name error) out.old out.new result }
+    ensures named { (error : CallError) → call_error_status error ≡ status
+        → WritesName (call_error_name error) out.old out.new result }
     ensures none { call_error_at status ≡ None → (result ≡ 0) × (out.new ≡ out.old) }
 {
     let Some(error) = error_with(status) else {

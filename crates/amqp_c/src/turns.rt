@@ -3,7 +3,9 @@
 ghost use Rattle.std.specs.Prelude.{◌≡◌, ◌<◌};
 ghost use Rattle.amqp_wire.specs.Outer.{type_of};
 ghost use Rattle.amqp_turns.specs.Steps.{body_mark};
-ghost use Rattle.amqp_c.specs.Turns.{StepsOn, fault_step, kept_headed, kept_plain, mark_by, mark_if, outline_by, part_step, progress_in, refused_step, step_to};
+ghost use Rattle.amqp_c.specs.Turns.{StepsOn, fault_step, kept_headed, kept_plain};
+ghost use Rattle.amqp_c.specs.Turns.{mark_by, mark_if, outline_by, part_step};
+ghost use Rattle.amqp_c.specs.Turns.{progress_in, refused_step, step_to};
 
 use crate::frame_types::type_of_byte;
 use crate::statuses::{BAD_ARGUMENT, BAD_CONTENT};
@@ -124,7 +126,9 @@ fn outline_by(
 /// The mark of a frame on a channel of which this is kept.
 #[inline(always)]
 fn mark_if(max_body: u64, progress: Option<Progress>, frame: FrameNumbers) -> Result<Mark, NoStep>
-    ensures { result ≡ mark_if max_body progress (type_of frame.frame_type) frame.class_id frame.method_id frame.size }
+    ensures { result
+        ≡ mark_if max_body progress
+        (type_of frame.frame_type) frame.class_id frame.method_id frame.size }
 {
     let Some(frame_type) = type_of_byte(frame.frame_type) else {
         return Err(NoStep::Type);
@@ -154,7 +158,9 @@ fn mark_body(size: PayloadSize, seen: PayloadSize, length: PayloadSize) -> Mark
 /// that no state is tested twice.
 #[inline(always)]
 fn mark_by(max_body: u64, channel: ChannelState, frame: FrameNumbers) -> Result<Mark, NoStep>
-    ensures { result ≡ mark_by max_body (progress_in channel) (type_of frame.frame_type) frame.class_id frame.method_id frame.size }
+    ensures { result
+        ≡ mark_by max_body (progress_in channel)
+        (type_of frame.frame_type) frame.class_id frame.method_id frame.size }
 {
     let ChannelState {
         size,
@@ -281,7 +287,8 @@ pub extern "C" fn feksroum_step(
     size: PayloadSize,
     max_body: u64,
 ) -> ChannelStep
-    ensures { StepsOn max_body (progress_in channel) (type_of frame_type) class_id method_id size result }
+    ensures { StepsOn max_body (progress_in channel)
+        (type_of frame_type) class_id method_id size result }
 {
     let frame = FrameNumbers {
         frame_type,

@@ -30,7 +30,8 @@ pub extern "C" fn feksroum_max_payload(frame_max: u32) -> u32
 pub extern "C" fn feksroum_body_head(channel: u16, payload_len: u32, out: &mut [u8]) -> usize
     ensures written { WritesFront (head body_byte channel payload_len) out.old out.new result }
     ensures frame { (content : List ℕ) → length content ≡ payload_len
-        → head body_byte channel payload_len ++ (content ++ end_byte ∷ []) ≡ canon (Body channel content) }
+        → head body_byte channel payload_len ++ (content ++ end_byte ∷ [])
+        ≡ canon (Body channel content) }
 {
     let head = frame_head(FRAME_BODY, channel, payload_len);
     if head.len() <= out.len() {

@@ -1,10 +1,17 @@
 //! Frames, and contents that stand alone, as heads and nodes mean them.
 
-ghost use Rattle.std.specs.Prelude.{◌≡◌};
+ghost use Rattle.std.specs.Prelude.{◌≡◌, ℕ, List, take};
 ghost use Rattle.amqp_types.specs.Tags.{tag_at};
+ghost use Rattle.amqp_wire.specs.Frames.{Frame};
+ghost use Rattle.amqp_fields.specs.Canonical.{AreCanonicalInOrder};
 ghost use Rattle.amqp_fields.specs.MadeFrames.{made_frames};
+ghost use Rattle.amqp_fields.specs.Making.{EncodesEntries, EncodesFrames, EncodesValues};
+ghost use Rattle.amqp_fields.specs.Meant.{TellFrames};
 ghost use Rattle.amqp_fields.specs.Nodes.{cut};
-ghost use Rattle.amqp_c.specs.Making.{Reports, content_made, entries_made, not_written, refusal_status, report_of, values_made};
+ghost use Rattle.amqp_c.specs.Making.{EncodesContent, Reports, ReportsMeant};
+ghost use Rattle.amqp_c.specs.Making.{all_written, content_made};
+ghost use Rattle.amqp_c.specs.Making.{entries_made, not_written};
+ghost use Rattle.amqp_c.specs.Making.{refusal_status, report_of, values_made};
 
 use crate::frames::frame_error;
 use crate::statuses::{BAD_ARGUMENT, BUFFER_TOO_SMALL, TOO_LONG};
@@ -98,7 +105,7 @@ fn report(written: Result<usize, WriteError>) -> WriteReport
 
 /// Writes the frames that heads and nodes mean at the front of a buffer, one after another. The spans of the nodes, and of bodies,
 /// lie in the pool; a payload has at most `max_payload` bytes. Nothing is written but at status 0.
-#[tactic(auto, using(crate::proofs::Reported::made_reported))]
+#[tactic(auto, using(crate::proofs::Reported::made_reported, crate::proofs::Reported::frames_encoded, crate::proofs::Reported::frames_canonical, crate::proofs::Reported::meant_reported))]
 #[unsafe(no_mangle)]
 pub extern "C" fn feksroum_write(
     heads: &[Head],
@@ -107,28 +114,46 @@ pub extern "C" fn feksroum_write(
     max_payload: u32,
     out: &mut [u8],
 ) -> WriteReport
-    ensures written { Reports (made_frames pool.now nodes.now max_payload 0 heads.now) out.old out.new result }
+    ensures written { Reports
+        (made_frames pool.now nodes.now max_payload 0 heads.now) out.old out.new result }
+
+    // What is written encodes the frames that heads and nodes mean.
+    ensures encoded { (count : ℕ) → result ≡ all_written count
+        → EncodesFrames pool.now nodes.now heads.now max_payload out.old out.new count }
+
+    // Where keys ascend and content in the pool is canonical, it is their canonical encoding.
+    ensures canonical { (count : ℕ) → result ≡ all_written count
+        → AreCanonicalInOrder pool.now nodes.now heads.now (take count out.new) }
+
+    // Whatever frames are meant: nothing is refused but what is too long.
+    ensures complete { (frames : List Frame) → TellFrames pool.now nodes.now heads.now frames
+        → ReportsMeant pool.now nodes.now max_payload heads.now frames out.new result }
 {
     report(write_frames(heads, nodes, pool, max_payload, out))
 }
 
 /// The entries of a table.
-#[tactic(auto, using(crate::proofs::Reported::made_reported))]
+#[tactic(auto, using(crate::proofs::Reported::made_reported, crate::proofs::Reported::entries_encoded))]
 fn put_entries(nodes: &[Node], pool: &[u8], out: &mut [u8]) -> WriteReport
     ensures written { Reports (entries_made pool.now nodes.now) out.old out.new result }
+    ensures encoded { (count : ℕ) → result ≡ all_written count
+        → EncodesEntries pool.now nodes.now out.old out.new count }
 {
     report(write_entries(nodes, pool, out))
 }
 
 /// The values of an array.
-#[tactic(auto, using(crate::proofs::Reported::made_reported))]
+#[tactic(auto, using(crate::proofs::Reported::made_reported, crate::proofs::Reported::values_encoded))]
 fn put_values(nodes: &[Node], pool: &[u8], out: &mut [u8]) -> WriteReport
     ensures written { Reports (values_made pool.now nodes.now) out.old out.new result }
+    ensures encoded { (count : ℕ) → result ≡ all_written count
+        → EncodesValues pool.now nodes.now out.old out.new count }
 {
     report(write_values(nodes, pool, out))
 }
 
 /// Writes what fills a table (`kind` is `F`) or an array (`A`) alone, without its length: the nodes are its entries or values.
+#[tactic(auto, using(crate::proofs::Reported::no_content))]
 #[unsafe(no_mangle)]
 pub extern "C" fn feksroum_write_content(
     kind: u8,
@@ -136,7 +161,12 @@ pub extern "C" fn feksroum_write_content(
     pool: &[u8],
     out: &mut [u8],
 ) -> WriteReport
-    ensures written { Reports (content_made (tag_at kind) pool.now nodes.now) out.old out.new result }
+    ensures written { Reports
+        (content_made (tag_at kind) pool.now nodes.now) out.old out.new result }
+
+    // What is written encodes the entries or values that nodes mean.
+    ensures encoded { (count : ℕ) → result ≡ all_written count
+        → EncodesContent (tag_at kind) pool.now nodes.now out.old out.new count }
 {
     match FieldTag::from_byte(kind) {
         Some(FieldTag::FieldTable) => put_entries(nodes, pool, out),

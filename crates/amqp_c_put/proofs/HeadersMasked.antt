@@ -17,7 +17,9 @@ unset_flaw : (set : Bool) (a b : Option PutError) → set ≡ false → flaw_if 
 unset_flaw true a b e = absurd cc
 unset_flaw false a b e = refl
 
-pub without_headers : (p : MaskedProperties) (a b : Item) (f g : Option PutError) (old new : List ℕ) (max channel class body_size : ℕ) (result : Result ℕ PutError)
+-- where no headers are set, what stands for them is not looked at
+pub without_headers : (p : MaskedProperties) (a b : Item) (f g : Option PutError) (old new : List ℕ) (max channel class body_size : ℕ)
+    (result : Result ℕ PutError)
     → flag_at p.mask 13 ≡ false
     → MakesFrame old new max (Head channel (header_with class body_size (masked_options p a))) (masked_flaw p f) result
     → MakesFrame old new max (Head channel (header_with class body_size (masked_options p b))) (masked_flaw p g) result

@@ -6,7 +6,8 @@ use Rattle.amqp_entries.specs.declared.errors.PutError.{PutError}
 use Rattle.amqp_entries.specs.declared.errors.PutError.TheVariants as errors
 use Rattle.amqp_c_put.specs.declared.report.PutReport.{PutReport}
 
--- the status of a content that is not decoded: what else it may have is something that passes its end
+-- the status of a content that is not decoded: what else it may have is something that passes its
+-- end
 abbrev pub content_status : ParserError → ℕ
 content_status faults.NotUtf8 = 18
 content_status faults.UnknownTag = 19

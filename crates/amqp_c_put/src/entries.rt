@@ -2,7 +2,12 @@
 
 ghost use Rattle.std.specs.Prelude.{◌-◌, None};
 ghost use Rattle.amqp_types.specs.Constants.{inner_depth};
-ghost use Rattle.amqp_types.specs.Values.{array_value, boolean_value, byte_array, bytes_value, decimal_value, double, entries_of, float, long_int, long_long_int, long_string, long_uint, short_int, short_short_int, short_short_uint, short_uint, signed_value, table_value, timestamp, unsigned_value, values_of, void_value};
+ghost use Rattle.amqp_types.specs.Values.{array_value, boolean_value, byte_array, bytes_value};
+ghost use Rattle.amqp_types.specs.Values.{decimal_value, double, entries_of, float, long_int};
+ghost use Rattle.amqp_types.specs.Values.{long_long_int, long_string, long_uint, short_int};
+ghost use Rattle.amqp_types.specs.Values.{short_short_int, short_short_uint, short_uint};
+ghost use Rattle.amqp_types.specs.Values.{signed_value, table_value, timestamp};
+ghost use Rattle.amqp_types.specs.Values.{unsigned_value, values_of, void_value};
 ghost use Rattle.amqp_entries.specs.Appending.{AppendsEntry};
 ghost use Rattle.amqp_entries.specs.Contents.{array_flaw, array_in, table_flaw, table_in};
 ghost use Rattle.amqp_entries.specs.Flaws.{long_flaw};

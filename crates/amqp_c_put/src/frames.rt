@@ -3,7 +3,7 @@
 ghost use Rattle.std.specs.Prelude.{◌≡◌, None, false};
 ghost use Rattle.amqp_types.specs.Flags.{flag_at};
 ghost use Rattle.amqp_wire.specs.Frames.{Beat, Body, Head, Proto};
-ghost use Rattle.amqp_put.specs.Headers.{header_with, masked_flaw, masked_options};
+ghost use Rattle.amqp_put.specs.Headers.{HasNoUnusedBit, header_with, masked_flaw, masked_options};
 ghost use Rattle.amqp_put.specs.MadeFrames.{MakesEight, MakesFrame};
 ghost use Rattle.amqp_c_put.specs.Headers.{headers_flaw, headers_item};
 ghost use Rattle.amqp_c_put.specs.Reports.{Reports, refused};
@@ -69,7 +69,7 @@ pub extern "C" fn feksroum_put_content_header(
         (Head channel (header_with CLASS_BASIC body_size
         (masked_options properties.now (headers_item properties.now))))
         (masked_flaw properties.now (headers_flaw properties.now))) result }
-    ensures unused { ¬ ((flag_at properties.now.mask 1 ≡ false) × (flag_at properties.now.mask 0 ≡ false))
+    ensures unused { ¬ (HasNoUnusedBit properties.now.mask)
         → (result ≡ refused BAD_ARGUMENT) × (out.new ≡ out.old) }
 {
     if !properties.has_no_unused_bit() {

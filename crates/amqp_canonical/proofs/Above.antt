@@ -25,13 +25,18 @@ numbers_decide a b x y differ up down = (
   ],
 )
 
+-- Keys whose first eight bytes differ as numbers stand in ascending order exactly where these numbers do.
 pub lead_decides : (a b : List ℕ) (x y : ℕ) → IsBytes a → IsBytes b → x ≡ leading 8 a → y ≡ leading 8 b → (x ≡ y → ⊥) → IsTrue (nat_lt x y) ↔ IsBelow a b
 lead_decides a b x y fa fb first second differ =
-    numbers_decide a b x y differ (λ less. leading-tells 8 a b fa fb (omega (arith, first, second, less))) (λ more. leading-tells 8 b a fb fa (omega (arith, first, second, more)))
+    numbers_decide a b x y differ (λ less. leading-tells 8 a b fa fb (omega (arith, first, second, less)))
+    (λ more. leading-tells 8 b a fb fa (omega (arith, first, second, more)))
 
-pub next_decide : (a b : List ℕ) (x y : ℕ) → IsBytes a → IsBytes b → leading 8 a ≡ leading 8 b → x ≡ leading 2 (drop 8 a) → y ≡ leading 2 (drop 8 b) → (x ≡ y → ⊥) → IsTrue (nat_lt x y) ↔ IsBelow a b
+-- Keys with the same first eight bytes and different next two stand in ascending order exactly where the numbers of these two do.
+pub next_decide : (a b : List ℕ) (x y : ℕ) → IsBytes a → IsBytes b → leading 8 a ≡ leading 8 b
+    → x ≡ leading 2 (drop 8 a) → y ≡ leading 2 (drop 8 b) → (x ≡ y → ⊥) → IsTrue (nat_lt x y) ↔ IsBelow a b
 next_decide a b x y fa fb same first second differ =
-    numbers_decide a b x y differ (λ less. later-tells 8 2 a b fa fb same (omega (arith, first, second, less))) (λ more. later-tells 8 2 b a fb fa (sym same) (omega (arith, first, second, more)))
+    numbers_decide a b x y differ (λ less. later-tells 8 2 a b fa fb same (omega (arith, first, second, less)))
+    (λ more. later-tells 8 2 b a fb fa (sym same) (omega (arith, first, second, more)))
 
 -- the first bytes of an empty key
 pub none_leads : 0 ≡ leading 8 []

@@ -1,5 +1,6 @@
 -- Values and entries that were decoded, up to a place.
-use Rattle.std.proofs.Common.{◌≡◌, ℕ, zero, suc, ◌+◌, ◌<◌, ◌≤◌, ◌↔◌, ◌⊎◌, inl, inr, Bool, true, false, ◌&&◌, IsTrue, List, [], ◌∷◌, ◌++◌, length, take, drop, Ok, refl, sym, ap, ap₂, subst, ◌∙◌, append-nil, append_assoc, arith, true≢false}
+use Rattle.std.proofs.Common.{◌≡◌, ℕ, zero, suc, ◌+◌, ◌<◌, ◌≤◌, ◌↔◌, ◌⊎◌, inl, inr, Bool, true, false, ◌&&◌, IsTrue, List, [], ◌∷◌, ◌++◌, length, take, drop}
+use Rattle.std.proofs.Common.{Ok, refl, sym, ap, ap₂, subst, ◌∙◌, append-nil, append_assoc, arith, true≢false}
 use Rattle.std.proofs.lemmas.Cmp.{nat_list_cmp_total}
 use Rattle.std.proofs.lemmas.List.{length-append, length-take-le, length-drop, drop-drop}
 use Rattle.std.proofs.Math.Seq.{take-add}
@@ -29,6 +30,7 @@ use Rattle.amqp_canonical.specs.Writes.{entry_bytes}
 use Rattle.amqp_canonical.proofs.Placed.{all_at_last}
 
 -- ---- the values up to a place, and what is said of them
+-- the values up to a place, and whether their bytes are canonical
 pub record ValuesTo (room : ℕ) (content : List ℕ) (at : ℕ) (canonical : Bool) : Type 0 where
   pub things : List FieldValue
   pub rest : after things (filled (judge_value room) 0 (drop at content)) ≡ filled (judge_value room) 0 content
@@ -49,15 +51,18 @@ pub record EntriesTo (room : ℕ) (content : List ℕ) (at : ℕ) (previous : Li
 
 -- ---- tests
 
+-- Where two tests decide, their conjunction decides whether both hold.
 pub both_decided : (b c : Bool) (P Q : Type 0) → IsTrue b ↔ P → IsTrue c ↔ Q → IsTrue (b && c) ↔ (P × Q)
 both_decided true c P Q h k = (λ t. (h.0 refl, k.0 t), λ p. k.1 p.1)
 both_decided false c P Q h k = (λ t. absurd (true≢false (sym t)), λ p. h.1 p.0)
 
+-- A test that decides one statement decides each equivalent one.
 pub decided_as : (b : Bool) (P Q : Type 0) → IsTrue b ↔ P → (P → Q) → (Q → P) → IsTrue b ↔ Q
 decided_as b P Q h f g = (λ t. f (h.0 t), λ q. h.1 (g q))
 
 -- ---- two lists of bytes, one after the other
 
+-- Where two parts one after the other make the same list as two others, and are no shorter part by part, they are the same parts.
 pub split_two : (a b x y : List ℕ) → a ++ b ≡ x ++ y → length x ≤ length a → length y ≤ length b → (a ≡ x) × (b ≡ y)
 split_two [] b [] y h few less = (refl, h)
 split_two [] b (c ∷ x) y h few less = absurd (omega (arith, few))
@@ -68,6 +73,7 @@ split_two (c ∷ a) b (d ∷ x) y h few less =
     let more = split_two a b x y others (omega (arith, few)) less in
     (ap₂ (λ e es. e ∷ es) first more.0, more.1)
 
+-- As many first bytes as there are, or more, are all bytes.
 pub take_all : (content : List ℕ) (at : ℕ) → length content ≤ at → take at content ≡ content
 take_all [] zero h = refl
 take_all [] (suc at) h = refl
@@ -75,12 +81,15 @@ take_all (b ∷ content) zero h = absurd (omega arith)
 take_all (b ∷ content) (suc at) h = ap (λ bs. b ∷ bs) (take_all content at (omega arith))
 
 -- what stands up to a place, and after it
-module _ (content : List ℕ) (at n : ℕ) (old new : List ℕ) (within : at ≤ length content) (fits : n ≤ length (drop at content)) (less : length old ≤ at) (few : length new ≤ n) where
+module _ (content : List ℕ) (at n : ℕ) (old new : List ℕ) (within : at ≤ length content)
+    (fits : n ≤ length (drop at content)) (less : length old ≤ at) (few : length new ≤ n) where
   pub stands_both : (take at content ≡ old) × (take n (drop at content) ≡ new) → take (at + n) content ≡ old ++ new
   stands_both h = take-add at n content ∙ ap₂ (λ a b. a ++ b) h.0 h.1
 
   pub stands_each : take (at + n) content ≡ old ++ new → (take at content ≡ old) × (take n (drop at content) ≡ new)
-  stands_each h = split_two (take at content) (take n (drop at content)) old new (sym (take-add at n content) ∙ h) (omega (arith, less, length-take-le at content within)) (omega (arith, few, length-take-le n (drop at content) fits))
+  stands_each h =
+      split_two (take at content) (take n (drop at content)) old new (sym (take-add at n content) ∙ h)
+      (omega (arith, less, length-take-le at content within)) (omega (arith, few, length-take-le n (drop at content) fits))
 
 -- ---- values
 
@@ -88,6 +97,7 @@ pub values_last : (vs : List FieldValue) (v : FieldValue) → values_bytes (valu
 values_last [] v = append-nil (tagged_bytes v)
 values_last (w ∷ vs) v = ap (λ bs. tagged_bytes w ++ bs) (values_last vs v) ∙ sym (append_assoc (tagged_bytes w) (values_bytes (values_of vs)) (tagged_bytes v))
 
+-- The canonical bytes of a decoded value are at most the bytes that it took.
 pub value_few : (room : ℕ) (bytes : List ℕ) (v : FieldValue) (n : ℕ) → IsBytes bytes → judge_value room bytes ≡ took v n → length (tagged_bytes v) ≤ n
 value_few room bytes v n fits h =
     let exact = value_exact room in
@@ -95,10 +105,14 @@ value_few room bytes v n fits h =
     let b = value_bounded room (take n bytes) v one.0 in
     omega (arith, b.shorter, length-take-le n bytes one.1)
 
+-- Up to the start there are no values, and the empty bytes are canonical.
 pub values_none : (room : ℕ) (content : List ℕ) → ValuesTo room content 0 true
-values_none room content = record { things = []; rest = after_none (filled (judge_value room) 0 content); decides = (λ t. refl, λ h. refl); shorter = omega arith }
+values_none room content =
+    record { things = []; rest = after_none (filled (judge_value room) 0 content); decides = (λ t. refl, λ h. refl); shorter = omega arith }
 
-pub values_next : (room : ℕ) (content : List ℕ) (at n : ℕ) (v : FieldValue) (canonical d : Bool) → IsBytes content → at < length content → judge_value room (drop at content) ≡ took v n → 0 < n → n ≤ length (drop at content)
+-- With one value more, the values up to its end are canonical exactly where it is and those before it are.
+pub values_next : (room : ℕ) (content : List ℕ) (at n : ℕ) (v : FieldValue) (canonical d : Bool) → IsBytes content
+    → at < length content → judge_value room (drop at content) ≡ took v n → 0 < n → n ≤ length (drop at content)
     → IsTrue d ↔ (take n (drop at content) ≡ tagged_bytes v) → ValuesTo room content at canonical → ValuesTo room content (at + n) (canonical && d)
 values_next room content at n v canonical d bytes more is up fits decides h =
     let some : 0 < length (drop at content) = omega (arith, length-drop at content) in
@@ -116,16 +130,23 @@ values_next room content at n v canonical d bytes more is up fits decides h =
       shorter = omega (arith, ap length last, length-append old (tagged_bytes v), h.shorter, few);
     }
 
-pub values_end : (room : ℕ) (content : List ℕ) (at : ℕ) (canonical : Bool) → length content ≤ at → ValuesTo room content at canonical → Fills AreCanonicalValues canonical content (filled (judge_value room) 0 content)
+-- Where the values reach the end of the content, they fill it, and it is said whether they are canonical.
+pub values_end : (room : ℕ) (content : List ℕ) (at : ℕ) (canonical : Bool) → length content ≤ at
+    → ValuesTo room content at canonical → Fills AreCanonicalValues canonical content (filled (judge_value room) 0 content)
 values_end room content at canonical long h =
     let P : List ℕ → Type 0 = λ bs. IsTrue canonical ↔ AreCanonicalValues bs h.things in
-    record { thing = h.things; is = ends (judge_value room) (λ xs. h.things ++ xs) at content _ long h.rest ∙ ap Ok (append-nil h.things); decides = subst P (take_all content at long) h.decides }
+    record {
+      thing = h.things;
+      is = ends (judge_value room) (λ xs. h.things ++ xs) at content _ long h.rest ∙ ap Ok (append-nil h.things);
+      decides = subst P (take_all content at long) h.decides;
+    }
 
 -- ---- keys in ascending order
 
 abbrev AllBelow : List ℕ → List Entry → Type 0
 AllBelow next es = AllByRecursion (λ k. IsBelow k next) (keys_of es)
 
+-- What holds of all keys and of one more key holds of the keys with this one at the end.
 pub all_last : (P : List ℕ → Type 0) (es : List Entry) (e : Entry) → AllByRecursion P (keys_of es) → P e.0 → AllByRecursion P (keys_of (es ++ e ∷ []))
 all_last P [] e h p = (p, tt)
 all_last P (x ∷ es) e h p = (h.0, all_last P es e h.1 p)
@@ -183,7 +204,8 @@ module _ (at : ℕ) (previous key : List ℕ) (v : FieldValue) (above : Bool) wh
 
 entries_last : (es : List Entry) (e : Entry) → entries_bytes (entries_of (es ++ e ∷ [])) ≡ entries_bytes (entries_of es) ++ entry_bytes e
 entries_last [] e = append-nil (entry_bytes e)
-entries_last (x ∷ es) e = ap (λ bs. entry_bytes x ++ bs) (entries_last es e) ∙ sym (append_assoc (entry_bytes x) (entries_bytes (entries_of es)) (entry_bytes e))
+entries_last (x ∷ es) e =
+    ap (λ bs. entry_bytes x ++ bs) (entries_last es e) ∙ sym (append_assoc (entry_bytes x) (entries_bytes (entries_of es)) (entry_bytes e))
 
 entry_few : (room : ℕ) (bytes : List ℕ) (e : Entry) (n : ℕ) → IsBytes bytes → judge_entry (judge_value room) bytes ≡ took e n → length (entry_bytes e) ≤ n
 entry_few room bytes e n fits h =
@@ -192,13 +214,32 @@ entry_few room bytes e n fits h =
     let s = one.0 in
     let b = value_bounded room s.behind s.two s.second_is in
     let joined : length (entry_bytes e) ≡ length (entry_bytes (s.one, s.two)) = ap (λ (x : Entry). length (entry_bytes x)) s.joined in
-    omega (arith, joined, length-append (short_string_bytes s.one) (tagged_bytes s.two), b.shorter, ap length s.first_is.bytes_are, ap length s.bytes_are, length-append s.front s.behind, length-take-le n bytes one.1)
+    omega (
+      arith,
+      joined,
+      length-append (short_string_bytes s.one) (tagged_bytes s.two),
+      b.shorter,
+      ap length s.first_is.bytes_are,
+      ap length s.bytes_are,
+      length-append s.front s.behind,
+      length-take-le n bytes one.1,
+    )
 
+-- Up to the start there are no entries, and the empty bytes are canonical.
 pub entries_none : (room : ℕ) (content : List ℕ) → EntriesTo room content 0 [] true
-entries_none room content = record { things = []; rest = after_none (filled (judge_entry (judge_value room)) 0 content); decides = (λ t. (refl, none_risen), λ h. refl); shorter = omega arith; last = inl (refl, refl) }
+entries_none room content = record {
+  things = [];
+  rest = after_none (filled (judge_entry (judge_value room)) 0 content);
+  decides = (λ t. (refl, none_risen), λ h. refl);
+  shorter = omega arith;
+  last = inl (refl, refl);
+}
 
-pub entries_next : (room : ℕ) (content : List ℕ) (at n : ℕ) (previous key : List ℕ) (v : FieldValue) (canonical d above : Bool) → IsBytes content → at < length content → judge_entry (judge_value room) (drop at content) ≡ took (key, v) n
-    → 0 < n → n ≤ length (drop at content) → IsTrue d ↔ (take n (drop at content) ≡ short_string_bytes key ++ tagged_bytes v) → IsAbove at previous key above → EntriesTo room content at previous canonical → EntriesTo room content (at + n) key ((canonical && d) && above)
+-- With one entry more, the entries are canonical exactly where it is, its key comes after the previous one, and those before it are.
+pub entries_next : (room : ℕ) (content : List ℕ) (at n : ℕ) (previous key : List ℕ) (v : FieldValue) (canonical d above : Bool)
+    → IsBytes content → at < length content → judge_entry (judge_value room) (drop at content) ≡ took (key, v) n
+    → 0 < n → n ≤ length (drop at content) → IsTrue d ↔ (take n (drop at content) ≡ short_string_bytes key ++ tagged_bytes v)
+    → IsAbove at previous key above → EntriesTo room content at previous canonical → EntriesTo room content (at + n) key ((canonical && d) && above)
 entries_next room content at n previous key v canonical d above bytes more is up fits decides over h =
     let e : Entry = (key, v) in
     let some : 0 < length (drop at content) = omega (arith, length-drop at content) in
@@ -212,7 +253,10 @@ entries_next room content at n previous key v canonical d above bytes more is up
       things = h.things ++ e ∷ [];
       rest = ap (λ bs. after (h.things ++ e ∷ []) (filled (judge_entry (judge_value room)) 0 bs)) (sym (drop-drop n at content)) ∙ next;
       decides = decided_as ((canonical && d) && above) _ _ three
-          (λ p. (stands_both content at n old (entry_bytes e) within fits h.shorter few (p.0.0.0, p.0.1) ∙ sym last, rises_more at previous key v above h.things h.last over p.0.0.1 p.1))
+          (λ p. (
+            stands_both content at n old (entry_bytes e) within fits h.shorter few (p.0.0.0, p.0.1) ∙ sym last,
+            rises_more at previous key v above h.things h.last over p.0.0.1 p.1,
+          ))
           (λ q.
           let two = stands_each content at n old (entry_bytes e) within fits h.shorter few (q.0 ∙ last) in
           let rising = rises_less at previous key v above h.things h.last over q.1 in
@@ -221,10 +265,16 @@ entries_next room content at n previous key v canonical d above bytes more is up
       last = inr (omega (arith, up), h.things, v, refl);
     }
 
-pub entries_end : (room : ℕ) (content : List ℕ) (at : ℕ) (previous : List ℕ) (canonical : Bool) → length content ≤ at → EntriesTo room content at previous canonical → Fills AreCanonicalEntries canonical content (filled (judge_entry (judge_value room)) 0 content)
+-- Where the entries reach the end of the content, they fill it, and it is said whether they are canonical.
+pub entries_end : (room : ℕ) (content : List ℕ) (at : ℕ) (previous : List ℕ) (canonical : Bool) → length content ≤ at
+    → EntriesTo room content at previous canonical → Fills AreCanonicalEntries canonical content (filled (judge_entry (judge_value room)) 0 content)
 entries_end room content at previous canonical long h =
     let P : List ℕ → Type 0 = λ bs. IsTrue canonical ↔ AreCanonicalEntries bs h.things in
-    record { thing = h.things; is = ends (judge_entry (judge_value room)) (λ xs. h.things ++ xs) at content _ long h.rest ∙ ap Ok (append-nil h.things); decides = subst P (take_all content at long) h.decides }
+    record {
+      thing = h.things;
+      is = ends (judge_entry (judge_value room)) (λ xs. h.things ++ xs) at content _ long h.rest ∙ ap Ok (append-nil h.things);
+      decides = subst P (take_all content at long) h.decides;
+    }
 
 -- where the entries before are not canonical, it is not said whether the key comes after
 is_less : Ordering → Bool
@@ -243,7 +293,11 @@ tested zero previous key = (true, inl (refl, refl))
 tested (suc at) previous key = (is_less (slice_cmp nat_cmp previous key), inr (omega arith, less_decided (slice_cmp nat_cmp previous key)))
 
 -- where those before are not canonical, the next one is only read
-pub entries_read : (room : ℕ) (content : List ℕ) (at n : ℕ) (previous key : List ℕ) (v : FieldValue) (canonical d : Bool) → IsBytes content → at < length content → judge_entry (judge_value room) (drop at content) ≡ took (key, v) n
-    → 0 < n → n ≤ length (drop at content) → IsTrue d ↔ (take n (drop at content) ≡ short_string_bytes key ++ tagged_bytes v) → (canonical ≡ true → length content ≤ at) → EntriesTo room content at previous canonical → EntriesTo room content (at + n) key canonical
+pub entries_read : (room : ℕ) (content : List ℕ) (at n : ℕ) (previous key : List ℕ) (v : FieldValue) (canonical d : Bool)
+    → IsBytes content → at < length content → judge_entry (judge_value room) (drop at content) ≡ took (key, v) n
+    → 0 < n → n ≤ length (drop at content) → IsTrue d ↔ (take n (drop at content) ≡ short_string_bytes key ++ tagged_bytes v)
+    → (canonical ≡ true → length content ≤ at) → EntriesTo room content at previous canonical → EntriesTo room content (at + n) key canonical
 entries_read room content at n previous key v true d bytes more is up fits decides ended h = absurd (omega (arith, ended refl, more))
-entries_read room content at n previous key v false d bytes more is up fits decides ended h = let test = tested at previous key in entries_next room content at n previous key v false d test.0 bytes more is up fits decides test.1 h
+entries_read room content at n previous key v false d bytes more is up fits decides ended h =
+    let test = tested at previous key in
+    entries_next room content at n previous key v false d test.0 bytes more is up fits decides test.1 h

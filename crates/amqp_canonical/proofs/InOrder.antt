@@ -1,5 +1,6 @@
 -- Entries in the order of their keys, of which the last of each key make the table.
-use Rattle.std.proofs.Common.{◌≡◌, ◌<◌, ◌⊎◌, inl, inr, ℕ, suc, List, [], ◌∷◌, length, map, get_or, Bool, true, false, cond, Option, Some, None, Ordering, Less, Equal, Greater, true≢false, refl, sym, ap, ap₂, subst, ◌∙◌, drop, ◌+◌, arith}
+use Rattle.std.proofs.Common.{◌≡◌, ◌<◌, ◌⊎◌, inl, inr, ℕ, suc, List, [], ◌∷◌, length, map, get_or, Bool, true, false, cond, Option, Some, None, Ordering, Less}
+use Rattle.std.proofs.Common.{Equal, Greater, true≢false, refl, sym, ap, ap₂, subst, ◌∙◌, drop, ◌+◌, arith}
 use Rattle.std.proofs.lemmas.Cmp.{nat_list_cmp_total, tied_itself}
 use Rattle.std.proofs.Math.Seq.{drop-cons}
 use Rattle.std.proofs.lemmas.List.{drop_all}
@@ -54,7 +55,8 @@ below_next a b c less (inl more) = nat_list_cmp_total.trans a b c less more
 below_next a b c less (inr same) = let P : List ℕ → Type 0 = λ k. IsBelow a k in subst P same less
 
 -- the first key is not above any that is kept
-keeps_up : (b : Bool) (P : List ℕ → Type 0) (e : Entry) (es : List Entry) → P e.0 → AllByRecursion P (keys_of es) → AllByRecursion P (keys_of (cond b es (e ∷ es)))
+keeps_up : (b : Bool) (P : List ℕ → Type 0) (e : Entry) (es : List Entry) → P e.0
+    → AllByRecursion P (keys_of es) → AllByRecursion P (keys_of (cond b es (e ∷ es)))
 keeps_up true P e es p h = h
 keeps_up false P e es p h = (p, h)
 
@@ -67,13 +69,15 @@ first_up_to e (next ∷ es) h =
 
 -- a key below all others has no value
 -- a value that stands first stands last, where nothing is found after it
-first_or_later : (b : Bool) (v : FieldValue) (found : Option FieldValue) → (b ≡ true → found ≡ None) → cond b (Some v) found ≡ later found (cond b (Some v) None)
+first_or_later : (b : Bool) (v : FieldValue) (found : Option FieldValue)
+    → (b ≡ true → found ≡ None) → cond b (Some v) found ≡ later found (cond b (Some v) None)
 first_or_later true v found h = ap (λ o. later o (Some v)) (sym (h refl))
 first_or_later false v None h = refl
 first_or_later false v (Some w) h = refl
 
 -- a value of the same key before does not count
-earlier : (b : Bool) (found : Option FieldValue) (v w : FieldValue) → later found (cond b (Some v) None) ≡ later (later found (cond b (Some v) None)) (cond b (Some w) None)
+earlier : (b : Bool) (found : Option FieldValue) (v w : FieldValue)
+    → later found (cond b (Some v) None) ≡ later (later found (cond b (Some v) None)) (cond b (Some w) None)
 earlier true None v w = refl
 earlier true (Some u) v w = refl
 earlier false None v w = refl
@@ -103,7 +107,8 @@ settled_below e es kept above h = record {
       first_or_later (is_at (cmp q) e.0) e.1 (value_at q kept) none ∙ ap (λ o. later o (cond (is_at (cmp q) e.0) (Some e.1) None)) (h.last q);
 }
 
-choose_kept : (b : Bool) (e : Entry) (es kept : List Entry) → (b ≡ true → IsSettled kept es) → (b ≡ false → IsSettled (e ∷ kept) es) → IsSettled (cond b kept (e ∷ kept)) es
+choose_kept : (b : Bool) (e : Entry) (es kept : List Entry) → (b ≡ true → IsSettled kept es)
+    → (b ≡ false → IsSettled (e ∷ kept) es) → IsSettled (cond b kept (e ∷ kept)) es
 choose_kept true e es kept h k = h refl
 choose_kept false e es kept h k = k refl
 
@@ -120,7 +125,8 @@ settled_ties (e ∷ next ∷ es) h =
     let more = settled_ties (next ∷ es) h.1 in
     choose_kept (is_at (cmp e.0) next.0) e (e ∷ next ∷ es) kept (λ tied. settled_tied e next es kept (tells_apart exact_bytes e.0 next.0 tied) more) (λ apart.
     let less = below_or_tied e next h.0 apart in
-    settled_below e (next ∷ es) kept (each_weaker (λ k. IsUpTo next.0 k) (λ k. IsBelow e.0 k) (λ k up. below_next e.0 next.0 k less up) (keys_of kept) (first_up_to next es h.1)) more)
+    settled_below e (next ∷ es) kept
+    (each_weaker (λ k. IsUpTo next.0 k) (λ k. IsBelow e.0 k) (λ k up. below_next e.0 next.0 k less up) (keys_of kept) (first_up_to next es h.1)) more)
 
 -- ---- marks in order
 
@@ -147,7 +153,10 @@ all_after f m [] h = tt
 all_after f m (n ∷ ms) h = (h.0, each_weaker (After f n) (After f m) (λ x a. after_next f m n x h.0 a) ms (all_after f n ms h.1))
 
 precedes : (f : EntryMark → Entry) (m n : EntryMark) → After f m n → Precedes (λ x. (f x).0) (λ x. x.place) m n
-precedes f m n (inl less) same = let P : List ℕ → Type 0 = λ k. IsBelow (f m).0 k in let e : Less ≡ Equal = sym (subst P (sym same) less) ∙ tied_itself nat_list_cmp_total (f m).0 in absurd cc
+precedes f m n (inl less) same =
+    let P : List ℕ → Type 0 = λ k. IsBelow (f m).0 k in
+    let e : Less ≡ Equal = sym (subst P (sym same) less) ∙ tied_itself nat_list_cmp_total (f m).0 in
+    absurd cc
 precedes f m n (inr later) same = later.1
 
 placed_chain : (f : EntryMark → Entry) (ms : List EntryMark) → IsChain f ms → ArePlaced (λ x. (f x).0) (λ x. x.place) ms
@@ -165,19 +174,24 @@ never_fall f (m ∷ n ∷ ms) h = (up_to_after f m n h.0, never_fall f (n ∷ ms
 
 -- ---- the marks of a table
 
-follows_after : (room : ℕ) (content : List ℕ) (m n : EntryMark) → IsRead (entry_at room content m.place) → IsRead (entry_at room content n.place) → Follows content m n → After (marked_entry room content) m n
+follows_after : (room : ℕ) (content : List ℕ) (m n : EntryMark) → IsRead (entry_at room content m.place)
+    → IsRead (entry_at room content n.place) → Follows content m n → After (marked_entry room content) m n
 follows_after room content m n one two (inl less) =
     let P : List ℕ → List ℕ → Type 0 = λ a b. IsBelow a b in
     let Q : List ℕ → Type 0 = λ a. IsBelow a (marked_entry room content n).0 in
     inl (subst Q (entry_key room _ one) (subst (P (key_at content m)) (entry_key room _ two) less))
 follows_after room content m n one two (inr later) = inr (sym (entry_key room _ one) ∙ later.0 ∙ entry_key room _ two, later.1)
 
-chain_of : (room : ℕ) (content : List ℕ) (ms : List EntryMark) → AllByRecursion (λ m. IsRead (entry_at room content m.place)) ms → AreInOrder content ms → IsChain (marked_entry room content) ms
+chain_of : (room : ℕ) (content : List ℕ) (ms : List EntryMark) → AllByRecursion (λ m. IsRead (entry_at room content m.place)) ms
+    → AreInOrder content ms → IsChain (marked_entry room content) ms
 chain_of room content [] read h = tt
 chain_of room content (m ∷ []) read h = (tt, tt)
-chain_of room content (m ∷ n ∷ ms) read h = (follows_after room content m n read.0 read.1.0 (h 0 (omega arith)), chain_of room content (n ∷ ms) read.1 (λ k less. h (suc k) (omega (arith, less))))
+chain_of room content (m ∷ n ∷ ms) read h =
+    (follows_after room content m n read.0 read.1.0 (h 0 (omega arith)), chain_of room content (n ∷ ms) read.1 (λ k less. h (suc k) (omega (arith, less))))
 
-pub marks_of_table : (room : ℕ) (content : List ℕ) (ms sorted : List EntryMark) → AreMarks room content ms → IsPermutation ms sorted → AreInOrder content sorted → AreOfTable room content sorted
+-- Marks of all entries of a content, sorted by key and then by place, make the table that the content is, by the last mark of each key.
+pub marks_of_table : (room : ℕ) (content : List ℕ) (ms sorted : List EntryMark) → AreMarks room content ms
+    → IsPermutation ms sorted → AreInOrder content sorted → AreOfTable room content sorted
 marks_of_table room content ms sorted h moved order =
     let f = marked_entry room content in
     let read = All-permutation (λ m. IsRead (entry_at room content m.place)) ms sorted moved h.read in
@@ -190,10 +204,13 @@ marks_of_table room content ms sorted h moved order =
 
 -- ---- ties among marks
 
-ties_at : (f : EntryMark → Entry) (marks : List EntryMark) (k : ℕ) → k + 1 < length marks → is_at (cmp (f (get_or marks k blank)).0) (f (get_or marks (k + 1) blank)).0 ≡ ties (f (get_or marks k blank)) (map f (drop (k + 1) marks))
+ties_at : (f : EntryMark → Entry) (marks : List EntryMark) (k : ℕ) → k + 1 < length marks
+    → is_at (cmp (f (get_or marks k blank)).0) (f (get_or marks (k + 1) blank)).0 ≡ ties (f (get_or marks k blank)) (map f (drop (k + 1) marks))
 ties_at f marks k more = let one = f (get_or marks k blank) in ap (λ ms. ties one (map f ms)) (sym (drop-cons marks (k + 1) blank more))
 
-pub tied_as : (room : ℕ) (content : List ℕ) (marks : List EntryMark) (k : ℕ) (o : Ordering) → AreRead room content marks → k + 1 < length marks → o ≡ cmp (key_at content (get_or marks k blank)) (key_at content (get_or marks (k + 1) blank))
+-- Comparing the keys at two neighbouring marks says whether the entry at the first one has the same key as the next.
+pub tied_as : (room : ℕ) (content : List ℕ) (marks : List EntryMark) (k : ℕ) (o : Ordering) → AreRead room content marks
+    → k + 1 < length marks → o ≡ cmp (key_at content (get_or marks k blank)) (key_at content (get_or marks (k + 1) blank))
     → is_eq o ≡ ties (marked_entry room content (get_or marks k blank)) (map (marked_entry room content) (drop (k + 1) marks))
 tied_as room content marks k o read more is =
     let one = entry_key room _ (read k blank (omega arith)) in

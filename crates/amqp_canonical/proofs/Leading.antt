@@ -1,5 +1,6 @@
 -- Keys whose first bytes differ stand as the numbers of those bytes do.
-use Rattle.std.proofs.Common.{◌≡◌, ◌<◌, ◌≤◌, inl, inr, ℕ, zero, suc, ◌+◌, ◌*◌, ◌^◌, Bool, true, false, List, [], ◌∷◌, ◌++◌, length, get_or, drop, nat_eq, nat_lt, refl, sym, ap, ap₂, subst, ◌∙◌, arith}
+use Rattle.std.proofs.Common.{◌≡◌, ◌<◌, ◌≤◌, inl, inr, ℕ, zero, suc, ◌+◌, ◌*◌, ◌^◌, Bool, true, false, List, [], ◌∷◌, ◌++◌, length, get_or, drop, nat_eq}
+use Rattle.std.proofs.Common.{nat_lt, refl, sym, ap, ap₂, subst, ◌∙◌, arith}
 use Rattle.std.proofs.lemmas.Cmp.{nat_list_cmp_total, tied_itself}
 use Rattle.std.proofs.lemmas.List.{get_or-drop, drop-drop, length-take}
 use Rattle.std.proofs.lemmas.List.Elements.{All-nil, All-cons, All-append}
@@ -52,7 +53,11 @@ leading-tells (suc n) (x ∷ xs) (y ∷ ys) fa fb less =
     elim (cases_lt x y) [
       | inl lower ↦ below_first x y xs ys lower
       | inr higher ↦ elim (cases_eq x y) [
-        | inl same ↦ below_rest x y xs ys same (leading-tells n xs ys (λ k. fa (suc k)) (λ k. fb (suc k)) (let P : ℕ → Type 0 = λ z. x * 256 ^ n + leading n xs < z * 256 ^ n + leading n ys in let h : x * 256 ^ n + leading n xs < x * 256 ^ n + leading n ys = subst P (sym same) less in omega (arith, h)))
+        | inl same ↦
+            below_rest x y xs ys same (leading-tells n xs ys (λ k. fa (suc k)) (λ k. fb (suc k))
+            (let P : ℕ → Type 0 = λ z. x * 256 ^ n + leading n xs < z * 256 ^ n + leading n ys in
+            let h : x * 256 ^ n + leading n xs < x * 256 ^ n + leading n ys = subst P (sym same) less in
+            omega (arith, h)))
         | inr other ↦ absurd (
             let more : y + 1 ≤ x = omega (arith, higher, other) in
             let product : (y + 1) * 256 ^ n ≤ x * 256 ^ n = mul-le-mul_right (256 ^ n) more in
@@ -110,7 +115,8 @@ shorter_first (suc n) (x ∷ xs) (y ∷ ys) fa fb same short less =
     below_rest x y xs ys first.0 (shorter_first n xs ys (λ k. fa (suc k)) (λ k. fb (suc k)) first.1 (omega (arith, short)) (omega (arith, less)))
 
 -- and so where m more are the same
-later_shorter : (n m : ℕ) (a b : List ℕ) → IsBytes a → IsBytes b → leading n a ≡ leading n b → leading m (drop n a) ≡ leading m (drop n b) → length a ≤ n + m → length a < length b → IsBelow a b
+later_shorter : (n m : ℕ) (a b : List ℕ) → IsBytes a → IsBytes b → leading n a ≡ leading n b
+    → leading m (drop n a) ≡ leading m (drop n b) → length a ≤ n + m → length a < length b → IsBelow a b
 unfolding leading
 later_shorter zero m a b fa fb same next short less = shorter_first m a b fa fb next (omega (arith, short)) less
 later_shorter (suc n) m [] [] fa fb same next short less = absurd (omega (arith, less))
@@ -136,7 +142,8 @@ same_short (suc n) (x ∷ xs) (y ∷ ys) fa fb same short long =
     ap₂ (λ z zs. z ∷ zs) first.0 (same_short n xs ys (λ k. fa (suc k)) (λ k. fb (suc k)) first.1 (omega (arith, short)) (omega (arith, long)))
 
 -- and so where m more are the same
-later_same : (n m : ℕ) (a b : List ℕ) → IsBytes a → IsBytes b → leading n a ≡ leading n b → leading m (drop n a) ≡ leading m (drop n b) → length a ≤ n + m → length a ≡ length b → a ≡ b
+later_same : (n m : ℕ) (a b : List ℕ) → IsBytes a → IsBytes b → leading n a ≡ leading n b
+    → leading m (drop n a) ≡ leading m (drop n b) → length a ≤ n + m → length a ≡ length b → a ≡ b
 unfolding leading
 later_same zero m a b fa fb same next short long = same_short m a b fa fb next (omega (arith, short)) long
 later_same (suc n) m [] [] fa fb same next short long = refl
@@ -150,6 +157,7 @@ later_same (suc n) m (x ∷ xs) (y ∷ ys) fa fb same next short long =
 
 -- ---- the numbers of the bytes
 
+-- Past the end of a key its bytes count as zero.
 pub beyond : (key : List ℕ) (k : ℕ) → length key ≤ k → get_or key k 0 ≡ 0
 beyond [] zero past = refl
 beyond [] (suc k) past = refl
@@ -162,17 +170,35 @@ leading-first n [] = omega (arith, leading-none n)
 leading-first n (b ∷ key) = refl
 
 leading-at : (n k : ℕ) (key : List ℕ) → leading (suc n) (drop k key) ≡ get_or key k 0 * 256 ^ n + leading n (drop (k + 1) key)
-leading-at n k key = leading-first n (drop k key) ∙ ap₂ (λ a b. a * 256 ^ n + leading n b) (rw get_or-drop (ap (λ m. get_or key m 0) (let e : k + 0 ≡ k = omega arith in e))) (drop-drop 1 k key)
+leading-at n k key =
+    leading-first n (drop k key)
+    ∙ ap₂ (λ a b. a * 256 ^ n + leading n b) (rw get_or-drop (ap (λ m. get_or key m 0) (let e : k + 0 ≡ k = omega arith in e))) (drop-drop 1 k key)
 
 leading-zero : (key : List ℕ) → leading 0 key ≡ 0
 unfolding leading
 leading-zero key = refl
 
+-- The number of the two bytes after the first eight of a key is the ninth byte times 256, and the tenth.
 pub two_are : (key : List ℕ) → leading 2 (drop 8 key) ≡ get_or key 8 0 * 256 + get_or key 9 0
 two_are key = omega (arith, leading-at 1 8 key, leading-at 0 9 key, leading-zero (drop 10 key))
 
-pub eight_are : (key : List ℕ) → leading 8 key ≡ get_or key 0 0 * 72057594037927936 + get_or key 1 0 * 281474976710656 + get_or key 2 0 * 1099511627776 + get_or key 3 0 * 4294967296 + get_or key 4 0 * 16777216 + get_or key 5 0 * 65536 + get_or key 6 0 * 256 + get_or key 7 0
-eight_are key = omega (arith, leading-at 7 0 key, leading-at 6 1 key, leading-at 5 2 key, leading-at 4 3 key, leading-at 3 4 key, leading-at 2 5 key, leading-at 1 6 key, leading-at 0 7 key, leading-zero (drop 8 key))
+-- The number of the first eight bytes of a key is the sum of each byte times its power of 256, the first byte the highest.
+pub eight_are : (key : List ℕ)
+    → leading 8 key
+    ≡ get_or key 0 0 * 72057594037927936 + get_or key 1 0 * 281474976710656 + get_or key 2 0 * 1099511627776
+    + get_or key 3 0 * 4294967296 + get_or key 4 0 * 16777216 + get_or key 5 0 * 65536 + get_or key 6 0 * 256 + get_or key 7 0
+eight_are key = omega (
+  arith,
+  leading-at 7 0 key,
+  leading-at 6 1 key,
+  leading-at 5 2 key,
+  leading-at 4 3 key,
+  leading-at 3 4 key,
+  leading-at 2 5 key,
+  leading-at 1 6 key,
+  leading-at 0 7 key,
+  leading-zero (drop 8 key),
+)
 
 -- ---- marks
 
@@ -180,13 +206,19 @@ key_fits : (bytes : List ℕ) → IsBytes bytes → IsBytes (key_in bytes)
 key_fits [] fits = fits
 key_fits (n ∷ bytes) fits = IsBytes-take n bytes (λ k. fits (suc k))
 
-pub lead_tells : (content : List ℕ) (previous mark : EntryMark) → IsBytes content → IsMarkOf content previous → IsMarkOf content mark → previous.lead < mark.lead → Follows content previous mark
+-- A mark with a greater number of the first eight bytes of its key follows one with a less.
+pub lead_tells : (content : List ℕ) (previous mark : EntryMark) → IsBytes content → IsMarkOf content previous
+    → IsMarkOf content mark → previous.lead < mark.lead → Follows content previous mark
 lead_tells content previous mark fits p m less =
-    inl (leading-tells 8 (key_at content previous) (key_at content mark) (key_fits (drop previous.place content) (IsBytes-drop previous.place content fits)) (key_fits (drop mark.place content) (IsBytes-drop mark.place content fits)) (omega (arith, p.first, m.first, less)))
+    inl (leading-tells 8 (key_at content previous) (key_at content mark) (key_fits (drop previous.place content) (IsBytes-drop previous.place content fits))
+    (key_fits (drop mark.place content) (IsBytes-drop mark.place content fits)) (omega (arith, p.first, m.first, less)))
 
-pub more_tells : (content : List ℕ) (previous mark : EntryMark) → IsBytes content → IsMarkOf content previous → IsMarkOf content mark → previous.lead ≡ mark.lead → previous.more < mark.more → Follows content previous mark
+-- Of two marks with the same first eight bytes of their keys, the one with the greater number of the next two follows the other.
+pub more_tells : (content : List ℕ) (previous mark : EntryMark) → IsBytes content → IsMarkOf content previous
+    → IsMarkOf content mark → previous.lead ≡ mark.lead → previous.more < mark.more → Follows content previous mark
 more_tells content previous mark fits p m same less =
-    inl (later-tells 8 2 (key_at content previous) (key_at content mark) (key_fits (drop previous.place content) (IsBytes-drop previous.place content fits)) (key_fits (drop mark.place content) (IsBytes-drop mark.place content fits)) (sym p.first ∙ same ∙ m.first) (omega (arith, p.next, m.next, less)))
+    inl (later-tells 8 2 (key_at content previous) (key_at content mark) (key_fits (drop previous.place content) (IsBytes-drop previous.place content fits))
+    (key_fits (drop mark.place content) (IsBytes-drop mark.place content fits)) (sym p.first ∙ same ∙ m.first) (omega (arith, p.next, m.next, less)))
 
 -- a key has at most 255 bytes
 pub key_is_short : (bytes : List ℕ) → IsBytes bytes → length (key_in bytes) < 256
@@ -197,19 +229,25 @@ key_at_fits : (content : List ℕ) (mark : EntryMark) → IsBytes content → Is
 key_at_fits content mark fits = key_fits (drop mark.place content) (IsBytes-drop mark.place content fits)
 
 -- where the numbers are the same, a key of no more bytes than these comes before a longer one
-pub size_tells : (content : List ℕ) (previous mark : EntryMark) → IsBytes content → IsMarkOf content previous → IsMarkOf content mark → previous.lead ≡ mark.lead → previous.more ≡ mark.more → previous.key_size ≤ 10 → previous.key_size < mark.key_size
+pub size_tells : (content : List ℕ) (previous mark : EntryMark) → IsBytes content → IsMarkOf content previous → IsMarkOf content mark
+    → previous.lead ≡ mark.lead → previous.more ≡ mark.more → previous.key_size ≤ 10 → previous.key_size < mark.key_size
     → Follows content previous mark
 size_tells content previous mark fits p m same next short less =
-    inl (later_shorter 8 2 (key_at content previous) (key_at content mark) (key_at_fits content previous fits) (key_at_fits content mark fits) (sym p.first ∙ same ∙ m.first) (sym p.next ∙ next ∙ m.next) (omega (arith, p.key_length, short)) (omega (arith, p.key_length, m.key_length, less)))
+    inl (later_shorter 8 2 (key_at content previous) (key_at content mark) (key_at_fits content previous fits) (key_at_fits content mark fits)
+    (sym p.first ∙ same ∙ m.first) (sym p.next ∙ next ∙ m.next) (omega (arith, p.key_length, short)) (omega (arith, p.key_length, m.key_length, less)))
 
 -- and two of one length are the same
-pub size_ties : (content : List ℕ) (a b : EntryMark) → IsBytes content → IsMarkOf content a → IsMarkOf content b → a.lead ≡ b.lead → a.more ≡ b.more → a.key_size ≡ b.key_size → a.key_size ≤ 10 → key_at content a ≡ key_at content b
+pub size_ties : (content : List ℕ) (a b : EntryMark) → IsBytes content → IsMarkOf content a → IsMarkOf content b
+    → a.lead ≡ b.lead → a.more ≡ b.more → a.key_size ≡ b.key_size → a.key_size ≤ 10 → key_at content a ≡ key_at content b
 size_ties content a b fits p q same next long short =
-    later_same 8 2 (key_at content a) (key_at content b) (key_at_fits content a fits) (key_at_fits content b fits) (sym p.first ∙ same ∙ q.first) (sym p.next ∙ next ∙ q.next) (omega (arith, p.key_length, short)) (sym p.key_length ∙ long ∙ q.key_length)
+    later_same 8 2 (key_at content a) (key_at content b) (key_at_fits content a fits) (key_at_fits content b fits)
+    (sym p.first ∙ same ∙ q.first) (sym p.next ∙ next ∙ q.next) (omega (arith, p.key_length, short)) (sym p.key_length ∙ long ∙ q.key_length)
 
 -- marks of one key have the same numbers
-pub same_lead : (content : List ℕ) (a b : EntryMark) → IsMarkOf content a → IsMarkOf content b → key_at content a ≡ key_at content b → (a.lead ≡ b.lead) × (a.more ≡ b.more) × (a.key_size ≡ b.key_size)
-same_lead content a b p q same = (p.first ∙ ap (leading 8) same ∙ sym q.first, p.next ∙ ap (λ k. leading 2 (drop 8 k)) same ∙ sym q.next, p.key_length ∙ ap length same ∙ sym q.key_length)
+pub same_lead : (content : List ℕ) (a b : EntryMark) → IsMarkOf content a → IsMarkOf content b
+    → key_at content a ≡ key_at content b → (a.lead ≡ b.lead) × (a.more ≡ b.more) × (a.key_size ≡ b.key_size)
+same_lead content a b p q same =
+    (p.first ∙ ap (leading 8) same ∙ sym q.first, p.next ∙ ap (λ k. leading 2 (drop 8 k)) same ∙ sym q.next, p.key_length ∙ ap length same ∙ sym q.key_length)
 
 -- keys that differ
 pub never : (a b : List ℕ) → (a ≡ b → ⊥) → IsTrue false ↔ (a ≡ b)
@@ -221,11 +259,15 @@ always a b same = (λ t. same, λ e. refl)
 
 -- a test that holds exactly where two keys are the same
 pub same_test : (a b : List ℕ) (r : Bool) → IsTrue r ↔ (a ≡ b) → r ≡ is_eq (slice_cmp nat_cmp a b)
-same_test a b true h = let P : List ℕ → Type 0 = λ k. is_eq (slice_cmp nat_cmp a k) ≡ true in sym (subst P (h.0 refl) (ap is_eq (tied_itself nat_list_cmp_total a)))
+same_test a b true h =
+    let P : List ℕ → Type 0 = λ k. is_eq (slice_cmp nat_cmp a k) ≡ true in
+    sym (subst P (h.0 refl) (ap is_eq (tied_itself nat_list_cmp_total a)))
 same_test a b false h = elim (cases_Bool (is_eq (slice_cmp nat_cmp a b))) [
   | inl tied ↦ h.1 (tells_apart exact_bytes a b tied) ∙ sym tied
   | inr apart ↦ sym apart
 ]
 
-pub all_marked : (content : List ℕ) (marks : List EntryMark) (mark : EntryMark) → All (IsMarkOf content) marks → IsMarkOf content mark → All (IsMarkOf content) (marks ++ mark ∷ [])
+-- Marks of entries with one more mark of an entry at the end are marks of entries.
+pub all_marked : (content : List ℕ) (marks : List EntryMark) (mark : EntryMark)
+    → All (IsMarkOf content) marks → IsMarkOf content mark → All (IsMarkOf content) (marks ++ mark ∷ [])
 all_marked content marks mark h one = All-append (IsMarkOf content) marks (mark ∷ []) h (All-cons (IsMarkOf content) mark [] one (All-nil (IsMarkOf content)))

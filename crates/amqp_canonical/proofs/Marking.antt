@@ -23,6 +23,7 @@ pub record EntriesTo (room : ℕ) (content : List ℕ) (at : ℕ) (front : List 
   pub left : IsFilled (filled (judge_entry (judge_value room)) 0 (drop at content))
   pub all : front ++ items_of (filled (judge_entry (judge_value room)) 0 (drop at content)) ≡ entries_in room content
 
+-- Where the content is entries, at its start all of them are left.
 pub entries_none : (room : ℕ) (content : List ℕ) → AreEntries room content → EntriesTo room content 0 []
 entries_none room content h = record { left = h; all = refl }
 
@@ -34,7 +35,9 @@ pub record EntryHere (room : ℕ) (content : List ℕ) (at size : ℕ) (front : 
   pub within : at + size ≤ length content
   pub next : EntriesTo room content (at + size) (front ++ judged_entry (entry_at room content at) ∷ [])
 
-pub entries_next : (room : ℕ) (content : List ℕ) (at size : ℕ) (front : List Entry) → IsBytes content → at < length content → (IsRead (entry_at room content at) → size ≡ used_by (entry_at room content at)) → EntriesTo room content at front → EntryHere room content at size front
+-- Where the content does not end at a place, an entry stands there, and the entries go on after its size.
+pub entries_next : (room : ℕ) (content : List ℕ) (at size : ℕ) (front : List Entry) → IsBytes content → at < length content
+    → (IsRead (entry_at room content at) → size ≡ used_by (entry_at room content at)) → EntriesTo room content at front → EntryHere room content at size front
 entries_next room content at size front fits more sized h =
     let one = first_entry room (drop at content) (IsBytes-drop at content fits) (omega (arith, length-drop at content)) h.left in
     let read = is_read (entry_at room content at) one.thing one.size one.is in
@@ -55,12 +58,15 @@ entries_next room content at size front fits more sized h =
       };
     }
 
-pub entries_end : (room : ℕ) (content : List ℕ) (at : ℕ) (front : List Entry) → length content ≤ at → EntriesTo room content at front → front ≡ entries_in room content
+-- Where a place is the end of the content, the entries up to it are all entries.
+pub entries_end : (room : ℕ) (content : List ℕ) (at : ℕ) (front : List Entry)
+    → length content ≤ at → EntriesTo room content at front → front ≡ entries_in room content
 entries_end room content at front long h =
     sym (append-nil front) ∙ ap (λ es. front ++ es) (sym (none_filled (judge_entry (judge_value room)) content at long)) ∙ h.all
 
 -- ---- and are marked
 
+-- marks of all entries up to a place, in the order in which they stand
 pub record MarkedTo (room : ℕ) (content : List ℕ) (at : ℕ) (marks : List EntryMark) : Type 0 where
   pub read : AreRead room content marks
   pub entries : EntriesTo room content at (map (marked_entry room content) marks)
@@ -70,7 +76,9 @@ pub record MarkedTo (room : ℕ) (content : List ℕ) (at : ℕ) (marks : List E
 pub marked_none : (room : ℕ) (content : List ℕ) → AreEntries room content → MarkedTo room content 0 []
 marked_none room content h = record { read = All-nil _; entries = entries_none room content h; placed = tt; below = tt }
 
-pub marked_next : (room : ℕ) (content : List ℕ) (at size : ℕ) (marks : List EntryMark) (mark : EntryMark) → IsBytes content → at < length content → (IsRead (entry_at room content at) → size ≡ used_by (entry_at room content at)) → mark.place ≡ at → MarkedTo room content at marks
+-- Marks of the entries up to a place, and one at the place, are marks of the entries up to the end of that entry.
+pub marked_next : (room : ℕ) (content : List ℕ) (at size : ℕ) (marks : List EntryMark) (mark : EntryMark) → IsBytes content → at < length content
+    → (IsRead (entry_at room content at) → size ≡ used_by (entry_at room content at)) → mark.place ≡ at → MarkedTo room content at marks
     → MarkedTo room content (at + size) (marks ++ mark ∷ [])
 marked_next room content at size marks mark fits more sized is h =
     let f = marked_entry room content in
@@ -80,11 +88,19 @@ marked_next room content at size marks mark fits more sized is h =
     let R : List Entry → Type 0 = λ es. EntriesTo room content (at + size) es in
     let read : IsRead (entry_at room content mark.place) = subst P (sym is) here.read in
     record {
-      read = All-append (λ m. IsRead (entry_at room content m.place)) marks (mark ∷ []) h.read (All-cons (λ m. IsRead (entry_at room content m.place)) mark [] read (All-nil _));
+      read =
+          All-append (λ m. IsRead (entry_at room content m.place)) marks (mark ∷ []) h.read
+          (All-cons (λ m. IsRead (entry_at room content m.place)) mark [] read (All-nil _));
       entries = subst R (sym (map-append f marks (mark ∷ []))) (subst Q (sym is) here.next);
-      placed = placed_last (λ m. (f m).0) (λ m. m.place) marks mark h.placed (each_weaker (λ m. m.place < at) (λ m. Precedes (λ x. (f x).0) (λ x. x.place) m mark) (λ m less same. omega (arith, less, is)) marks h.below);
-      below = all_push (λ m. m.place < at + size) marks mark (each_weaker (λ m. m.place < at) (λ m. m.place < at + size) (λ m less. omega (arith, less)) marks h.below) (omega (arith, is, here.some));
+      placed =
+          placed_last (λ m. (f m).0) (λ m. m.place) marks mark h.placed
+          (each_weaker (λ m. m.place < at) (λ m. Precedes (λ x. (f x).0) (λ x. x.place) m mark) (λ m less same. omega (arith, less, is)) marks h.below);
+      below =
+          all_push (λ m. m.place < at + size) marks mark
+          (each_weaker (λ m. m.place < at) (λ m. m.place < at + size) (λ m less. omega (arith, less)) marks h.below) (omega (arith, is, here.some));
     }
 
-pub marked_end : (room : ℕ) (content : List ℕ) (at : ℕ) (marks : List EntryMark) → length content ≤ at → MarkedTo room content at marks → AreMarks room content marks
+-- Marks of the entries up to the end of the content are marks of all of its entries.
+pub marked_end : (room : ℕ) (content : List ℕ) (at : ℕ) (marks : List EntryMark)
+    → length content ≤ at → MarkedTo room content at marks → AreMarks room content marks
 marked_end room content at marks long h = record { read = h.read; entries = entries_end room content at _ long h.entries; placed = h.placed }

@@ -1,5 +1,6 @@
 -- The entry with the least key after another.
-use Rattle.std.proofs.Common.{◌≡◌, ◌≢◌, ◌⊎◌, inl, inr, ℕ, ◌+◌, ◌≤◌, List, [], ◌∷◌, ◌++◌, length, drop, Bool, true, false, cond, Option, Some, None, Ordering, Less, Equal, Greater, Bor, refl, sym, ap, subst, ◌∙◌, append_assoc}
+use Rattle.std.proofs.Common.{◌≡◌, ◌≢◌, ◌⊎◌, inl, inr, ℕ, ◌+◌, ◌≤◌, List, [], ◌∷◌, ◌++◌, length, drop, Bool, true, false, cond, Option, Some, None, Ordering}
+use Rattle.std.proofs.Common.{Less, Equal, Greater, Bor, refl, sym, ap, subst, ◌∙◌, append_assoc}
 use Rattle.std.proofs.lemmas.Cmp.{nat_list_cmp_total, tied_itself}
 use Rattle.std.proofs.lemmas.Map.Lookups.{exact_bytes}
 use Rattle.std.proofs.lemmas.Map.Views.{tells_apart}
@@ -40,10 +41,12 @@ other_by : (b : Bool) (q : List ℕ) (es : List Entry) (e : Entry) → is_at (cm
 other_by true q es e is differ = absurd (differ (tells_apart exact_bytes q e.0 is))
 other_by false q es e is differ = last_push q es e ∙ ap (λ b. later (cond b (Some e.1) None) (last_at q es)) is
 
+-- One more entry with another key leaves the last value of a key.
 pub last_other : (q : List ℕ) (es : List Entry) (e : Entry) → (q ≡ e.0 → ⊥) → last_at q (es ++ e ∷ []) ≡ last_at q es
 last_other q es e differ = other_by (is_at (cmp q) e.0) q es e refl differ
 
-before_by : (b : Bool) (q : List ℕ) (es : List Entry) (e : Entry) (w : FieldValue) → is_at (cmp q) e.0 ≡ b → last_at q (es ++ e ∷ []) ≡ Some w → (q ≡ e.0) ⊎ (last_at q es ≡ Some w)
+before_by : (b : Bool) (q : List ℕ) (es : List Entry) (e : Entry) (w : FieldValue)
+    → is_at (cmp q) e.0 ≡ b → last_at q (es ++ e ∷ []) ≡ Some w → (q ≡ e.0) ⊎ (last_at q es ≡ Some w)
 before_by true q es e w is h = inl (tells_apart exact_bytes q e.0 is)
 before_by false q es e w is h = inr (sym (last_push q es e ∙ ap (λ b. later (cond b (Some e.1) None) (last_at q es)) is) ∙ h)
 
@@ -133,23 +136,29 @@ module _ (last : Option (List ℕ)) (es : List Entry) (e : Entry) where
 
 -- ---- the entries up to a place are looked at
 
+-- the bytes of a borrowed key
 abbrev pub view : Bor (List ℕ) → List ℕ
 view k = k.now
 
+-- the entry with the least key after another one, among the entries up to a place
 pub record LookedTo (room : ℕ) (content : List ℕ) (last : Option (List ℕ)) (at : ℕ) (found : Option (ℕ × Bor (List ℕ))) : Type 0 where
   pub front : List Entry
   pub entries : EntriesTo room content at front
   pub finds : FindsNext view room content last front found
 
 pub looked_none : (room : ℕ) (content : List ℕ) (last : Option (List ℕ)) → AreEntries room content → LookedTo room content last 0 None
-looked_none room content last h = record { front = []; entries = entries_none room content h; finds = λ other w later value. let e : None ≡ Some w = value in cc }
+looked_none room content last h =
+    record { front = []; entries = entries_none room content h; finds = λ other w later value. let e : None ≡ Some w = value in cc }
 
 -- the key at the place is that of the entry
-pub key_here : (room : ℕ) (content : List ℕ) (at : ℕ) (key : List ℕ) → IsRead (entry_at room content at) → key ≡ key_in (drop at content) → key ≡ (judged_entry (entry_at room content at)).0
+pub key_here : (room : ℕ) (content : List ℕ) (at : ℕ) (key : List ℕ) → IsRead (entry_at room content at)
+    → key ≡ key_in (drop at content) → key ≡ (judged_entry (entry_at room content at)).0
 key_here room content at key read is = is ∙ entry_key room (drop at content) read
 
-finds_taken : (room : ℕ) (content : List ℕ) (last : Option (List ℕ)) (at : ℕ) (key : Bor (List ℕ)) (front : List Entry) (found : Option (ℕ × Bor (List ℕ))) → IsRead (entry_at room content at) → key.now ≡ (judged_entry (entry_at room content at)).0
-    → IsAfter last key.now → ComesFirst view key.now found → FindsNext view room content last front found → FindsNext view room content last (front ++ judged_entry (entry_at room content at) ∷ []) (Some (at, key))
+finds_taken : (room : ℕ) (content : List ℕ) (last : Option (List ℕ)) (at : ℕ) (key : Bor (List ℕ)) (front : List Entry) (found : Option (ℕ × Bor (List ℕ)))
+    → IsRead (entry_at room content at) → key.now ≡ (judged_entry (entry_at room content at)).0
+    → IsAfter last key.now → ComesFirst view key.now found → FindsNext view room content last front found
+    → FindsNext view room content last (front ++ judged_entry (entry_at room content at) ∷ []) (Some (at, key))
 finds_taken room content last at key front None read is after first h =
     let e = judged_entry (entry_at room content at) in
     let P : List ℕ → Type 0 = λ k. IsAfter last k in
@@ -162,7 +171,8 @@ finds_taken room content last at key front (Some found) read is after first h =
     let R : List ℕ → Type 0 = λ k. cmp k found.1.now ≢ Greater in
     record { read = read; key_is = sym is; next = subst Q (sym is) (next_taken last front e found.1.now _ (subst P is after) (subst R is first) h.next) }
 
-finds_kept : (room : ℕ) (content : List ℕ) (last : Option (List ℕ)) (front : List Entry) (e : Entry) (found : Option (ℕ × Bor (List ℕ))) → (IsAfter last e.0 → ⊥) → FindsNext view room content last front found → FindsNext view room content last (front ++ e ∷ []) found
+finds_kept : (room : ℕ) (content : List ℕ) (last : Option (List ℕ)) (front : List Entry) (e : Entry) (found : Option (ℕ × Bor (List ℕ)))
+    → (IsAfter last e.0 → ⊥) → FindsNext view room content last front found → FindsNext view room content last (front ++ e ∷ []) found
 finds_kept room content last front e None out h = none_kept last front e out h
 finds_kept room content last front e (Some found) out h = record { read = h.read; key_is = h.key_is; next = next_kept last front e found.1.now _ out h.next }
 
@@ -171,9 +181,11 @@ above_by Less h = absurd (h (λ e. cc))
 above_by Equal h = absurd (h (λ e. cc))
 above_by Greater h = refl
 
-finds_stays : (room : ℕ) (content : List ℕ) (last : Option (List ℕ)) (front : List Entry) (e : Entry) (found : Option (ℕ × Bor (List ℕ))) → (ComesFirst view e.0 found → ⊥) → FindsNext view room content last front found → FindsNext view room content last (front ++ e ∷ []) found
+finds_stays : (room : ℕ) (content : List ℕ) (last : Option (List ℕ)) (front : List Entry) (e : Entry) (found : Option (ℕ × Bor (List ℕ)))
+    → (ComesFirst view e.0 found → ⊥) → FindsNext view room content last front found → FindsNext view room content last (front ++ e ∷ []) found
 finds_stays room content last front e None out h = absurd (out tt)
-finds_stays room content last front e (Some found) out h = record { read = h.read; key_is = h.key_is; next = next_stays last front e found.1.now _ (above_by (cmp e.0 found.1.now) out) h.next }
+finds_stays room content last front e (Some found) out h =
+    record { read = h.read; key_is = h.key_is; next = next_stays last front e found.1.now _ (above_by (cmp e.0 found.1.now) out) h.next }
 
 -- ---- which entries of a table are left
 
@@ -187,6 +199,7 @@ all_of : (P : List ℕ → Type 0) → ((k : List ℕ) → P k) → (ks : List (
 all_of P h [] = tt
 all_of P h (k ∷ ks) = (h k, all_of P h ks)
 
+-- Before the first key all entries of the settled table are left.
 pub left_none : (es : List Entry) → IsLeft es None [] (settled es)
 left_none es = record { parts = refl; behind = tt; ahead = all_of (λ k. IsAfter None k) (λ k. tt) (keys_of (settled es)) }
 
@@ -195,7 +208,8 @@ value_by true q e es is differ = absurd (differ (tells_apart exact_bytes q e.0 i
 value_by false q e es is differ = ap (λ b. cond b (Some e.1) (value_at q es)) is
 
 -- a key that is after the last one is not among the first entries
-value_ahead : (last : Option (List ℕ)) (q : List ℕ) (done left : List Entry) → IsAfter last q → AllByRecursion (λ k. IsAfter last k → ⊥) (keys_of done) → value_at q (done ++ left) ≡ value_at q left
+value_ahead : (last : Option (List ℕ)) (q : List ℕ) (done left : List Entry) → IsAfter last q
+    → AllByRecursion (λ k. IsAfter last k → ⊥) (keys_of done) → value_at q (done ++ left) ≡ value_at q left
 value_ahead last q [] left after h = refl
 value_ahead last q (e ∷ done) left after h =
     let P : List ℕ → Type 0 = λ k. IsAfter last k in
@@ -207,20 +221,24 @@ rising_left [] left h = h
 rising_left (e ∷ done) left h = rising_left done left h.1
 
 -- the value that the entries give a key after the last one
-value_left : (es : List Entry) (last : Option (List ℕ)) (done left : List Entry) (q : List ℕ) → IsLeft es last done left → IsAfter last q → value_at q left ≡ last_at q es
+value_left : (es : List Entry) (last : Option (List ℕ)) (done left : List Entry) (q : List ℕ)
+    → IsLeft es last done left → IsAfter last q → value_at q left ≡ last_at q es
 value_left es last done left q h after =
     let all = settles es in
     sym (value_ahead last q done left after h.behind) ∙ ap (λ t. value_at q t) h.parts ∙ all.last q
 
 -- the first entry that is left has the next key
-module _ (es : List Entry) (last : Option (List ℕ)) (done : List Entry) (e : Entry) (rest : List Entry) (k : List ℕ) (v : FieldValue) (h : IsLeft es last done (e ∷ rest)) (n : IsNext last es k v) where
+module _ (es : List Entry) (last : Option (List ℕ)) (done : List Entry) (e : Entry) (rest : List Entry)
+    (k : List ℕ) (v : FieldValue) (h : IsLeft es last done (e ∷ rest)) (n : IsNext last es k v) where
   is_first_by : (o : Ordering) → cmp k e.0 ≡ o → e ≡ (k, v)
   unfolding IsStrictlySortedBy
   is_first_by Less is =
       let all = settles es in
       let P : List Entry → Type 0 = λ t. IsRising t in
       let rising = rising_left done (e ∷ rest) (subst P (sym h.parts) all.rising) in
-      let none : value_at k (e ∷ rest) ≡ None = absent k (e ∷ rest) (is, each_weaker (λ x. IsBelow e.0 x) (λ x. IsBelow k x) (λ x less. nat_list_cmp_total.trans k e.0 x is less) (keys_of rest) rising.0) in
+      let none : value_at k (e ∷ rest) ≡ None =
+      absent k (e ∷ rest)
+      (is, each_weaker (λ x. IsBelow e.0 x) (λ x. IsBelow k x) (λ x less. nat_list_cmp_total.trans k e.0 x is less) (keys_of rest) rising.0) in
       let one : None ≡ Some v = sym none ∙ value_left es last done (e ∷ rest) k h n.after ∙ n.value in
       cc
   is_first_by Equal is =
@@ -243,7 +261,9 @@ pub record NextLeft (es : List Entry) (k : List ℕ) (v : FieldValue) (done left
   pub is : left ≡ (k, v) ∷ rest
   pub left_is : IsLeft es (Some k) (done ++ (k, v) ∷ []) rest
 
-pub next_left : (es : List Entry) (last : Option (List ℕ)) (done left : List Entry) (k : List ℕ) (v : FieldValue) → IsLeft es last done left → IsNext last es k v → NextLeft es k v done left
+-- The entry with the least key after the last one is the first of those left, and the others are left after it.
+pub next_left : (es : List Entry) (last : Option (List ℕ)) (done left : List Entry) (k : List ℕ) (v : FieldValue)
+    → IsLeft es last done left → IsNext last es k v → NextLeft es k v done left
 unfolding IsStrictlySortedBy
 next_left es last done [] k v h n = let e : None ≡ Some v = value_left es last done [] k h n.after ∙ n.value in absurd cc
 next_left es last done (e ∷ rest) k v h n =
@@ -257,29 +277,46 @@ next_left es last done (e ∷ rest) k v h n =
       is = ap (λ x. x ∷ rest) is;
       left_is = record {
         parts = append_assoc done ((k, v) ∷ []) rest ∙ ap (λ x. done ++ x ∷ rest) (sym is) ∙ h.parts;
-        behind = all_last (λ x. IsAfter (Some k) x → ⊥) done (k, v) (each_weaker (λ x. IsAfter last x → ⊥) (λ x. IsAfter (Some k) x → ⊥) (λ x out less. out (after_more last k x n.after less)) (keys_of done) h.behind) (λ less. never_below k k refl less);
+        behind =
+            all_last (λ x. IsAfter (Some k) x → ⊥) done (k, v)
+            (each_weaker (λ x. IsAfter last x → ⊥) (λ x. IsAfter (Some k) x → ⊥) (λ x out less. out (after_more last k x n.after less)) (keys_of done) h.behind)
+            (λ less. never_below k k refl less);
         ahead = rising.0;
       };
     }
 
+-- Where no key comes after the last one, no entry is left.
 pub none_left : (es : List Entry) (last : Option (List ℕ)) (done left : List Entry) → IsLeft es last done left → HasNoNext last es → left ≡ []
 none_left es last done [] h none = refl
 none_left es last done (e ∷ rest) h none = absurd (none e.0 e.1 h.ahead.0 (sym (value_left es last done (e ∷ rest) e.0 h h.ahead.0) ∙ first_value e rest))
 
 -- ---- steps of the search
 
-module _ (room : ℕ) (content : List ℕ) (last : Option (List ℕ)) (at size : ℕ) (key : Bor (List ℕ)) (found : Option (ℕ × Bor (List ℕ))) (h : LookedTo room content last at found) (here : EntryHere room content at size h.front) (is : key.now ≡ key_in (drop at content)) where
+module _ (room : ℕ) (content : List ℕ) (last : Option (List ℕ)) (at size : ℕ) (key : Bor (List ℕ)) (found : Option (ℕ × Bor (List ℕ)))
+    (h : LookedTo room content last at found) (here : EntryHere room content at size h.front) (is : key.now ≡ key_in (drop at content)) where
   key_is_here : key.now ≡ (judged_entry (entry_at room content at)).0
   key_is_here = key_here room content at key.now here.read is
 
+  -- A key that comes after the last one, and not after the key found so far, is the one found up to the end of its entry.
   pub looked_taken : IsAfter last key.now → ComesFirst view key.now found → LookedTo room content last (at + size) (Some (at, key))
-  looked_taken after first = record { front = _; entries = here.next; finds = finds_taken room content last at key h.front found here.read key_is_here after first h.finds }
+  looked_taken after first =
+      record { front = _; entries = here.next; finds = finds_taken room content last at key h.front found here.read key_is_here after first h.finds }
 
+  -- A key that does not come after the last one leaves what is found.
   pub looked_past : (IsAfter last key.now → ⊥) → LookedTo room content last (at + size) found
-  looked_past out = let P : List ℕ → Type 0 = λ k. IsAfter last k → ⊥ in record { front = _; entries = here.next; finds = finds_kept room content last h.front _ found (subst P key_is_here out) h.finds }
+  looked_past out =
+      let P : List ℕ → Type 0 = λ k. IsAfter last k → ⊥ in
+      record { front = _; entries = here.next; finds = finds_kept room content last h.front _ found (subst P key_is_here out) h.finds }
 
+  -- A key that comes after the key found so far leaves what is found.
   pub looked_over : (ComesFirst view key.now found → ⊥) → LookedTo room content last (at + size) found
-  looked_over out = let P : List ℕ → Type 0 = λ k. ComesFirst view k found → ⊥ in record { front = _; entries = here.next; finds = finds_stays room content last h.front _ found (subst P key_is_here out) h.finds }
+  looked_over out =
+      let P : List ℕ → Type 0 = λ k. ComesFirst view k found → ⊥ in
+      record { front = _; entries = here.next; finds = finds_stays room content last h.front _ found (subst P key_is_here out) h.finds }
 
-pub looked_end : (room : ℕ) (content : List ℕ) (last : Option (List ℕ)) (at : ℕ) (found : Option (ℕ × Bor (List ℕ))) → length content ≤ at → LookedTo room content last at found → FindsNext view room content last (entries_in room content) found
-looked_end room content last at found long h = let P : List Entry → Type 0 = λ es. FindsNext view room content last es found in subst P (entries_end room content at h.front long h.entries) h.finds
+-- What is found up to the end of the content is the next entry of all.
+pub looked_end : (room : ℕ) (content : List ℕ) (last : Option (List ℕ)) (at : ℕ) (found : Option (ℕ × Bor (List ℕ)))
+    → length content ≤ at → LookedTo room content last at found → FindsNext view room content last (entries_in room content) found
+looked_end room content last at found long h =
+    let P : List Entry → Type 0 = λ es. FindsNext view room content last es found in
+    subst P (entries_end room content at h.front long h.entries) h.finds

@@ -20,17 +20,20 @@ use Rattle.amqp_laws.proofs.SlotLaws.{slots_lawful}
 use Rattle.amqp_laws.proofs.MethodLaws.{payloads_lawful}
 use Rattle.amqp_laws.proofs.HeaderLaws.{content_headers_lawful}
 use Rattle.amqp_canonical.specs.Writes.{canonical_of}
-use Rattle.amqp_canonical.specs.WritingLaws.{WritesNoLonger, ValuesAreNoLonger, ArraysAreNoLonger, TablesAreNoLonger, SlotsAreNoLonger, PayloadsAreNoLonger, ContentHeadersAreNoLonger}
+use Rattle.amqp_canonical.specs.WritingLaws.{WritesNoLonger, ValuesAreNoLonger, ArraysAreNoLonger, TablesAreNoLonger, SlotsAreNoLonger}
+use Rattle.amqp_canonical.specs.WritingLaws.{PayloadsAreNoLonger, ContentHeadersAreNoLonger}
 use Rattle.amqp_canonical.proofs.ReadParts.{took_of}
 use Rattle.amqp_types.specs.Tidiness.{used_by}
 
-lawful_no_longer : {A : Type 0} (judge : Judge A) (Spells : Level → List ℕ → A → Type 0) (canonical : A → List ℕ) → IsLawful judge Spells canonical → WritesNoLonger judge canonical
+lawful_no_longer : {A : Type 0} (judge : Judge A) (Spells : Level → List ℕ → A → Type 0) (canonical : A → List ℕ)
+    → IsLawful judge Spells canonical → WritesNoLonger judge canonical
 lawful_no_longer judge Spells canonical laws bytes fits h =
     let one = took_of (judge bytes) h in
     let spelled = laws.exact.spelled bytes one.0 one.1 fits one.2 in
     let shorter = laws.shortest (take one.1 bytes) one.0 spelled.0 in
     omega (arith, shorter, length-take-le one.1 bytes spelled.1, ap (λ j. length (canonical_of canonical j)) one.2, ap (λ j. used_by j) one.2)
 
+-- The canonical bytes of a decoded value, with its tag, are at most the bytes that it took.
 pub values_no_longer : ValuesAreNoLonger
 values_no_longer room bytes fits h =
     let one = took_of (judge_value room bytes) h in
@@ -39,6 +42,7 @@ values_no_longer room bytes fits h =
     let b = value_bounded room (take one.1 bytes) one.0 spelled.0 in
     omega (arith, b.shorter, length-take-le one.1 bytes spelled.1, ap (λ j. length (canonical_of tagged_bytes j)) one.2, ap (λ j. used_by j) one.2)
 
+-- The canonical bytes of a decoded array are at most the bytes that it took.
 pub arrays_no_longer : ArraysAreNoLonger
 arrays_no_longer room bytes fits h =
     let Plain = SpellsValue plain room in
@@ -48,6 +52,7 @@ arrays_no_longer room bytes fits h =
     let b = array_bounded room Plain (value_bounded room) (take one.1 bytes) one.0 spelled.0 in
     omega (arith, b.shorter, length-take-le one.1 bytes spelled.1, ap (λ j. length (canonical_of array_bytes j)) one.2, ap (λ j. used_by j) one.2)
 
+-- The canonical bytes of a decoded table are at most the bytes that it took.
 pub tables_no_longer : TablesAreNoLonger
 unfolding table_bytes
 tables_no_longer room bytes fits h =
@@ -58,11 +63,14 @@ tables_no_longer room bytes fits h =
     let b = table_bounded room Plain (value_bounded room) (take one.1 bytes) one.0 spelled.0 in
     omega (arith, b.shorter, length-take-le one.1 bytes spelled.1, ap (λ j. length (canonical_of table_bytes j)) one.2, ap (λ j. used_by j) one.2)
 
+-- The canonical bytes of decoded fields, whose constants are least, are at most the bytes that they took.
 pub slots_no_longer : SlotsAreNoLonger
 slots_no_longer slots least = lawful_no_longer (judge_slots slots) (λ level. SpellsSlots level slots) (slots_bytes slots) (slots_lawful slots least)
 
+-- The canonical bytes of the method in a payload are at most the bytes that were taken.
 pub payloads_no_longer : PayloadsAreNoLonger
 payloads_no_longer = lawful_no_longer judge_payload SpellsPayload payload_bytes payloads_lawful
 
+-- The canonical bytes of a decoded content header are at most the bytes that it took.
 pub content_headers_no_longer : ContentHeadersAreNoLonger
 content_headers_no_longer = lawful_no_longer judge_content_header SpellsContentHeader content_header_bytes content_headers_lawful

@@ -1,5 +1,6 @@
 -- Methods, properties and content headers that were read, by the parts in which they are put.
-use Rattle.std.proofs.Common.{◌≡◌, ◌<◌, ◌≤◌, ◌^◌, ◌%◌, ◌-◌, ℕ, zero, suc, ◌+◌, nat_lt, eqb, Bool, true, false, List, [], ◌∷◌, ◌++◌, length, get_or, take, drop, map, Option, Some, None, refl, sym, ap, ap₂, subst, ◌∙◌, arith}
+use Rattle.std.proofs.Common.{◌≡◌, ◌<◌, ◌≤◌, ◌^◌, ◌%◌, ◌-◌, ℕ, zero, suc, ◌+◌, nat_lt, eqb, Bool, true, false, List, [], ◌∷◌, ◌++◌, length, get_or, take, drop}
+use Rattle.std.proofs.Common.{map, Option, Some, None, refl, sym, ap, ap₂, subst, ◌∙◌, arith}
 use Rattle.std.proofs.lemmas.Bool.{ltb-false}
 use Rattle.std.proofs.lemmas.List.{length-map, drop-drop, length-drop}
 use Rattle.std.specs.Prelude.{is_some, unwrap_or}
@@ -65,9 +66,11 @@ pub record PayloadPut (bytes : List ℕ) (class id : ℕ) : Type 0 where
   pub slots : List Slot
   pub known_slots : slots_at class id ≡ Some slots
   pub read : IsRead (judge_slots slots (drop 4 bytes))
-  pub bytes_are : canonical_of payload_bytes (judge_payload bytes) ≡ number_bytes bytes2 class ++ (number_bytes bytes2 id ++ canonical_of (slots_bytes slots) (judge_slots slots (drop 4 bytes)))
+  pub bytes_are : canonical_of payload_bytes (judge_payload bytes)
+      ≡ number_bytes bytes2 class ++ (number_bytes bytes2 id ++ canonical_of (slots_bytes slots) (judge_slots slots (drop 4 bytes)))
 
-payload_of : (class id : ℕ) (slots : List Slot) (items : List Item) → slots_at class id ≡ Some slots → payload_bytes (method class id items) ≡ number_bytes bytes2 class ++ (number_bytes bytes2 id ++ slots_bytes slots items)
+payload_of : (class id : ℕ) (slots : List Slot) (items : List Item) → slots_at class id ≡ Some slots
+    → payload_bytes (method class id items) ≡ number_bytes bytes2 class ++ (number_bytes bytes2 id ++ slots_bytes slots items)
 unfolding payload_bytes method_bytes
 payload_of class id slots items some = ap (λ o. number_bytes bytes2 class ++ (number_bytes bytes2 id ++ slots_bytes (unwrap_or o []) items)) some
 
@@ -98,7 +101,8 @@ method_read bytes h =
     let items = bind_took (judge_slots slots.0 (drop id.1 (drop class.1 bytes))) _ behind.0 behind.1 slots.3 in
     let two : class.1 ≡ 2 = number_count bytes2 bytes class.0 class.1 class.2 in
     let four : id.1 ≡ 2 = number_count bytes2 (drop class.1 bytes) id.0 id.1 id.2 in
-    let found : method class.0 id.0 items.0 ≡ all.0 = value_took _ behind.0 _ behind.1 items.3 ∙ value_took _ inside.0 _ inside.1 behind.3 ∙ value_took _ all.0 _ all.1 inside.3 in
+    let found : method class.0 id.0 items.0 ≡ all.0 =
+    value_took _ behind.0 _ behind.1 items.3 ∙ value_took _ inside.0 _ inside.1 behind.3 ∙ value_took _ all.0 _ all.1 inside.3 in
     record {
       class = class.0;
       id = id.0;
@@ -117,7 +121,9 @@ method_read bytes h =
 pub payload_long : (bytes : List ℕ) → IsRead (judge_payload bytes) → 4 ≤ length bytes
 payload_long bytes h = let r = method_read bytes h in omega (arith, length-drop 2 bytes, number_long bytes2 (drop 2 bytes) r.id 2 r.id_is)
 
-pub payload_put : (bytes : List ℕ) (class id : ℕ) → IsRead (judge_payload bytes) → IsShortAt bytes class → IsShortAt (drop 2 bytes) id → PayloadPut bytes class id
+-- Where a payload is decoded, its method is known, and its canonical bytes are its two ids and those of the fields.
+pub payload_put : (bytes : List ℕ) (class id : ℕ) → IsRead (judge_payload bytes)
+    → IsShortAt bytes class → IsShortAt (drop 2 bytes) id → PayloadPut bytes class id
 payload_put bytes class id h one two =
     let r = method_read bytes h in
     let same_class = decided_number bytes r.class class 2 r.class_is one in
@@ -133,6 +139,7 @@ payload_put bytes class id h one two =
           ∙ ap (λ bs. number_bytes bytes2 class ++ (number_bytes bytes2 id ++ bs)) (sym (ap (λ j. canonical_of (slots_bytes r.slots) j) items));
     }
 
+-- Lists of fields that are equal as options are equal.
 pub same_some : (x y : List Slot) → Some x ≡ Some y → x ≡ y
 same_some x y h = cc
 
@@ -145,7 +152,8 @@ first_is form (x ∷ []) h = refl
 first_is form (x ∷ y ∷ items) h = absurd (omega (arith, h))
 
 -- the option that a property gives
-option_bytes : (form : meant.Form) (bytes : List ℕ) (items : List Item) (n : ℕ) → gives_one form ≡ true → IsBytes bytes → judge_form form bytes ≡ took items n → optional_bytes form (first_item items) ≡ form_bytes form items
+option_bytes : (form : meant.Form) (bytes : List ℕ) (items : List Item) (n : ℕ) → gives_one form ≡ true → IsBytes bytes
+    → judge_form form bytes ≡ took items n → optional_bytes form (first_item items) ≡ form_bytes form items
 unfolding optional_bytes
 option_bytes form bytes items n one fits is =
     let laws = forms_lawful form in
@@ -153,13 +161,16 @@ option_bytes form bytes items n one fits is =
     let gives = form_gives form (take n bytes) items spelled.0 in
     first_is form items (gives.count ∙ counted_one form one)
 
+-- decoding one property, where the mask says that it is set
 abbrev pub one_property : ℕ → Property → Judge (Option Item)
 one_property mask p = judge_optional (flag_at mask p.bit) p.form
 
 abbrev pub property_bytes : Property → Option Item → List ℕ
 property_bytes p option = optional_bytes p.form option
 
-first_property : (mask : ℕ) (p : Property) (ps : List Property) (bytes : List ℕ) (n : ℕ) → IsBytes bytes → IsRead (judge_set mask (p ∷ ps) bytes) → (IsRead (one_property mask p bytes) → n ≡ used_by (one_property mask p bytes)) → FirstOf (one_property mask) (judge_set mask) property_bytes set_bytes p ps bytes n
+first_property : (mask : ℕ) (p : Property) (ps : List Property) (bytes : List ℕ) (n : ℕ) → IsBytes bytes
+    → IsRead (judge_set mask (p ∷ ps) bytes) → (IsRead (one_property mask p bytes) → n ≡ used_by (one_property mask p bytes))
+    → FirstOf (one_property mask) (judge_set mask) property_bytes set_bytes p ps bytes n
 unfolding judge_set set_bytes
 first_property mask p ps bytes n fits h sized =
     let all = took_of (judge_set mask (p ∷ ps) bytes) h in
@@ -180,26 +191,34 @@ no_properties : (mask : ℕ) (bytes : List ℕ) → canonical_of (set_bytes []) 
 unfolding judge_set set_bytes
 no_properties mask bytes = refl
 
+-- the first k properties were put, up to a place, and the others are left
 abbrev pub SetPut : ℕ → List Property → List ℕ → List ℕ → ℕ → List ℕ → List ℕ → ℕ → ℕ → Type 0
 SetPut mask = PutSoFar (one_property mask) (judge_set mask) property_bytes set_bytes
 
-pub set_none : (mask : ℕ) (ps : List Property) (bytes buf : List ℕ) (at : ℕ) → IsBytes bytes → IsRead (judge_set mask ps bytes) → SetPut mask ps bytes bytes 0 buf buf at at
+-- At the start no property was put, and the buffer is as it was.
+pub set_none : (mask : ℕ) (ps : List Property) (bytes buf : List ℕ) (at : ℕ) → IsBytes bytes
+    → IsRead (judge_set mask ps bytes) → SetPut mask ps bytes bytes 0 buf buf at at
 set_none mask = so_far_none (one_property mask) (judge_set mask) property_bytes set_bytes
 
-set_here : (mask : ℕ) (ps : List Property) (p : Property) (bytes left : List ℕ) (k n : ℕ) (old mid : List ℕ) (at end : ℕ) → drop k ps ≡ p ∷ drop (k + 1) ps → (IsRead (one_property mask p left) → n ≡ used_by (one_property mask p left))
+set_here : (mask : ℕ) (ps : List Property) (p : Property) (bytes left : List ℕ) (k n : ℕ) (old mid : List ℕ) (at end : ℕ)
+    → drop k ps ≡ p ∷ drop (k + 1) ps → (IsRead (one_property mask p left) → n ≡ used_by (one_property mask p left))
     → SetPut mask ps bytes left k old mid at end → PutHere (one_property mask) (judge_set mask) property_bytes set_bytes ps p bytes left k n old mid at end
 set_here mask = so_far_here (one_property mask) (judge_set mask) property_bytes set_bytes (first_property mask)
 
-pub set_end : (mask : ℕ) (ps : List Property) (bytes left : List ℕ) (k : ℕ) (old new : List ℕ) (at end : ℕ) → length ps ≤ k → SetPut mask ps bytes left k old new at end → PutsIfRoom old new at (canonical_of (set_bytes ps) (judge_set mask ps bytes)) end
+-- Where all properties were put, the canonical bytes of those that are set stand in the buffer.
+pub set_end : (mask : ℕ) (ps : List Property) (bytes left : List ℕ) (k : ℕ) (old new : List ℕ) (at end : ℕ) → length ps ≤ k
+    → SetPut mask ps bytes left k old new at end → PutsIfRoom old new at (canonical_of (set_bytes ps) (judge_set mask ps bytes)) end
 set_end mask = so_far_end (one_property mask) (judge_set mask) property_bytes set_bytes (no_properties mask)
 
 -- a property that is there
 pub record PropertyHere (mask : ℕ) (ps : List Property) (form : meant.Form) (bytes left : List ℕ) (k n : ℕ) (old mid : List ℕ) (at end : ℕ) : Type 0 where
   pub read : IsRead (judge_form form left)
   pub within : end + length (canonical_of (form_bytes form) (judge_form form left)) ≤ at + length (canonical_of (set_bytes ps) (judge_set mask ps bytes))
-  pub next : (new : List ℕ) (place : ℕ) → PutsIfRoom mid new end (canonical_of (form_bytes form) (judge_form form left)) place → SetPut mask ps bytes (drop n left) (k + 1) old new at place
+  pub next : (new : List ℕ) (place : ℕ) → PutsIfRoom mid new end (canonical_of (form_bytes form) (judge_form form left)) place
+      → SetPut mask ps bytes (drop n left) (k + 1) old new at place
 
-optional_there : (flag : Bool) (form : meant.Form) (bytes : List ℕ) → flag ≡ true → judge_optional flag form bytes ≡ judge_map first_item (judge_form form) bytes
+optional_there : (flag : Bool) (form : meant.Form) (bytes : List ℕ) → flag ≡ true
+    → judge_optional flag form bytes ≡ judge_map first_item (judge_form form) bytes
 unfolding judge_optional
 optional_there true form bytes h = refl
 optional_there false form bytes h = absurd cc
@@ -209,28 +228,37 @@ unfolding judge_optional
 optional_none true form bytes h = absurd cc
 optional_none false form bytes h = refl
 
-option_put : (form : meant.Form) (bytes : List ℕ) → gives_one form ≡ true → IsBytes bytes → IsRead (judge_form form bytes) → canonical_of (optional_bytes form) (judge_map first_item (judge_form form) bytes) ≡ canonical_of (form_bytes form) (judge_form form bytes)
+option_put : (form : meant.Form) (bytes : List ℕ) → gives_one form ≡ true → IsBytes bytes → IsRead (judge_form form bytes)
+    → canonical_of (optional_bytes form) (judge_map first_item (judge_form form) bytes) ≡ canonical_of (form_bytes form) (judge_form form bytes)
 option_put form bytes one fits h =
     let r = took_of (judge_form form bytes) h in
-    ap (λ j. canonical_of (optional_bytes form) (j >>= λ x. took (first_item x.0) x.1)) r.2 ∙ option_bytes form bytes r.0 r.1 one fits r.2 ∙ sym (ap (λ j. canonical_of (form_bytes form) j) r.2)
+    ap (λ j. canonical_of (optional_bytes form) (j >>= λ x. took (first_item x.0) x.1)) r.2
+    ∙ option_bytes form bytes r.0 r.1 one fits r.2 ∙ sym (ap (λ j. canonical_of (form_bytes form) j) r.2)
 
-pub property_here : (mask : ℕ) (ps : List Property) (p : Property) (bytes left : List ℕ) (k n : ℕ) (old mid : List ℕ) (at end : ℕ) → drop k ps ≡ p ∷ drop (k + 1) ps → gives_one p.form ≡ true → flag_at mask p.bit ≡ true
-    → (IsRead (judge_form p.form left) → n ≡ used_by (judge_form p.form left)) → SetPut mask ps bytes left k old mid at end → PropertyHere mask ps p.form bytes left k n old mid at end
+-- A property that the mask says is set was decoded, its canonical bytes fit, and after them one property more was put.
+pub property_here : (mask : ℕ) (ps : List Property) (p : Property) (bytes left : List ℕ) (k n : ℕ) (old mid : List ℕ) (at end : ℕ)
+    → drop k ps ≡ p ∷ drop (k + 1) ps → gives_one p.form ≡ true → flag_at mask p.bit ≡ true
+    → (IsRead (judge_form p.form left) → n ≡ used_by (judge_form p.form left))
+    → SetPut mask ps bytes left k old mid at end → PropertyHere mask ps p.form bytes left k n old mid at end
 property_here mask ps p bytes left k n old mid at end is one there sized h =
     let same : one_property mask p left ≡ judge_map first_item (judge_form p.form) left = optional_there (flag_at mask p.bit) p.form left there in
     let P : Judged (Option Item) → Type 0 = λ j. IsRead j → n ≡ used_by j in
-    let sized_map : IsRead (judge_map first_item (judge_form p.form) left) → n ≡ used_by (judge_map first_item (judge_form p.form) left) = λ r. sized (map_read first_item (judge_form p.form left) r) ∙ sym (map_used first_item (judge_form p.form left)) in
+    let sized_map : IsRead (judge_map first_item (judge_form p.form) left) → n ≡ used_by (judge_map first_item (judge_form p.form) left) =
+    λ r. sized (map_read first_item (judge_form p.form left) r) ∙ sym (map_used first_item (judge_form p.form left)) in
     let here = set_here mask ps p bytes left k n old mid at end is (subst P (sym same) sized_map) h in
     let Q : Judged (Option Item) → Type 0 = λ j. IsRead j in
     let read = map_read first_item (judge_form p.form left) (subst Q same here.read) in
-    let put : canonical_of (property_bytes p) (one_property mask p left) ≡ canonical_of (form_bytes p.form) (judge_form p.form left) = ap (λ j. canonical_of (property_bytes p) j) same ∙ option_put p.form left one h.fits read in
+    let put : canonical_of (property_bytes p) (one_property mask p left) ≡ canonical_of (form_bytes p.form) (judge_form p.form left) =
+    ap (λ j. canonical_of (property_bytes p) j) same ∙ option_put p.form left one h.fits read in
     record {
       read = read;
       within = omega (arith, ap length put, here.within);
       next = λ new place puts. here.next new place (same_put (sym put) puts);
     }
 
-pub property_past : (mask : ℕ) (ps : List Property) (p : Property) (bytes left : List ℕ) (k : ℕ) (old mid : List ℕ) (at end : ℕ) → drop k ps ≡ p ∷ drop (k + 1) ps → flag_at mask p.bit ≡ false
+-- A property that the mask does not say is set is passed over, with nothing put.
+pub property_past : (mask : ℕ) (ps : List Property) (p : Property) (bytes left : List ℕ) (k : ℕ) (old mid : List ℕ) (at end : ℕ)
+    → drop k ps ≡ p ∷ drop (k + 1) ps → flag_at mask p.bit ≡ false
     → SetPut mask ps bytes left k old mid at end → SetPut mask ps bytes left (k + 1) old mid at end
 unfolding optional_bytes
 property_past mask ps p bytes left k old mid at end is none h =
@@ -244,11 +272,16 @@ property_past mask ps p bytes left k old mid at end is none h =
 map_from : {A B : Type 0} (f : A → B) (xs : List A) (k : ℕ) (d : A) → k < length xs → drop k (map f xs) ≡ f (get_or xs k d) ∷ drop (k + 1) (map f xs)
 map_from f [] k d h = absurd (omega arith)
 map_from f (x ∷ xs) zero d h = refl
-map_from f (x ∷ xs) (suc k) d h = let next : suc (k + 1) ≡ suc k + 1 = omega arith in map_from f xs k d (omega arith) ∙ ap (λ n. f (get_or xs k d) ∷ drop n (f x ∷ map f xs)) next
+map_from f (x ∷ xs) (suc k) d h =
+    let next : suc (k + 1) ≡ suc k + 1 = omega arith in
+    map_from f xs k d (omega arith) ∙ ap (λ n. f (get_or xs k d) ∷ drop n (f x ∷ map f xs)) next
 
-pub property_from : (ps : List (ℕ × Form)) (k : ℕ) (d : ℕ × Form) → map property_of ps ≡ properties → k < length ps → drop k properties ≡ property_of (get_or ps k d) ∷ drop (k + 1) properties
+-- From place k on, the property table is property k of the forms that it is made of, and those after it.
+pub property_from : (ps : List (ℕ × Form)) (k : ℕ) (d : ℕ × Form) → map property_of ps ≡ properties
+    → k < length ps → drop k properties ≡ property_of (get_or ps k d) ∷ drop (k + 1) properties
 property_from ps k d is h = ap (drop k) (sym is) ∙ map_from property_of ps k d h ∙ ap (λ xs. property_of (get_or ps k d) ∷ drop (k + 1) xs) is
 
+-- Past the last of the forms that the property table is made of there is no property.
 pub properties_all : (ps : List (ℕ × Form)) (k : ℕ) → map property_of ps ≡ properties → length ps ≤ k → length properties ≤ k
 properties_all ps k is h = omega (arith, h, length-map ps property_of, ap length is)
 
@@ -261,6 +294,7 @@ one_at (q ∷ ps) zero p rest h is =
     sym (ap (λ (x : Property). gives_one x.form) same) ∙ both.0
 one_at (q ∷ ps) (suc k) p rest h is = let both = both_true (gives_one q.form) (give_one ps) h in one_at ps k p rest both.1 is
 
+-- Each property of the table has a form that gives one item.
 pub gives_one_at : (k : ℕ) (p : Property) (rest : List Property) → drop k properties ≡ p ∷ rest → gives_one p.form ≡ true
 gives_one_at k p rest is = one_at properties k p rest one_each is
 
@@ -301,12 +335,14 @@ module _ (mask : ℕ) where
 
   mask_cleared : (options : List (Option Item)) → mask < 2 ^ 16 → set_flags mask properties ≡ map is_some options → cleared ≡ mask_of properties options
   mask_cleared options fits there =
-      mask_is cleared (map is_some options) (record { fits = omega (arith, fits); lowest = no_first; second = no_second; set = same_set ∙ there }) ∙ sym (mask_of-flags properties options)
+      mask_is cleared (map is_some options) (record { fits = omega (arith, fits); lowest = no_first; second = no_second; set = same_set ∙ there })
+      ∙ sym (mask_of-flags properties options)
 
 -- a mask, and the properties that are set
 pub record PropertiesPut (bytes : List ℕ) (mask : ℕ) : Type 0 where
   pub read : IsRead (judge_set mask properties (drop 2 bytes))
-  pub bytes_are : canonical_of properties_bytes (judge_properties bytes) ≡ number_bytes bytes2 (mask - mask % 4) ++ canonical_of (set_bytes properties) (judge_set mask properties (drop 2 bytes))
+  pub bytes_are : canonical_of properties_bytes (judge_properties bytes)
+      ≡ number_bytes bytes2 (mask - mask % 4) ++ canonical_of (set_bytes properties) (judge_set mask properties (drop 2 bytes))
 
 properties_of : (options : List (Option Item)) → properties_bytes options ≡ number_bytes bytes2 (mask_of properties options) ++ set_bytes properties options
 unfolding properties_bytes form_bytes
@@ -339,6 +375,7 @@ set_read bytes h =
       is = all.2 ∙ ap (λ o. took o all.1) (sym same);
     }
 
+-- Where properties are decoded, so are those that the mask sets, and their canonical bytes are a mask and those of each.
 pub properties_put : (bytes : List ℕ) (mask : ℕ) → IsBytes bytes → IsRead (judge_properties bytes) → IsShortAt bytes mask → PropertiesPut bytes mask
 properties_put bytes mask fits h decides =
     let r = set_read bytes h in
@@ -357,13 +394,19 @@ properties_put bytes mask fits h decides =
 
 -- ---- content headers
 
-number_gives : (width : NumberWidth) (bytes : List ℕ) (xs : List Item) (n : ℕ) → judge_form (number_form width) bytes ≡ took xs n → (x : ℕ) × (xs ≡ number_item x ∷ []) × (n ≡ byte_count width) × (byte_count width ≤ length bytes)
+number_gives : (width : NumberWidth) (bytes : List ℕ) (xs : List Item) (n : ℕ) → judge_form (number_form width) bytes ≡ took xs n
+    → (x : ℕ) × (xs ≡ number_item x ∷ []) × (n ≡ byte_count width) × (byte_count width ≤ length bytes)
 unfolding judge_form
 number_gives width bytes xs n h =
-    let one = bind_took (judge_number width bytes) _ xs n h in
-    (one.0, sym (value_took (number_item one.0 ∷ []) xs one.1 n one.3), sym (count_took (number_item one.0 ∷ []) xs one.1 n one.3) ∙ number_count width bytes one.0 one.1 one.2, number_long width bytes one.0 one.1 one.2)
+    let one = bind_took (judge_number width bytes) _ xs n h in (
+      one.0,
+      sym (value_took (number_item one.0 ∷ []) xs one.1 n one.3),
+      sym (count_took (number_item one.0 ∷ []) xs one.1 n one.3) ∙ number_count width bytes one.0 one.1 one.2,
+      number_long width bytes one.0 one.1 one.2,
+    )
 
-dropped_gives : (width : NumberWidth) (bytes : List ℕ) (xs : List Item) (n : ℕ) → judge_dropped (number_form width) bytes ≡ took xs n → (xs ≡ []) × (n ≡ byte_count width)
+dropped_gives : (width : NumberWidth) (bytes : List ℕ) (xs : List Item) (n : ℕ)
+    → judge_dropped (number_form width) bytes ≡ took xs n → (xs ≡ []) × (n ≡ byte_count width)
 unfolding judge_dropped
 dropped_gives width bytes xs n h =
     let one = bind_took (judge_form (number_form width) bytes) _ xs n h in
@@ -381,7 +424,8 @@ record SlotTaken (slot : Slot) (slots : List Slot) (bytes : List ℕ) (items : L
   joined : xs ++ ys ≡ items
   total : k + m ≡ n
 
-slot_taken : (slot : Slot) (slots : List Slot) (bytes : List ℕ) (items : List Item) (n : ℕ) → judge_slots (slot ∷ slots) bytes ≡ took items n → SlotTaken slot slots bytes items n
+slot_taken : (slot : Slot) (slots : List Slot) (bytes : List ℕ) (items : List Item) (n : ℕ)
+    → judge_slots (slot ∷ slots) bytes ≡ took items n → SlotTaken slot slots bytes items n
 unfolding judge_slots
 slot_taken slot slots bytes items n h =
     let one = bind_took (judge_slot slot bytes) _ items n h in
@@ -407,7 +451,8 @@ size_slots = kept_slot (number_form bytes8) ∷ []
 abbrev weight_slot : Slot
 weight_slot = reserved_slot (number_form bytes2) (number_item 0 ∷ [])
 
-header_gives : (bytes : List ℕ) (items : List Item) (n : ℕ) → judge_slots header_slots bytes ≡ took items n → (class : ℕ) × (size : ℕ) × (items ≡ number_item class ∷ number_item size ∷ []) × (n ≡ 12) × (12 ≤ length bytes)
+header_gives : (bytes : List ℕ) (items : List Item) (n : ℕ) → judge_slots header_slots bytes ≡ took items n
+    → (class : ℕ) × (size : ℕ) × (items ≡ number_item class ∷ number_item size ∷ []) × (n ≡ 12) × (12 ≤ length bytes)
 unfolding header_slots
 header_gives bytes items n h =
     let a = slot_taken (kept_slot (number_form bytes2)) (weight_slot ∷ size_slots) bytes items n h in
@@ -428,12 +473,16 @@ pub record HeaderPut (bytes : List ℕ) : Type 0 where
   pub long : 12 ≤ length bytes
   pub front : IsRead (judge_slots header_slots bytes)
   pub after : IsRead (judge_properties (drop 12 bytes))
-  pub bytes_are : canonical_of content_header_bytes (judge_content_header bytes) ≡ canonical_of (slots_bytes header_slots) (judge_slots header_slots bytes) ++ canonical_of properties_bytes (judge_properties (drop 12 bytes))
+  pub bytes_are : canonical_of content_header_bytes (judge_content_header bytes)
+      ≡ canonical_of (slots_bytes header_slots) (judge_slots header_slots bytes) ++ canonical_of properties_bytes (judge_properties (drop 12 bytes))
 
-header_of : (class size : ℕ) (options : List (Option Item)) → content_header_bytes (header_of_parts (number_item class ∷ number_item size ∷ []) options) ≡ slots_bytes header_slots (number_item class ∷ number_item size ∷ []) ++ properties_bytes options
+header_of : (class size : ℕ) (options : List (Option Item))
+    → content_header_bytes (header_of_parts (number_item class ∷ number_item size ∷ []) options)
+    ≡ slots_bytes header_slots (number_item class ∷ number_item size ∷ []) ++ properties_bytes options
 unfolding content_header_bytes
 header_of class size options = refl
 
+-- Where a content header is decoded, so are its front and its properties, and its canonical bytes are those of both.
 pub header_put : (bytes : List ℕ) → IsRead (judge_content_header bytes) → HeaderPut bytes
 unfolding judge_content_header
 header_put bytes h =
@@ -447,6 +496,9 @@ header_put bytes h =
       long = gives.4;
       front = is_read (judge_slots header_slots bytes) one.0 one.1 one.2;
       after = is_read (judge_properties (drop 12 bytes)) two.0 two.1 behind;
-      bytes_are = ap (λ j. canonical_of content_header_bytes j) all.2 ∙ ap content_header_bytes (sym header) ∙ ap (λ items. content_header_bytes (header_of_parts items two.0)) gives.2 ∙ header_of gives.0 gives.1 two.0
-          ∙ ap₂ (λ a b. a ++ b) (ap (slots_bytes header_slots) (sym gives.2) ∙ sym (ap (λ j. canonical_of (slots_bytes header_slots) j) one.2)) (sym (ap (λ j. canonical_of properties_bytes j) behind));
+      bytes_are =
+          ap (λ j. canonical_of content_header_bytes j) all.2 ∙ ap content_header_bytes (sym header)
+          ∙ ap (λ items. content_header_bytes (header_of_parts items two.0)) gives.2 ∙ header_of gives.0 gives.1 two.0
+          ∙ ap₂ (λ a b. a ++ b) (ap (slots_bytes header_slots) (sym gives.2) ∙ sym (ap (λ j. canonical_of (slots_bytes header_slots) j) one.2))
+          (sym (ap (λ j. canonical_of properties_bytes j) behind));
     }

@@ -1,5 +1,6 @@
 -- Properties, decoded by the table, and content headers.
-use Rattle.std.proofs.Common.{◌≡◌, ℕ, ◌+◌, ◌^◌, ◌<◌, ◌≤◌, ◌↔◌, ◌&&◌, Bool, true, false, true≢false, IsTrue, List, [], ◌∷◌, ◌++◌, length, get_or, take, drop, map, Option, None, Result, Ok, Err, refl, sym, ap, ap₂, subst, ◌∙◌, arith, append_assoc}
+use Rattle.std.proofs.Common.{◌≡◌, ℕ, ◌+◌, ◌^◌, ◌<◌, ◌≤◌, ◌↔◌, ◌&&◌, Bool, true, false, true≢false, IsTrue, List, [], ◌∷◌, ◌++◌, length, get_or, take, drop}
+use Rattle.std.proofs.Common.{map, Option, None, Result, Ok, Err, refl, sym, ap, ap₂, subst, ◌∙◌, arith, append_assoc}
 use Rattle.std.proofs.lemmas.Bool.{ne_eqb}
 use Rattle.std.proofs.lemmas.List.{take-append-drop}
 use Rattle.std.proofs.lemmas.Nat.Bits.{bit_at_above}
@@ -35,7 +36,8 @@ use Rattle.amqp_canonical.specs.Shapes.{form_of, property_of}
 use Rattle.amqp_canonical.specs.SlotJudgements.{TakesTidily, JudgesTidily, JudgesLevels, after_others, IsCanonicalContentHeader}
 use Rattle.amqp_canonical.proofs.Refusing.{Fails, fully, fails_next}
 use Rattle.amqp_canonical.proofs.Children.{decided_as, both_decided}
-use Rattle.amqp_canonical.proofs.Joining.{IsRead, law_read, both_read, both_judged, split_at, judgement, and_true, IsReached, reached_none, reached_more, reached_fails, reached_all}
+use Rattle.amqp_canonical.proofs.Joining.{IsRead, law_read, both_read, both_judged, split_at, judgement, and_true, IsReached, reached_none}
+use Rattle.amqp_canonical.proofs.Joining.{reached_more, reached_fails, reached_all}
 use Rattle.amqp_canonical.proofs.Forms.{slots_read, canonical_of_levels}
 
 -- ---- one property
@@ -43,17 +45,24 @@ use Rattle.amqp_canonical.proofs.Forms.{slots_read, canonical_of_levels}
 optional_read : (present : Bool) (form : meant.Form) → IsRead (judge_optional present form) (λ level. SpellsOptional level present form)
 unfolding judge_optional
 optional_read true form = record {
-  read = λ level bytes rest option h. map_taken first_item (judge_form form) (SpellsForm plain form) (forms_lawful form).exact bytes rest h.thing (form_is_plain level form bytes h.thing h.spelled) ∙ ap (λ o. took o (length bytes)) (sym h.made);
+  read = λ level bytes rest option h.
+      map_taken first_item (judge_form form) (SpellsForm plain form)
+      (forms_lawful form).exact bytes rest h.thing (form_is_plain level form bytes h.thing h.spelled)
+      ∙ ap (λ o. took o (length bytes)) (sym h.made);
 }
 optional_read false form = record { read = λ level bytes rest option h. ap₂ (λ o n. took o n) (sym h.1) (sym (ap length h.0)) }
 
-mapped_at : (level : Level) (form : meant.Form) (bytes : List ℕ) (items : List Item) → SpellsForm plain form bytes items → SpellsForm level form bytes items ↔ SpellsMapped (SpellsForm level form) first_item bytes (first_item items)
+mapped_at : (level : Level) (form : meant.Form) (bytes : List ℕ) (items : List Item) → SpellsForm plain form bytes items
+    → SpellsForm level form bytes items ↔ SpellsMapped (SpellsForm level form) first_item bytes (first_item items)
 mapped_at level form bytes items h = (
   λ s. record { thing = items; spelled = s; made = refl },
-  λ s. subst (SpellsForm level form bytes) ((forms_lawful form).one_meaning plain bytes s.thing items (form_is_plain level form bytes s.thing s.spelled) h) s.spelled,
+  λ s. subst (SpellsForm level form bytes)
+      ((forms_lawful form).one_meaning plain bytes s.thing items (form_is_plain level form bytes s.thing s.spelled) h) s.spelled,
 )
 
-pub optional_there : (present : Bool) (form : meant.Form) (bytes : List ℕ) (r : Result Judgement ParserError) → IsBytes bytes → present ≡ true → JudgesLevels (λ level. SpellsForm level form) bytes r (judge_form form bytes)
+-- A property that is set is decoded as its form is.
+pub optional_there : (present : Bool) (form : meant.Form) (bytes : List ℕ) (r : Result Judgement ParserError)
+    → IsBytes bytes → present ≡ true → JudgesLevels (λ level. SpellsForm level form) bytes r (judge_form form bytes)
     → JudgesLevels (λ level. SpellsOptional level present form) bytes r (judge_optional present form bytes)
 unfolding judge_optional
 optional_there true form bytes (Ok j) fits there h =
@@ -70,18 +79,23 @@ optional_there true form bytes (Ok j) fits there h =
 optional_there true form bytes (Err e) fits there h = fails_next e (judge_form form bytes) _ h
 optional_there false form bytes r fits there h = absurd (true≢false (sym there))
 
-pub optional_none : (present : Bool) (form : meant.Form) (bytes : List ℕ) → present ≡ false → JudgesLevels (λ level. SpellsOptional level present form) bytes (judgement 0 true true) (judge_optional present form bytes)
+-- A property that is not set takes no bytes, and is canonical and tidy.
+pub optional_none : (present : Bool) (form : meant.Form) (bytes : List ℕ) → present ≡ false
+    → JudgesLevels (λ level. SpellsOptional level present form) bytes (judgement 0 true true) (judge_optional present form bytes)
 unfolding judge_optional
 optional_none true form bytes none = absurd (true≢false none)
 optional_none false form bytes none = record { thing = None; is = refl; canonical = (λ t. (refl, refl), λ h. refl); tidy = (λ t. (refl, refl), λ h. refl) }
 
 -- ---- properties one after another
 
+-- The properties that bytes encode at any level are decoded from them, whatever follows.
 pub set_read : (mask : ℕ) (ps : List Property) → IsRead (judge_set mask ps) (λ level. SpellsSet level mask ps)
 unfolding judge_set
 set_read mask [] = record { read = λ level bytes rest options h. ap₂ (λ a b. took a b) (sym h.1) (sym (ap length h.0)) }
 set_read mask (p ∷ ps) =
-    both_read (judge_optional (flag_at mask p.bit) p.form) (judge_set mask ps) (λ option options. option ∷ options) (λ level. SpellsOptional level (flag_at mask p.bit) p.form) (λ level. SpellsSet level mask ps) (optional_read (flag_at mask p.bit) p.form) (set_read mask ps)
+    both_read (judge_optional (flag_at mask p.bit) p.form) (judge_set mask ps)
+    (λ option options. option ∷ options) (λ level. SpellsOptional level (flag_at mask p.bit) p.form)
+    (λ level. SpellsSet level mask ps) (optional_read (flag_at mask p.bit) p.form) (set_read mask ps)
 
 module _ (mask : ℕ) where
   abbrev one_property : ℕ × Form → Judge (Option Item)
@@ -96,19 +110,25 @@ module _ (mask : ℕ) where
   abbrev AllProperties : List (ℕ × Form) → Level → List ℕ → List (Option Item) → Type 0
   AllProperties ps level = SpellsSet level mask (map property_of ps)
 
+  -- the first k properties were decoded up to a place, with what is said of them
   abbrev pub ArePropertiesReached : List (ℕ × Form) → List ℕ → ℕ → ℕ → Bool → Bool → Type 0
   ArePropertiesReached = IsReached one_property OneProperty all_properties AllProperties
 
+  -- At the start no property was decoded, and the empty bytes are canonical and tidy.
   pub properties_none : (ps : List (ℕ × Form)) (bytes : List ℕ) → ArePropertiesReached ps bytes 0 0 true true
   properties_none = reached_none one_property OneProperty all_properties AllProperties
 
-  properties_step : (p : ℕ × Form) (ps : List (ℕ × Form)) (bytes : List ℕ) (j : Judgement) (r : Result Judgement ParserError) → TakesTidily (OneProperty p strict) (OneProperty p tidy) j bytes (one_property p bytes)
-      → JudgesLevels (AllProperties ps) (drop j.used bytes) r (all_properties ps (drop j.used bytes)) → JudgesLevels (AllProperties (p ∷ ps)) bytes (after_others j.used j.canonical j.tidy r) (all_properties (p ∷ ps) bytes)
+  properties_step : (p : ℕ × Form) (ps : List (ℕ × Form)) (bytes : List ℕ) (j : Judgement) (r : Result Judgement ParserError)
+      → TakesTidily (OneProperty p strict) (OneProperty p tidy) j bytes (one_property p bytes)
+      → JudgesLevels (AllProperties ps) (drop j.used bytes) r (all_properties ps (drop j.used bytes))
+      → JudgesLevels (AllProperties (p ∷ ps)) bytes (after_others j.used j.canonical j.tidy r) (all_properties (p ∷ ps) bytes)
   unfolding judge_set
   properties_step p ps bytes j r one others =
-      both_judged (one_property p) (all_properties ps) (λ option options. option ∷ options) (OneProperty p) (AllProperties ps) (optional_read (flag_at mask p.0) (form_of p.1)) (set_read mask (map property_of ps)) bytes j r one others
+      both_judged (one_property p) (all_properties ps) (λ option options. option ∷ options) (OneProperty p) (AllProperties ps)
+      (optional_read (flag_at mask p.0) (form_of p.1)) (set_read mask (map property_of ps)) bytes j r one others
 
-  properties_stop : (p : ℕ × Form) (ps : List (ℕ × Form)) (bytes : List ℕ) (e : ParserError) → Fails e (one_property p bytes) → Fails e (all_properties (p ∷ ps) bytes)
+  properties_stop : (p : ℕ × Form) (ps : List (ℕ × Form)) (bytes : List ℕ) (e : ParserError)
+      → Fails e (one_property p bytes) → Fails e (all_properties (p ∷ ps) bytes)
   unfolding judge_set
   properties_stop p ps bytes e h = fails_next e (one_property p bytes) _ h
 
@@ -116,18 +136,24 @@ module _ (mask : ℕ) where
   unfolding judge_set
   no_properties bytes = record { thing = []; is = refl; canonical = (λ t. (refl, refl), λ h. refl); tidy = (λ t. (refl, refl), λ h. refl) }
 
-  pub properties_more : (ps : List (ℕ × Form)) (bytes : List ℕ) (k at : ℕ) (canonical so_far : Bool) (j : Judgement) (other : ℕ × Form) → k < length ps → ArePropertiesReached ps bytes k at canonical so_far
-      → (let p = get_or ps k other in TakesTidily (OneProperty p strict) (OneProperty p tidy) j (drop at bytes) (one_property p (drop at bytes))) → ArePropertiesReached ps bytes (k + 1) (at + j.used) (canonical && j.canonical) (so_far && j.tidy)
+  pub properties_more : (ps : List (ℕ × Form)) (bytes : List ℕ) (k at : ℕ) (canonical so_far : Bool) (j : Judgement) (other : ℕ × Form)
+      → k < length ps → ArePropertiesReached ps bytes k at canonical so_far
+      → (let p = get_or ps k other in TakesTidily (OneProperty p strict) (OneProperty p tidy) j (drop at bytes) (one_property p (drop at bytes)))
+      → ArePropertiesReached ps bytes (k + 1) (at + j.used) (canonical && j.canonical) (so_far && j.tidy)
   properties_more = reached_more one_property OneProperty all_properties AllProperties properties_step
 
-  pub properties_fail : (ps : List (ℕ × Form)) (bytes : List ℕ) (k at : ℕ) (canonical so_far : Bool) (e : ParserError) (other : ℕ × Form) → k < length ps → ArePropertiesReached ps bytes k at canonical so_far
+  pub properties_fail : (ps : List (ℕ × Form)) (bytes : List ℕ) (k at : ℕ) (canonical so_far : Bool) (e : ParserError) (other : ℕ × Form)
+      → k < length ps → ArePropertiesReached ps bytes k at canonical so_far
       → Fails e (one_property (get_or ps k other) (drop at bytes)) → Fails e (all_properties ps bytes)
   properties_fail = reached_fails one_property OneProperty all_properties AllProperties properties_stop
 
-  pub properties_all : (ps : List (ℕ × Form)) (bytes : List ℕ) (k at : ℕ) (canonical so_far : Bool) → length ps ≤ k → ArePropertiesReached ps bytes k at canonical so_far → JudgesLevels (AllProperties ps) bytes (judgement at canonical so_far) (all_properties ps bytes)
+  -- Where all properties were decoded, what is said of them up to the end is said of all.
+  pub properties_all : (ps : List (ℕ × Form)) (bytes : List ℕ) (k at : ℕ) (canonical so_far : Bool) → length ps ≤ k
+      → ArePropertiesReached ps bytes k at canonical so_far → JudgesLevels (AllProperties ps) bytes (judgement at canonical so_far) (all_properties ps bytes)
   properties_all = reached_all one_property OneProperty all_properties AllProperties no_properties
 
-  module _ (ps : List (ℕ × Form)) (bytes : List ℕ) (k at : ℕ) (canonical so_far : Bool) (other : ℕ × Form) (more : k < length ps) (before : ArePropertiesReached ps bytes k at canonical so_far) where
+  module _ (ps : List (ℕ × Form)) (bytes : List ℕ) (k at : ℕ) (canonical so_far : Bool) (other : ℕ × Form)
+      (more : k < length ps) (before : ArePropertiesReached ps bytes k at canonical so_far) where
     abbrev bit : ℕ
     bit = let p = get_or ps k other in p.0
 
@@ -137,7 +163,9 @@ module _ (mask : ℕ) where
     -- the next one is not present
     pub property_absent : flag_at mask bit ≡ false → ArePropertiesReached ps bytes (k + 1) at canonical so_far
     property_absent absent =
-        let next = properties_more ps bytes k at canonical so_far (record { used = 0; canonical = true; tidy = true }) other more before (optional_none (flag_at mask bit) form (drop at bytes) absent) in
+        let next =
+        properties_more ps bytes k at canonical so_far (record { used = 0; canonical = true; tidy = true }) other more before
+        (optional_none (flag_at mask bit) form (drop at bytes) absent) in
         let none : at + 0 ≡ at = omega arith in
         let P : ℕ → Type 0 = λ n. ArePropertiesReached ps bytes (k + 1) n (canonical && true) (so_far && true) in
         let Q : Bool → Type 0 = λ b. ArePropertiesReached ps bytes (k + 1) at b (so_far && true) in
@@ -145,40 +173,58 @@ module _ (mask : ℕ) where
         subst R (and_true so_far) (subst Q (and_true canonical) (subst P none next))
 
     -- it is, and was decoded
-    pub property_there : (j : Judgement) → IsBytes bytes → flag_at mask bit ≡ true → TakesTidily (SpellsForm strict form) (SpellsForm tidy form) j (drop at bytes) (judge_form form (drop at bytes))
+    pub property_there : (j : Judgement) → IsBytes bytes → flag_at mask bit ≡ true
+        → TakesTidily (SpellsForm strict form) (SpellsForm tidy form) j (drop at bytes) (judge_form form (drop at bytes))
         → ArePropertiesReached ps bytes (k + 1) (at + j.used) (canonical && j.canonical) (so_far && j.tidy)
-    property_there j fits there h = properties_more ps bytes k at canonical so_far j other more before (optional_there (flag_at mask bit) form (drop at bytes) (Ok j) (IsBytes-drop at bytes fits) there h)
+    property_there j fits there h =
+        properties_more ps bytes k at canonical so_far j other more before
+        (optional_there (flag_at mask bit) form (drop at bytes) (Ok j) (IsBytes-drop at bytes fits) there h)
 
     -- it is, and was not decoded
-    pub property_fails : (e : ParserError) → IsBytes bytes → flag_at mask bit ≡ true → Fails e (judge_form form (drop at bytes)) → Fails e (all_properties ps bytes)
-    property_fails e fits there h = properties_fail ps bytes k at canonical so_far e other more before (optional_there (flag_at mask bit) form (drop at bytes) (Err e) (IsBytes-drop at bytes fits) there h)
+    pub property_fails : (e : ParserError) → IsBytes bytes → flag_at mask bit ≡ true
+        → Fails e (judge_form form (drop at bytes)) → Fails e (all_properties ps bytes)
+    property_fails e fits there h =
+        properties_fail ps bytes k at canonical so_far e other more before
+        (optional_there (flag_at mask bit) form (drop at bytes) (Err e) (IsBytes-drop at bytes fits) there h)
 
 -- of the whole table
-pub set_judged : (mask : ℕ) (ps : List (ℕ × Form)) (bytes : List ℕ) (r : Result Judgement ParserError) → map property_of ps ≡ properties → JudgesLevels (λ level. SpellsSet level mask (map property_of ps)) bytes r (judge_set mask (map property_of ps) bytes)
+pub set_judged : (mask : ℕ) (ps : List (ℕ × Form)) (bytes : List ℕ) (r : Result Judgement ParserError) → map property_of ps ≡ properties
+    → JudgesLevels (λ level. SpellsSet level mask (map property_of ps)) bytes r (judge_set mask (map property_of ps) bytes)
     → JudgesLevels (λ level. SpellsSet level mask properties) bytes r (judge_set mask properties bytes)
-set_judged mask ps bytes r is h = let P : List Property → Type 0 = λ xs. JudgesLevels (λ level. SpellsSet level mask xs) bytes r (judge_set mask xs bytes) in subst P is h
+set_judged mask ps bytes r is h =
+    let P : List Property → Type 0 = λ xs. JudgesLevels (λ level. SpellsSet level mask xs) bytes r (judge_set mask xs bytes) in
+    subst P is h
 
 -- ---- the mask
 
 abbrev NoUnused : ℕ → Type 0
 NoUnused mask = (flag_at mask 1 ≡ false) × (flag_at mask 0 ≡ false)
 
-pub properties_unread : {A : Type 0} (bytes : List ℕ) (view : A → ℕ) (e : ParserError) → AnswersFully view (Err e) (judge_number bytes2 bytes) → Fails e (judge_properties bytes)
+-- An error in the mask is the error of the properties.
+pub properties_unread : {A : Type 0} (bytes : List ℕ) (view : A → ℕ) (e : ParserError)
+    → AnswersFully view (Err e) (judge_number bytes2 bytes) → Fails e (judge_properties bytes)
 unfolding judge_properties
 properties_unread bytes view e h = fails_next e (judge_number bytes2 bytes) _ (fully view e (judge_number bytes2 bytes) h)
 
-mask_read : (bytes : List ℕ) (mask n : ℕ) → judge_number bytes2 bytes ≡ took mask n → judge_properties bytes ≡ (judge_set mask properties (drop n bytes) >>= λ set. took set.0 (n + set.1))
+mask_read : (bytes : List ℕ) (mask n : ℕ) → judge_number bytes2 bytes ≡ took mask n
+    → judge_properties bytes ≡ (judge_set mask properties (drop n bytes) >>= λ set. took set.0 (n + set.1))
 unfolding judge_properties
 mask_read bytes mask n is = ap (λ j. j >>= λ m. judge_set m.0 properties (drop m.1 bytes) >>= λ set. took set.0 (m.1 + set.1)) is
 
-pub set_fails : (bytes : List ℕ) (mask n : ℕ) (e : ParserError) → judge_number bytes2 bytes ≡ took mask n → Fails e (judge_set mask properties (drop n bytes)) → Fails e (judge_properties bytes)
-set_fails bytes mask n e is h = let P : Judged (List (Option Item)) → Type 0 = λ j. Fails e j in subst P (sym (mask_read bytes mask n is)) (fails_next e (judge_set mask properties (drop n bytes)) _ h)
+-- An error in the properties that the mask sets is the error of all.
+pub set_fails : (bytes : List ℕ) (mask n : ℕ) (e : ParserError) → judge_number bytes2 bytes ≡ took mask n
+    → Fails e (judge_set mask properties (drop n bytes)) → Fails e (judge_properties bytes)
+set_fails bytes mask n e is h =
+    let P : Judged (List (Option Item)) → Type 0 = λ j. Fails e j in
+    subst P (sym (mask_read bytes mask n is)) (fails_next e (judge_set mask properties (drop n bytes)) _ h)
 
-module _ (bytes : List ℕ) (mask n used : ℕ) (options : List (Option Item)) (fits : IsBytes bytes) (is : judge_number bytes2 bytes ≡ took mask n) (set_is : judge_set mask properties (drop n bytes) ≡ took options used) where
+module _ (bytes : List ℕ) (mask n used : ℕ) (options : List (Option Item)) (fits : IsBytes bytes)
+    (is : judge_number bytes2 bytes ≡ took mask n) (set_is : judge_set mask properties (drop n bytes) ≡ took options used) where
   number : SpellsNumber bytes2 (take n bytes) mask × (n ≤ length bytes)
   number = (numbers_lawful bytes2).exact.spelled bytes mask n fits is
 
-  properties_at : (level : Level) → (NoUnused mask → FromTidy level (NoUnused mask)) → SpellsSet level mask properties (take used (drop n bytes)) options × NoUnused mask → SpellsProperties level (take (n + used) bytes) options
+  properties_at : (level : Level) → (NoUnused mask → FromTidy level (NoUnused mask))
+      → SpellsSet level mask properties (take used (drop n bytes)) options × NoUnused mask → SpellsProperties level (take (n + used) bytes) options
   properties_at level from h = record {
     mask = mask;
     behind = take used (drop n bytes);
@@ -193,31 +239,49 @@ module _ (bytes : List ℕ) (mask n used : ℕ) (options : List (Option Item)) (
   same_mask level s =
       let tail = s.behind ++ drop (n + used) bytes in
       let front = number_bytes bytes2 s.mask in
-      let all : bytes ≡ front ++ tail = sym (take-append-drop (n + used) bytes) ∙ ap (λ bs. bs ++ drop (n + used) bytes) s.bytes_are ∙ append_assoc front s.behind (drop (n + used) bytes) in
-      value_took s.mask mask (length front) n (sym ((numbers_lawful bytes2).exact.taken front tail s.mask (record { fits = s.fits; bytes_are = refl })) ∙ sym (ap (judge_number bytes2) all) ∙ is)
+      let all : bytes ≡ front ++ tail =
+      sym (take-append-drop (n + used) bytes) ∙ ap (λ bs. bs ++ drop (n + used) bytes) s.bytes_are ∙ append_assoc front s.behind (drop (n + used) bytes) in
+      value_took s.mask mask (length front) n
+      (sym ((numbers_lawful bytes2).exact.taken front tail s.mask (record { fits = s.fits; bytes_are = refl })) ∙ sym (ap (judge_number bytes2) all) ∙ is)
 
-  set_at : (level : Level) → ((s : SpellsProperties level (take (n + used) bytes) options) → NoUnused s.mask) → SpellsProperties level (take (n + used) bytes) options → SpellsSet level mask properties (take used (drop n bytes)) options × NoUnused mask
+  set_at : (level : Level) → ((s : SpellsProperties level (take (n + used) bytes) options) → NoUnused s.mask)
+      → SpellsProperties level (take (n + used) bytes) options → SpellsSet level mask properties (take used (drop n bytes)) options × NoUnused mask
   set_at level to s =
       let same = same_mask level s in
       let P : ℕ → Type 0 = λ m. SpellsSet level m properties s.behind options in
       let Q : ℕ → Type 0 = λ m. NoUnused m in
       let both : SpellsBoth (SpellsNumber bytes2) (SpellsSet level mask properties) (λ m o. o) (take (n + used) bytes) options =
-      record { front = number_bytes bytes2 s.mask; behind = s.behind; one = s.mask; two = options; bytes_are = s.bytes_are; first_is = record { fits = s.fits; bytes_are = refl }; second_is = subst P same s.set; joined = refl } in
-      let split = split_at (judge_number bytes2) (judge_set mask properties) (λ m o. o) (λ level. SpellsNumber bytes2) (λ level. SpellsSet level mask properties) (law_read (judge_number bytes2) (λ level. SpellsNumber bytes2) (number_bytes bytes2) (numbers_lawful bytes2)) (set_read mask properties)
+      record {
+        front = number_bytes bytes2 s.mask;
+        behind = s.behind;
+        one = s.mask;
+        two = options;
+        bytes_are = s.bytes_are;
+        first_is = record { fits = s.fits; bytes_are = refl };
+        second_is = subst P same s.set;
+        joined = refl;
+      } in
+      let split =
+      split_at (judge_number bytes2) (judge_set mask properties) (λ m o. o) (λ level. SpellsNumber bytes2) (λ level. SpellsSet level mask properties)
+      (law_read (judge_number bytes2) (λ level. SpellsNumber bytes2) (number_bytes bytes2) (numbers_lawful bytes2)) (set_read mask properties)
       level bytes mask options n used is set_is both
       in
       (split.1, subst Q same (to s))
 
-pub properties_took : (bytes : List ℕ) (mask n : ℕ) (unused : Bool) (j : Judgement) → IsBytes bytes → judge_number bytes2 bytes ≡ took mask n → IsTrue unused ↔ NoUnused mask
+-- Properties take the mask and those that it sets, and are canonical, or tidy, exactly where these are and no unused bit is set.
+pub properties_took : (bytes : List ℕ) (mask n : ℕ) (unused : Bool) (j : Judgement)
+    → IsBytes bytes → judge_number bytes2 bytes ≡ took mask n → IsTrue unused ↔ NoUnused mask
     → TakesTidily (SpellsSet strict mask properties) (SpellsSet tidy mask properties) j (drop n bytes) (judge_set mask properties (drop n bytes))
-    → TakesTidily (SpellsProperties strict) (SpellsProperties tidy) (record { used = n + j.used; canonical = j.canonical && unused; tidy = j.tidy && unused }) bytes (judge_properties bytes)
+    → TakesTidily (SpellsProperties strict) (SpellsProperties tidy)
+    (record { used = n + j.used; canonical = j.canonical && unused; tidy = j.tidy && unused }) bytes (judge_properties bytes)
 properties_took bytes mask n unused j fits is none h =
     let up = λ (level : Level). properties_at bytes mask n j.used h.thing fits is h.is level in
     let down = λ (level : Level). set_at bytes mask n j.used h.thing fits is h.is level in
     record {
       thing = h.thing;
       is = mask_read bytes mask n is ∙ ap (λ k. k >>= λ set. took set.0 (n + set.1)) h.is;
-      canonical = decided_as (j.canonical && unused) _ _ (both_decided j.canonical unused _ _ h.canonical none) (up strict (λ x. x)) (down strict (λ s. s.unused));
+      canonical =
+          decided_as (j.canonical && unused) _ _ (both_decided j.canonical unused _ _ h.canonical none) (up strict (λ x. x)) (down strict (λ s. s.unused));
       tidy = decided_as (j.tidy && unused) _ _ (both_decided j.tidy unused _ _ h.tidy none) (up tidy (λ x. x)) (down tidy (λ s. s.unused));
     }
 
@@ -227,13 +291,19 @@ bit_beyond mask bit fits far = let none = bit_at_above mask 16 bit fits far in n
 
 -- ---- content headers
 
+-- An error in the front of a content header is the error of the header.
 pub header_unread : (bytes : List ℕ) (e : ParserError) → Fails e (judge_slots header_slots bytes) → Fails e (judge_content_header bytes)
 unfolding judge_content_header
 header_unread bytes e h = fails_next e (judge_slots header_slots bytes) _ h
 
-pub header_judged : (bytes : List ℕ) (j : Judgement) (r : Result Judgement ParserError) → IsBytes bytes → JudgesLevels (λ level. SpellsSlots level header_slots) bytes (Ok j) (judge_slots header_slots bytes)
-    → JudgesLevels SpellsProperties (drop j.used bytes) r (judge_properties (drop j.used bytes)) → JudgesTidily IsCanonicalContentHeader (SpellsContentHeader tidy) bytes (after_others j.used j.canonical j.tidy r) (judge_content_header bytes)
+-- Where the front of a content header is taken, the header is decoded as its properties are, after the front.
+pub header_judged : (bytes : List ℕ) (j : Judgement) (r : Result Judgement ParserError) → IsBytes bytes
+    → JudgesLevels (λ level. SpellsSlots level header_slots) bytes (Ok j) (judge_slots header_slots bytes)
+    → JudgesLevels SpellsProperties (drop j.used bytes) r (judge_properties (drop j.used bytes))
+    → JudgesTidily IsCanonicalContentHeader (SpellsContentHeader tidy) bytes (after_others j.used j.canonical j.tidy r) (judge_content_header bytes)
 unfolding judge_content_header
 header_judged bytes j r fits front behind =
-    canonical_of_levels judge_content_header SpellsContentHeader content_header_bytes content_headers_lawful bytes (after_others j.used j.canonical j.tidy r) fits
-    (both_judged (judge_slots header_slots) judge_properties header_of_parts (λ level. SpellsSlots level header_slots) SpellsProperties (slots_read header_slots) (law_read judge_properties SpellsProperties properties_bytes properties_lawful) bytes j r front behind)
+    canonical_of_levels judge_content_header SpellsContentHeader content_header_bytes content_headers_lawful bytes
+    (after_others j.used j.canonical j.tidy r) fits
+    (both_judged (judge_slots header_slots) judge_properties header_of_parts (λ level. SpellsSlots level header_slots) SpellsProperties
+    (slots_read header_slots) (law_read judge_properties SpellsProperties properties_bytes properties_lawful) bytes j r front behind)

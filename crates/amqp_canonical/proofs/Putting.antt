@@ -5,20 +5,25 @@ use Rattle.amqp_types.specs.Writing.{Puts, written}
 use Rattle.amqp_types.proofs.Written.{written-written, written-nil}
 use Rattle.amqp_canonical.specs.Writes.{HasRoom, PutsIfRoom}
 
-pub then_put : {old middle new : List ℕ} {at place end : ℕ} {first second : List ℕ} → PutsIfRoom old middle at first place → PutsIfRoom middle new place second end → PutsIfRoom old new at (first ++ second) end
+-- Bytes put, and others at the place after them, are one put of all, as far as there is room.
+pub then_put : {old middle new : List ℕ} {at place end : ℕ} {first second : List ℕ} → PutsIfRoom old middle at first place
+    → PutsIfRoom middle new place second end → PutsIfRoom old new at (first ++ second) end
 then_put {old} {middle} {new} {at} {place} {end} {first} {second} one two =
     let sum = length-append first second in
     record {
       put = λ room.
           let before = one.put (omega (arith, sum, room)) in
-          two.put (omega (arith, one.same, one.behind, sum, room)) ∙ ap (λ buf. written buf place second) before ∙ written-written old at place first second one.behind room;
+          two.put (omega (arith, one.same, one.behind, sum, room)) ∙ ap (λ buf. written buf place second) before
+          ∙ written-written old at place first second one.behind room;
       behind = two.behind ∙ omega (arith, one.behind, sum);
       same = two.same ∙ one.same;
     }
 
+-- Putting no bytes leaves the buffer as it was, and ends where it began.
 pub none_put : (buf : List ℕ) (at : ℕ) (bytes : List ℕ) → bytes ≡ [] → PutsIfRoom buf buf at bytes at
 none_put buf at bytes none = record { put = λ room. sym (ap (written buf at) none ∙ written-nil buf at); behind = omega (arith, ap length none); same = refl }
 
+-- A put of bytes is a put of equal bytes.
 pub same_put : {old new : List ℕ} {at end : ℕ} {bytes other : List ℕ} → bytes ≡ other → PutsIfRoom old new at bytes end → PutsIfRoom old new at other end
 same_put {old} {new} {at} {end} is h = let P : List ℕ → Type 0 = λ bs. PutsIfRoom old new at bs end in subst P is h
 
@@ -31,7 +36,8 @@ pub tested_room : {end len : ℕ} → end < 2 ^ 64 → HasRoom false end len
 tested_room few = record { few = few; room = λ known. absurd cc }
 
 -- where there is room, everything is put
-pub put_in_room : {old new : List ℕ} {at end : ℕ} {bytes : List ℕ} → at + length bytes ≤ length old → PutsIfRoom old new at bytes end → Puts old new at bytes end
+pub put_in_room : {old new : List ℕ} {at end : ℕ} {bytes : List ℕ}
+    → at + length bytes ≤ length old → PutsIfRoom old new at bytes end → Puts old new at bytes end
 put_in_room room h = record { put = h.put room; behind = h.behind }
 
 -- the first things were put, and the others are left
@@ -47,17 +53,22 @@ pub record IsEach {A : Type 0} (content : List A → List ℕ) (one : A → List
 module _ {A : Type 0} (content : List A → List ℕ) (one : A → List ℕ) (each : IsEach content one) where
   content_parts : (xs ys : List A) → content (xs ++ ys) ≡ content xs ++ content ys
   content_parts [] ys = sym (ap (λ bs. bs ++ content ys) each.none)
-  content_parts (x ∷ xs) ys = each.more x (xs ++ ys) ∙ ap (λ bs. one x ++ bs) (content_parts xs ys) ∙ sym (append_assoc (one x) (content xs) (content ys)) ∙ ap (λ bs. bs ++ content ys) (sym (each.more x xs))
+  content_parts (x ∷ xs) ys =
+      each.more x (xs ++ ys) ∙ ap (λ bs. one x ++ bs) (content_parts xs ys)
+      ∙ sym (append_assoc (one x) (content xs) (content ys)) ∙ ap (λ bs. bs ++ content ys) (sym (each.more x xs))
 
   content_one : (xs : List A) (x : A) → content (xs ++ x ∷ []) ≡ content xs ++ one x
   content_one xs x = content_parts xs (x ∷ []) ∙ ap (λ bs. content xs ++ bs) (each.more x [] ∙ ap (λ bs. one x ++ bs) each.none ∙ append-nil (one x))
 
+  -- At the start none of a list were put, and the buffer is as it was.
   pub put_none : (all : List A) (buf : List ℕ) (at : ℕ) → PutTo content all [] all buf buf at at
   put_none all buf at = record { parts = refl; put = none_put buf at (content []) each.none }
 
   module _ (all done left : List A) (x : A) (old mid : List ℕ) (at end : ℕ) (h : PutTo content all done (x ∷ left) old mid at end) where
     total : length (content all) ≡ length (content done) + (length (one x) + length (content left))
-    total = ap (λ xs. length (content xs)) (sym h.parts) ∙ ap length (content_parts done (x ∷ left) ∙ ap (λ bs. content done ++ bs) (each.more x left)) ∙ omega (arith, length-append (content done) (one x ++ content left), length-append (one x) (content left))
+    total =
+        ap (λ xs. length (content xs)) (sym h.parts) ∙ ap length (content_parts done (x ∷ left) ∙ ap (λ bs. content done ++ bs) (each.more x left))
+        ∙ omega (arith, length-append (content done) (one x ++ content left), length-append (one x) (content left))
 
     -- the next one does not pass the end
     pub put_within : end + length (one x) ≤ at + length (content all)

@@ -1,5 +1,6 @@
 -- What was read, by its parts.
-use Rattle.std.proofs.Common.{◌≡◌, ℕ, suc, ◌+◌, ◌<◌, ◌≤◌, nat_lt, List, [], ◌∷◌, length, get_or, take, drop, Some, None, Result, Ok, Err, refl, sym, ap, ap₂, subst, ◌∙◌, arith}
+use Rattle.std.proofs.Common.{◌≡◌, ℕ, suc, ◌+◌, ◌<◌, ◌≤◌, nat_lt, List, [], ◌∷◌, length, get_or, take, drop, Some, None, Result, Ok, Err, refl}
+use Rattle.std.proofs.Common.{sym, ap, ap₂, subst, ◌∙◌, arith}
 use Rattle.std.proofs.lemmas.Bool.Decides.{nat_tests}
 use Rattle.std.proofs.lemmas.List.{length-take-le}
 use Rattle.std.specs.Str.{is_utf8}
@@ -24,11 +25,13 @@ use Rattle.amqp_canonical.proofs.Refusing.{Fails}
 use Rattle.amqp_canonical.proofs.AfterTag.{judged_tag, value_empty, value_unknown}
 use Rattle.amqp_types.specs.Tidiness.{used_by}
 
+-- What was decoded is a value, with a number of bytes taken.
 pub took_of : {A : Type 0} (j : Judged A) → IsRead j → (x : A) × (n : ℕ) × (j ≡ took x n)
 took_of (took x n) h = (x, n, refl)
 took_of past h = absurd h
 took_of (fault bad) h = absurd h
 
+-- A value that was taken was decoded.
 pub is_read : {A : Type 0} (j : Judged A) (x : A) (n : ℕ) → j ≡ took x n → IsRead j
 is_read j x n h = let P : Judged _ → Type 0 = λ k. IsRead k in subst P (sym h) tt
 
@@ -47,6 +50,7 @@ refused_took errors.UnknownTag x n h = let e = h.1 in cc
 refused_took errors.TooDeep x n h = let e = h.1 in cc
 refused_took errors.NoMemory x n h = h.0 refl
 
+-- What is refused was not decoded.
 pub unread : {A : Type 0} (e : ParserError) (j : Judged A) → Fails e j → IsRead j → ⊥
 unread e (took x n) h r = refused_took e x n h
 unread e past h r = r
@@ -73,12 +77,15 @@ with_tag_used (took v n) h = refl
 with_tag_used past h = absurd h
 with_tag_used (fault bad) h = absurd h
 
-with_tag_bytes : (j : Judged FieldValue) (t : FieldTag) → ((v : FieldValue) (n : ℕ) → j ≡ took v n → tag_of v ≡ t) → IsRead (with_tag j) → canonical_of tagged_bytes (with_tag j) ≡ tag_byte t ∷ canonical_of value_bytes j
+with_tag_bytes : (j : Judged FieldValue) (t : FieldTag) → ((v : FieldValue) (n : ℕ) → j ≡ took v n → tag_of v ≡ t)
+    → IsRead (with_tag j) → canonical_of tagged_bytes (with_tag j) ≡ tag_byte t ∷ canonical_of value_bytes j
 with_tag_bytes (took v n) t kind h = ap (λ u. tag_byte u ∷ value_bytes v) (kind v n refl)
 with_tag_bytes past t kind h = absurd h
 with_tag_bytes (fault bad) t kind h = absurd h
 
-pub tag_parts : (room : ℕ) (bytes : List ℕ) (t : FieldTag) → 0 < length bytes → tag_at (get_or bytes 0 0) ≡ Some t → IsRead (judge_value room bytes) → TagParts room bytes t
+-- A decoded value with a tag is decoded after the tag, and its canonical bytes are the tag byte that is written and those after it.
+pub tag_parts : (room : ℕ) (bytes : List ℕ) (t : FieldTag) → 0 < length bytes
+    → tag_at (get_or bytes 0 0) ≡ Some t → IsRead (judge_value room bytes) → TagParts room bytes t
 tag_parts room bytes t some is h =
     let j = judge_behind (nested room) t (drop 1 bytes) in
     let same : judge_value room bytes ≡ with_tag j = judged_tag room bytes (Some t) some is in
@@ -94,6 +101,7 @@ tag_parts room bytes t some is h =
 pub none_read : (room : ℕ) (bytes : List ℕ) → length bytes < 1 → IsRead (judge_value room bytes) → ⊥
 none_read room bytes few h = let P : Judged FieldValue → Type 0 = λ k. IsRead k in subst P (value_empty room bytes few) h
 
+-- No value is decoded where the first byte is no tag.
 pub unknown_read : (room : ℕ) (bytes : List ℕ) → 0 < length bytes → tag_at (get_or bytes 0 0) ≡ None → IsRead (judge_value room bytes) → ⊥
 unknown_read room bytes some is h = let P : Judged FieldValue → Type 0 = λ k. IsRead k in subst P (value_unknown room bytes some is) h
 
@@ -108,7 +116,9 @@ pub record EntryParts (room : ℕ) (bytes : List ℕ) : Type 0 where
   pub front : take (1 + length (key_in bytes)) bytes ≡ short_string_bytes (key_in bytes)
 
 -- what a short string was read of
-pub text_parts : (bytes text : List ℕ) (n : ℕ) → judge_short_string bytes ≡ took text n → (text ≡ key_in bytes) × (n ≡ 1 + length (key_in bytes)) × (drop n bytes ≡ after_key bytes) × (1 + length (key_in bytes) ≤ length bytes) × (take (1 + length (key_in bytes)) bytes ≡ short_string_bytes (key_in bytes))
+pub text_parts : (bytes text : List ℕ) (n : ℕ) → judge_short_string bytes ≡ took text n
+    → (text ≡ key_in bytes) × (n ≡ 1 + length (key_in bytes)) × (drop n bytes ≡ after_key bytes)
+    × (1 + length (key_in bytes) ≤ length bytes) × (take (1 + length (key_in bytes)) bytes ≡ short_string_bytes (key_in bytes))
 unfolding judge_short_string
 text_parts [] text n h = absurd cc
 text_parts (k ∷ bytes) text n h =
@@ -125,6 +135,7 @@ text_parts (k ∷ bytes) text n h =
       ap (λ m. take m (k ∷ bytes)) one ∙ ap (λ m. m ∷ take k bytes) (sym count),
     )
 
+-- A decoded entry is its key, which is canonical, and its value, decoded after the key.
 pub entry_parts : (room : ℕ) (bytes : List ℕ) → IsRead (judge_entry (judge_value room) bytes) → EntryParts room bytes
 unfolding judge_entry
 entry_parts room bytes h =
@@ -146,6 +157,7 @@ entry_parts room bytes h =
 
 -- ---- what fills a table or an array
 
+-- the first of what fills some bytes, how many it takes, and what fills those after it
 pub record First {A : Type 0} (item : Judge A) (bytes : List ℕ) : Type 0 where
   pub thing : A
   pub size : ℕ
@@ -159,7 +171,8 @@ filled_of : {A : Type 0} (r : Result (List A) Fault) → IsFilled r → (xs : Li
 filled_of (Ok xs) h = (xs, refl)
 filled_of (Err bad) h = absurd h
 
-filled_rest : {A : Type 0} (x : A) (r : Result (List A) Fault) → IsFilled (read_map (λ xs. x ∷ xs) r) → IsFilled r × (items_of (read_map (λ xs. x ∷ xs) r) ≡ x ∷ items_of r)
+filled_rest : {A : Type 0} (x : A) (r : Result (List A) Fault) → IsFilled (read_map (λ xs. x ∷ xs) r)
+    → IsFilled r × (items_of (read_map (λ xs. x ∷ xs) r) ≡ x ∷ items_of r)
 filled_rest x (Ok xs) h = (tt, refl)
 filled_rest x (Err bad) h = absurd h
 
@@ -173,7 +186,8 @@ unfolding filled
 first_taken item [] some h = absurd (omega arith)
 first_taken item (b ∷ bytes) some h = first_read (item (b ∷ bytes)) _ h
 
-first_of_filled : {A : Type 0} (item : Judge A) (Spells : List ℕ → A → Type 0) → IsExact item Spells → HasBytes Spells → (bytes : List ℕ) → IsBytes bytes → 0 < length bytes → IsFilled (filled item 0 bytes) → First item bytes
+first_of_filled : {A : Type 0} (item : Judge A) (Spells : List ℕ → A → Type 0) → IsExact item Spells → HasBytes Spells
+    → (bytes : List ℕ) → IsBytes bytes → 0 < length bytes → IsFilled (filled item 0 bytes) → First item bytes
 first_of_filled item Spells exact some bytes fits more h =
     let one = first_taken item bytes more h in
     let x = one.0 in
@@ -185,11 +199,16 @@ first_of_filled item Spells exact some bytes fits more h =
     let rest = filled_rest x (filled item 0 (drop n bytes)) (subst P next h) in
     record { thing = x; size = n; is = one.2; some = up; within = spelled.1; left = rest.0; all = ap (λ r. items_of r) next ∙ rest.1 }
 
+-- Where some bytes are values, and not empty, a value stands first, and those after it are values.
 pub first_value : (room : ℕ) (bytes : List ℕ) → IsBytes bytes → 0 < length bytes → IsFilled (filled (judge_value room) 0 bytes) → First (judge_value room) bytes
 first_value room = first_of_filled (judge_value room) (SpellsValue plain room) (value_exact room) (value_some plain room)
 
-pub first_entry : (room : ℕ) (bytes : List ℕ) → IsBytes bytes → 0 < length bytes → IsFilled (filled (judge_entry (judge_value room)) 0 bytes) → First (judge_entry (judge_value room)) bytes
-first_entry room = first_of_filled (judge_entry (judge_value room)) (SpellsEntry (SpellsValue plain room)) (entry_exact (judge_value room) (SpellsValue plain room) (value_exact room)) (entry_some (SpellsValue plain room))
+-- Where some bytes are entries, and not empty, an entry stands first, and those after it are entries.
+pub first_entry : (room : ℕ) (bytes : List ℕ) → IsBytes bytes → 0 < length bytes
+    → IsFilled (filled (judge_entry (judge_value room)) 0 bytes) → First (judge_entry (judge_value room)) bytes
+first_entry room =
+    first_of_filled (judge_entry (judge_value room)) (SpellsEntry (SpellsValue plain room))
+    (entry_exact (judge_value room) (SpellsValue plain room) (value_exact room)) (entry_some (SpellsValue plain room))
 
 -- nothing fills what stands after the end
 pub none_filled : {A : Type 0} (item : Judge A) (bytes : List ℕ) (at : ℕ) → length bytes ≤ at → items_of (filled item 0 (drop at bytes)) ≡ []
@@ -199,7 +218,8 @@ none_filled item bytes at long = ap (λ bs. items_of (filled item 0 bs)) (none_l
 -- ---- sizes and keys of entries
 
 -- the size of an entry is that of its key and its value
-pub entry_used : (room : ℕ) (bytes : List ℕ) (k n : ℕ) → k ≡ length (key_in bytes) → (IsRead (judge_value room (after_key bytes)) → n ≡ used_by (judge_value room (after_key bytes))) → IsRead (judge_entry (judge_value room) bytes)
+pub entry_used : (room : ℕ) (bytes : List ℕ) (k n : ℕ) → k ≡ length (key_in bytes)
+    → (IsRead (judge_value room (after_key bytes)) → n ≡ used_by (judge_value room (after_key bytes))) → IsRead (judge_entry (judge_value room) bytes)
     → 1 + k + n ≡ used_by (judge_entry (judge_value room) bytes)
 entry_used room bytes k n key value h =
     let p = entry_parts room bytes h in
@@ -209,5 +229,6 @@ entry_used room bytes k n key value h =
     omega (arith, all, count, n_is, key)
 
 -- the key of an entry stands in front
-pub entry_key : (room : ℕ) (bytes : List ℕ) → IsRead (judge_entry (judge_value room) bytes) → key_in bytes ≡ (judged_entry (judge_entry (judge_value room) bytes)).0
+pub entry_key : (room : ℕ) (bytes : List ℕ) → IsRead (judge_entry (judge_value room) bytes)
+    → key_in bytes ≡ (judged_entry (judge_entry (judge_value room) bytes)).0
 entry_key room bytes h = let p = entry_parts room bytes h in sym (ap (λ j. (judged_entry j).0) p.is)

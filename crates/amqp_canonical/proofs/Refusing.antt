@@ -16,6 +16,7 @@ use Rattle.amqp_canonical.specs.Judgements.{MayRefuse, Judges, JudgesEntry}
 abbrev pub Fails : {A : Type 0} → ParserError → Judged A → Type 0
 Fails error judged = MayRefuse error × Refuses error judged
 
+-- Where decoding returns an error, which is never out of memory here, that error is refused.
 pub fully : {A B : Type 0} (view : A → B) (e : ParserError) (j : Judged B) → AnswersFully view (Err e) j → Fails e j
 fully view errors.Incomplete j h = (λ e. cc, h)
 fully view errors.UnknownFrameType j h = (λ e. cc, h)
@@ -45,19 +46,26 @@ inside_refused errors.UnknownTag h = h
 inside_refused errors.TooDeep h = h
 inside_refused errors.NoMemory h = h
 
+-- The error inside of another one is not out of memory, where the other is not.
 pub refused_inside : (error inside : ParserError) → inside ≡ inside_error error → MayRefuse error → MayRefuse inside
 refused_inside error inside is h = subst (λ e. MayRefuse e) (sym is) (inside_refused error h)
 
+-- What a decoding step refuses, the steps after it refuse with the same error.
 pub fails_next : {A B : Type 0} (e : ParserError) (j : Judged A) (f : A × ℕ → Judged B) → Fails e j → Fails e (j >>= f)
 fails_next e j f h = (h.0, refuses_next e j f h.1)
 
+-- An error of the whole content is the error of what holds the content.
 pub fails_whole : {A : Type 0} (e : ParserError) (n : ℕ) (r : Result A Fault) → MayRefuse e × RefusesWhole e r → Fails e (took_all n r)
 fails_whole e n r h = (h.0, refuses_whole e n r h.1)
 
-pub err_judged : {A : Type 0} (IsCanonical : List ℕ → A → Type 0) (bytes : List ℕ) (r : Result ValueJudgement ParserError) (e : ParserError) (j : Judged A) → IsErrAnd r (λ x. x ≡ e) → Fails e j → Judges IsCanonical bytes r j
+-- A refused value is decoded as the error that is returned says.
+pub err_judged : {A : Type 0} (IsCanonical : List ℕ → A → Type 0) (bytes : List ℕ) (r : Result ValueJudgement ParserError) (e : ParserError) (j : Judged A)
+    → IsErrAnd r (λ x. x ≡ e) → Fails e j → Judges IsCanonical bytes r j
 err_judged IsCanonical bytes (Ok w) e j is h = absurd is
 err_judged IsCanonical bytes (Err x) e j is h = let P : ParserError → Type 0 = λ y. Fails y j in subst P (sym is) h
 
-pub entry_err : {K : Type 0} (view : K → List ℕ) (bytes : List ℕ) (r : Result (ValueJudgement × K) ParserError) (e : ParserError) (j : Judged Entry) → IsErrAnd r (λ x. x ≡ e) → Fails e j → JudgesEntry view bytes r j
+-- A refused entry is decoded as the error that is returned says.
+pub entry_err : {K : Type 0} (view : K → List ℕ) (bytes : List ℕ) (r : Result (ValueJudgement × K) ParserError) (e : ParserError) (j : Judged Entry)
+    → IsErrAnd r (λ x. x ≡ e) → Fails e j → JudgesEntry view bytes r j
 entry_err view bytes (Ok w) e j is h = absurd is
 entry_err view bytes (Err x) e j is h = let P : ParserError → Type 0 = λ y. Fails y j in subst P (sym is) h

@@ -1,5 +1,6 @@
 -- What fields were read of, and the bytes in which they are put.
-use Rattle.std.proofs.Common.{Bor, ◌≡◌, ◌<◌, ◌≤◌, ◌^◌, ◌*◌, ◌/◌, ◌%◌, ◌-◌, ℕ, zero, suc, ◌+◌, nat_lt, eqb, cond, Bool, true, false, List, [], ◌∷◌, ◌++◌, length, get_or, take, drop, map, refl, sym, ap, ap₂, subst, ◌∙◌, arith}
+use Rattle.std.proofs.Common.{Bor, ◌≡◌, ◌<◌, ◌≤◌, ◌^◌, ◌*◌, ◌/◌, ◌%◌, ◌-◌, ℕ, zero, suc, ◌+◌, nat_lt, eqb, cond, Bool, true, false, List, [], ◌∷◌, ◌++◌, length}
+use Rattle.std.proofs.Common.{get_or, take, drop, map, refl, sym, ap, ap₂, subst, ◌∙◌, arith}
 use Rattle.std.proofs.lemmas.Bool.{le-ltb}
 use Rattle.std.proofs.lemmas.List.{take_at, drop_at}
 use Rattle.std.proofs.lemmas.Nat.{div-add-mod', pow_pos, pow_below}
@@ -12,7 +13,8 @@ use Rattle.amqp_types.specs.Flags.{flags_from, flags_byte, judge_flags}
 use Rattle.amqp_types.specs.Strings.{judge_short_string, judge_long_string}
 use Rattle.amqp_types.specs.ValueBytes.{table_bytes}
 use Rattle.amqp_types.specs.ValueJudging.{judge_field_table, judge_value}
-use Rattle.amqp_types.specs.Slots.{Item, number_item, flag_item, text_item, bytes_item, entries_item, number_form, flags_form, short_string_form, long_string_form, table_form, kept_slot, reserved_slot}
+use Rattle.amqp_types.specs.Slots.{Item, number_item, flag_item, text_item, bytes_item, entries_item, number_form, flags_form, short_string_form}
+use Rattle.amqp_types.specs.Slots.{long_string_form, table_form, kept_slot, reserved_slot}
 use Rattle.amqp_types.specs.Slots as meant
 use Rattle.amqp_types.specs.SlotJudging.{judge_form, judge_dropped, judge_slot, judge_slots}
 use Rattle.amqp_types.specs.SlotBytes.{item_count, form_bytes, slots_bytes}
@@ -34,17 +36,20 @@ use Rattle.amqp_types.specs.Tidiness.{used_by}
 
 -- ---- what is made of what was read
 
+-- Where what is made of a value is decoded, so is the value.
 pub map_read : {A B : Type 0} (f : A → B) (j : Judged A) → IsRead (j >>= λ x. took (f x.0) x.1) → IsRead j
 map_read f (took x n) h = tt
 map_read f past h = h
 map_read f (fault bad) h = h
 
+-- What is made of a value takes as many bytes as the value.
 pub map_used : {A B : Type 0} (f : A → B) (j : Judged A) → used_by (j >>= λ x. took (f x.0) x.1) ≡ used_by j
 map_used f (took x n) = refl
 map_used f past = refl
 map_used f (fault bad) = refl
 
-map_bytes : {A B : Type 0} (f : A → B) (canonical : B → List ℕ) (j : Judged A) → canonical_of canonical (j >>= λ x. took (f x.0) x.1) ≡ canonical_of (λ x. canonical (f x)) j
+map_bytes : {A B : Type 0} (f : A → B) (canonical : B → List ℕ) (j : Judged A)
+    → canonical_of canonical (j >>= λ x. took (f x.0) x.1) ≡ canonical_of (λ x. canonical (f x)) j
 map_bytes f canonical (took x n) = refl
 map_bytes f canonical past = refl
 map_bytes f canonical (fault bad) = refl
@@ -61,17 +66,22 @@ number_by : (b : Bool) (x n : ℕ) → IsRead (cond b past (took x n)) → n ≡
 number_by true x n h = absurd h
 number_by false x n h = refl
 
-number_used : (width : NumberWidth) (bytes : List ℕ) → IsRead (judge_form (number_form width) bytes) → byte_count width ≡ used_by (judge_form (number_form width) bytes)
+number_used : (width : NumberWidth) (bytes : List ℕ) → IsRead (judge_form (number_form width) bytes)
+    → byte_count width ≡ used_by (judge_form (number_form width) bytes)
 unfolding judge_form
-number_used width bytes h = number_by (nat_lt (length bytes) (byte_count width)) _ _ (map_read (λ n. number_item n ∷ []) (judge_number width bytes) h) ∙ sym (map_used (λ n. number_item n ∷ []) (judge_number width bytes))
+number_used width bytes h =
+    number_by (nat_lt (length bytes) (byte_count width)) _ _ (map_read (λ n. number_item n ∷ []) (judge_number width bytes) h)
+    ∙ sym (map_used (λ n. number_item n ∷ []) (judge_number width bytes))
 
 flags_used : (count : ℕ) (bytes : List ℕ) → IsRead (judge_form (flags_form count) bytes) → 1 ≡ used_by (judge_form (flags_form count) bytes)
 unfolding judge_form judge_flags
 flags_used count bytes h =
     let read = map_read (map flag_item) (judge_flags count bytes) h in
-    number_by (nat_lt (length bytes) 1) _ _ (map_read (flags_from count 0) (judge_number bytes1 bytes) read) ∙ sym (map_used (flags_from count 0) (judge_number bytes1 bytes)) ∙ sym (map_used (map flag_item) (judge_flags count bytes))
+    number_by (nat_lt (length bytes) 1) _ _ (map_read (flags_from count 0) (judge_number bytes1 bytes) read)
+    ∙ sym (map_used (flags_from count 0) (judge_number bytes1 bytes)) ∙ sym (map_used (map flag_item) (judge_flags count bytes))
 
-text_used : (bytes : List ℕ) (k : ℕ) → k ≡ length (key_in bytes) → IsRead (judge_form short_string_form bytes) → 1 + k ≡ used_by (judge_form short_string_form bytes)
+text_used : (bytes : List ℕ) (k : ℕ) → k ≡ length (key_in bytes)
+    → IsRead (judge_form short_string_form bytes) → 1 + k ≡ used_by (judge_form short_string_form bytes)
 unfolding judge_form
 text_used bytes k is h =
     let one = took_of (judge_short_string bytes) (map_read (λ text. text_item text ∷ []) (judge_short_string bytes) h) in
@@ -83,7 +93,9 @@ LongUsed bytes n = IsRead (judge_long_string bytes) → n ≡ used_by (judge_lon
 
 long_used : (bytes : List ℕ) (n : ℕ) → LongUsed bytes n → IsRead (judge_form long_string_form bytes) → n ≡ used_by (judge_form long_string_form bytes)
 unfolding judge_form
-long_used bytes n used h = used (map_read (λ content. bytes_item content ∷ []) (judge_long_string bytes) h) ∙ sym (map_used (λ content. bytes_item content ∷ []) (judge_long_string bytes))
+long_used bytes n used h =
+    used (map_read (λ content. bytes_item content ∷ []) (judge_long_string bytes) h)
+    ∙ sym (map_used (λ content. bytes_item content ∷ []) (judge_long_string bytes))
 
 table_used : (bytes : List ℕ) (n : ℕ) → LongUsed bytes n → IsRead (judge_form table_form bytes) → n ≡ used_by (judge_form table_form bytes)
 unfolding judge_form
@@ -102,27 +114,35 @@ module _ (f : Form) (bytes : List ℕ) where
   as_form : (n : ℕ) (form : meant.Form) → form_of f ≡ form → FormUsed n form → UsedOf n
   as_form n form is = subst (λ g. FormUsed n g) (sym is)
 
+  -- An octet as a field takes 1 byte.
   pub octet_size : f ≡ forms.Octet → UsedOf 1
   octet_size is = as_form 1 (number_form bytes1) (ap form_of is) (number_used bytes1 bytes)
 
+  -- A short as a field takes 2 bytes.
   pub short_size : f ≡ forms.Short → UsedOf 2
   short_size is = as_form 2 (number_form bytes2) (ap form_of is) (number_used bytes2 bytes)
 
+  -- A long as a field takes 4 bytes.
   pub long_size : f ≡ forms.Long → UsedOf 4
   long_size is = as_form 4 (number_form bytes4) (ap form_of is) (number_used bytes4 bytes)
 
+  -- A long long as a field takes 8 bytes.
   pub long_long_size : f ≡ forms.LongLong → UsedOf 8
   long_long_size is = as_form 8 (number_form bytes8) (ap form_of is) (number_used bytes8 bytes)
 
+  -- Flags take 1 byte, however many they are.
   pub flags_size : (count : ℕ) → f ≡ forms.Flags count → UsedOf 1
   flags_size count is = as_form 1 (flags_form count) (ap form_of is) (flags_used count bytes)
 
+  -- A short string as a field takes 1 byte and the bytes of the string.
   pub text_size : (k : ℕ) → k ≡ length (key_in bytes) → f ≡ forms.ShortString → UsedOf (1 + k)
   text_size k count is = as_form (1 + k) short_string_form (ap form_of is) (text_used bytes k count)
 
+  -- A long string as a field takes what the string takes.
   pub counted_size : (n : ℕ) → LongUsed bytes n → f ≡ forms.LongString → UsedOf n
   counted_size n used is = as_form n long_string_form (ap form_of is) (long_used bytes n used)
 
+  -- A table as a field takes what a long string takes.
   pub table_size : (n : ℕ) → LongUsed bytes n → f ≡ forms.Table → UsedOf n
   table_size n used is = as_form n table_form (ap form_of is) (table_used bytes n used)
 
@@ -130,14 +150,16 @@ module _ (f : Form) (bytes : List ℕ) where
 
 same_flags : (count k a b : ℕ) → ((i : ℕ) → i < k + count → bit_at a i ≡ bit_at b i) → flags_from count k a ≡ flags_from count k b
 same_flags zero k a b h = refl
-same_flags (suc count) k a b h = ap₂ (λ f fs. f ∷ fs) (ap (λ n. eqb n 1) (h k (omega arith))) (same_flags count (k + 1) a b (λ i less. h i (omega (arith, less))))
+same_flags (suc count) k a b h =
+    ap₂ (λ f fs. f ∷ fs) (ap (λ n. eqb n 1) (h k (omega arith))) (same_flags count (k + 1) a b (λ i less. h i (omega (arith, less))))
 
 -- the flags of a byte are those of its lowest bits, which are all bits of their byte
 pub lowest_flags : (count byte : ℕ) → byte % 2 ^ count ≡ flags_byte (flags_from count 0 byte)
 lowest_flags count byte =
     let low = byte % 2 ^ count in
     let parts : (byte / 2 ^ count) * 2 ^ count + low ≡ byte = div-add-mod' byte (2 ^ count) in
-    let same : flags_from count 0 low ≡ flags_from count 0 byte = same_flags count 0 low byte (λ i less. sym (bit_at_cat_low (byte / 2 ^ count) count low i (omega (arith, less))) ∙ ap (λ n. bit_at n i) parts) in
+    let same : flags_from count 0 low ≡ flags_from count 0 byte =
+    same_flags count 0 low byte (λ i less. sym (bit_at_cat_low (byte / 2 ^ count) count low i (omega (arith, less))) ∙ ap (λ n. bit_at n i) parts) in
     sym (flags_byte_back count low (omega (arith, pow_pos count))) ∙ ap flags_byte same
 
 -- ---- what a field is put as
@@ -150,7 +172,8 @@ is_copied short_string_form = true
 is_copied long_string_form = true
 is_copied table_form = false
 
-copied_spelled : (form : meant.Form) (bytes : List ℕ) (items : List Item) → is_copied form ≡ true → SpellsForm plain form bytes items → bytes ≡ form_bytes form items
+copied_spelled : (form : meant.Form) (bytes : List ℕ) (items : List Item)
+    → is_copied form ≡ true → SpellsForm plain form bytes items → bytes ≡ form_bytes form items
 unfolding form_bytes
 copied_spelled (number_form width) bytes items is h = h.spelled.bytes_are ∙ ap (λ xs. form_bytes (number_form width) xs) (sym h.made)
 copied_spelled (flags_form count) bytes items is h = absurd cc
@@ -163,7 +186,9 @@ pub record CopiedForm (bytes : List ℕ) (n : ℕ) (form : meant.Form) : Type 0 
   pub within : n ≤ length bytes
   pub bytes_are : take n bytes ≡ canonical_of (form_bytes form) (judge_form form bytes)
 
-pub copied_form : (form : meant.Form) (bytes : List ℕ) (n : ℕ) → is_copied form ≡ true → IsBytes bytes → IsRead (judge_form form bytes) → n ≡ used_by (judge_form form bytes) → CopiedForm bytes n form
+-- A decoded field of a form that is copied has the bytes that it took as its canonical bytes.
+pub copied_form : (form : meant.Form) (bytes : List ℕ) (n : ℕ) → is_copied form ≡ true → IsBytes bytes
+    → IsRead (judge_form form bytes) → n ≡ used_by (judge_form form bytes) → CopiedForm bytes n form
 copied_form form bytes n is fits read used =
     let one = took_of (judge_form form bytes) read in
     let laws = forms_lawful form in
@@ -171,7 +196,8 @@ copied_form form bytes n is fits read used =
     let count : n ≡ one.1 = used ∙ ap (λ j. used_by j) one.2 in
     record {
       within = omega (arith, count, spelled.1);
-      bytes_are = ap (λ k. take k bytes) count ∙ copied_spelled form (take one.1 bytes) one.0 is spelled.0 ∙ sym (ap (λ j. canonical_of (form_bytes form) j) one.2);
+      bytes_are =
+          ap (λ k. take k bytes) count ∙ copied_spelled form (take one.1 bytes) one.0 is spelled.0 ∙ sym (ap (λ j. canonical_of (form_bytes form) j) one.2);
     }
 
 -- forms of the program whose bytes are copied
@@ -202,37 +228,55 @@ no_flags : (count : ℕ) → judge_form (flags_form count) [] ≡ past
 unfolding judge_form judge_flags
 no_flags count = refl
 
-pub flags_slot : (count : ℕ) (bytes : List ℕ) → IsRead (judge_form (flags_form count) bytes) → (0 < length bytes) × (canonical_of (form_bytes (flags_form count)) (judge_form (flags_form count) bytes) ≡ flags_byte (flags_from count 0 (get_or bytes 0 0)) ∷ [])
+-- Decoded flags are in a byte, and their canonical byte is that byte without the bits above them.
+pub flags_slot : (count : ℕ) (bytes : List ℕ) → IsRead (judge_form (flags_form count) bytes)
+    → (0 < length bytes)
+    × (canonical_of (form_bytes (flags_form count)) (judge_form (flags_form count) bytes) ≡ flags_byte (flags_from count 0 (get_or bytes 0 0)) ∷ [])
 unfolding form_bytes
 flags_slot count [] h = let P : Judged (List Item) → Type 0 = λ j. IsRead j in absurd (subst P (no_flags count) h)
-flags_slot count (b ∷ bytes) h = (omega arith, ap (λ j. canonical_of (form_bytes (flags_form count)) j) (flags_taken count b bytes) ∙ ap (λ fs. flags_byte fs ∷ []) (flags_of-map (flags_from count 0 b)))
+flags_slot count (b ∷ bytes) h = (
+  omega arith,
+  ap (λ j. canonical_of (form_bytes (flags_form count)) j) (flags_taken count b bytes) ∙ ap (λ fs. flags_byte fs ∷ []) (flags_of-map (flags_from count 0 b)),
+)
 
-pub table_slot : (bytes : List ℕ) → IsRead (judge_form table_form bytes) → IsRead (judge_field_table bytes) × PutAs forms.Table bytes (canonical_of table_bytes (judge_field_table bytes))
+-- A decoded field of the form of a table is a decoded table, and has its canonical bytes.
+pub table_slot : (bytes : List ℕ) → IsRead (judge_form table_form bytes)
+    → IsRead (judge_field_table bytes) × PutAs forms.Table bytes (canonical_of table_bytes (judge_field_table bytes))
 unfolding judge_form form_bytes
-table_slot bytes h = (map_read (λ es. entries_item es ∷ []) (judge_field_table bytes) h, map_bytes (λ es. entries_item es ∷ []) (form_bytes table_form) (judge_field_table bytes))
+table_slot bytes h = (
+  map_read (λ es. entries_item es ∷ []) (judge_field_table bytes) h,
+  map_bytes (λ es. entries_item es ∷ []) (form_bytes table_form) (judge_field_table bytes),
+)
 
 reserved_read : (form : meant.Form) (bytes : List ℕ) → IsRead (judge_dropped form bytes) → IsRead (judge_form form bytes)
 unfolding judge_dropped
 reserved_read form bytes h = map_read (λ items. []) (judge_form form bytes) h
 
 -- a reserved field is put as its constant
-pub reserved_put : (form : meant.Form) (constant bytes : List ℕ) → is_constant form constant ≡ true → IsRead (judge_dropped form bytes) → canonical_of (λ items. form_bytes form (constant_of form constant)) (judge_dropped form bytes) ≡ constant
-reserved_put form constant bytes is h = constant_bytes (form_bytes form (constant_of form constant)) (judge_dropped form bytes) h ∙ constant_put form constant is
+pub reserved_put : (form : meant.Form) (constant bytes : List ℕ) → is_constant form constant ≡ true → IsRead (judge_dropped form bytes)
+    → canonical_of (λ items. form_bytes form (constant_of form constant)) (judge_dropped form bytes) ≡ constant
+reserved_put form constant bytes is h =
+    constant_bytes (form_bytes form (constant_of form constant)) (judge_dropped form bytes) h ∙ constant_put form constant is
 
-pub constant_slot : (slot : Slot) (form : Form) (constant : Bor (List ℕ)) (bytes : List ℕ) → slot ≡ slots.Reserved form constant → has_constant slot ≡ true → IsRead (judge_slot (slot_of slot) bytes) → canonical_of (slot_bytes (slot_of slot)) (judge_slot (slot_of slot) bytes) ≡ constant.now
+-- A reserved field with a constant has the bytes of the constant as its canonical bytes.
+pub constant_slot : (slot : Slot) (form : Form) (constant : Bor (List ℕ)) (bytes : List ℕ) → slot ≡ slots.Reserved form constant → has_constant slot ≡ true
+    → IsRead (judge_slot (slot_of slot) bytes) → canonical_of (slot_bytes (slot_of slot)) (judge_slot (slot_of slot) bytes) ≡ constant.now
 constant_slot slot form constant bytes is =
-    let P : Slot → Type 0 = λ s. has_constant s ≡ true → IsRead (judge_slot (slot_of s) bytes) → canonical_of (slot_bytes (slot_of s)) (judge_slot (slot_of s) bytes) ≡ constant.now in
+    let P : Slot → Type 0 =
+    λ s. has_constant s ≡ true → IsRead (judge_slot (slot_of s) bytes) → canonical_of (slot_bytes (slot_of s)) (judge_slot (slot_of s) bytes) ≡ constant.now in
     subst P (sym is) (λ there read. reserved_put (form_of form) constant.now bytes there read)
 
 -- and used as its form is
-pub reserved_used : (form : meant.Form) (bytes : List ℕ) (n : ℕ) → (IsRead (judge_form form bytes) → n ≡ used_by (judge_form form bytes)) → IsRead (judge_dropped form bytes) → n ≡ used_by (judge_dropped form bytes)
+pub reserved_used : (form : meant.Form) (bytes : List ℕ) (n : ℕ) → (IsRead (judge_form form bytes) → n ≡ used_by (judge_form form bytes))
+    → IsRead (judge_dropped form bytes) → n ≡ used_by (judge_dropped form bytes)
 unfolding judge_dropped
 reserved_used form bytes n used h = used (reserved_read form bytes h) ∙ sym (map_used (λ items. []) (judge_form form bytes))
 
 -- ---- fields one after another
 
 -- the items of the first field are parted from the others by their number
-both_bytes : (slot : meant.Slot) (slots : List meant.Slot) (bytes : List ℕ) (xs ys : List Item) (n : ℕ) → IsBytes bytes → judge_slot slot bytes ≡ took xs n → slots_bytes (slot ∷ slots) (xs ++ ys) ≡ slot_bytes slot xs ++ slots_bytes slots ys
+both_bytes : (slot : meant.Slot) (slots : List meant.Slot) (bytes : List ℕ) (xs ys : List Item) (n : ℕ) → IsBytes bytes
+    → judge_slot slot bytes ≡ took xs n → slots_bytes (slot ∷ slots) (xs ++ ys) ≡ slot_bytes slot xs ++ slots_bytes slots ys
 unfolding slots_bytes judge_dropped
 both_bytes (kept_slot form) slots bytes xs ys n fits is =
     let laws = forms_lawful form in
@@ -244,7 +288,8 @@ both_bytes (reserved_slot form constant) slots bytes xs ys n fits is =
     let none : xs ≡ [] = sym (value_took [] xs _ n one.3) in
     ap (λ items. form_bytes form constant ++ slots_bytes slots (items ++ ys)) none
 
-pub first_slot : (slot : meant.Slot) (slots : List meant.Slot) (bytes : List ℕ) (n : ℕ) → IsBytes bytes → IsRead (judge_slots (slot ∷ slots) bytes) → (IsRead (judge_slot slot bytes) → n ≡ used_by (judge_slot slot bytes)) → FirstOf judge_slot judge_slots slot_bytes slots_bytes slot slots bytes n
+pub first_slot : (slot : meant.Slot) (slots : List meant.Slot) (bytes : List ℕ) (n : ℕ) → IsBytes bytes → IsRead (judge_slots (slot ∷ slots) bytes)
+    → (IsRead (judge_slot slot bytes) → n ≡ used_by (judge_slot slot bytes)) → FirstOf judge_slot judge_slots slot_bytes slots_bytes slot slots bytes n
 unfolding judge_slots
 first_slot slot slots bytes n fits h sized =
     let all = took_of (judge_slots (slot ∷ slots) bytes) h in
@@ -258,7 +303,9 @@ first_slot slot slots bytes n fits h sized =
     record {
       first = read;
       others = is_read (judge_slots slots (drop n bytes)) two.0 two.1 rest;
-      bytes_are = ap (λ j. canonical_of (slots_bytes (slot ∷ slots)) j) all.2 ∙ ap (λ xs. slots_bytes (slot ∷ slots) xs) (sym items) ∙ both_bytes slot slots bytes one.0 two.0 one.1 fits one.2
+      bytes_are =
+          ap (λ j. canonical_of (slots_bytes (slot ∷ slots)) j) all.2
+          ∙ ap (λ xs. slots_bytes (slot ∷ slots) xs) (sym items) ∙ both_bytes slot slots bytes one.0 two.0 one.1 fits one.2
           ∙ ap₂ (λ a b. a ++ b) (sym (ap (λ j. canonical_of (slot_bytes slot) j) one.2)) (sym (ap (λ j. canonical_of (slots_bytes slots) j) rest));
     }
 
@@ -267,35 +314,49 @@ byte_by : (more count byte : ℕ) → count ≡ 8 + more → byte < 2 ^ 8 → by
 byte_by zero count byte is h = let P : ℕ → Type 0 = λ n. byte < 2 ^ n in let e : 8 ≡ count = omega (arith, is) in subst P e h
 byte_by (suc more) count byte is h = omega (arith, pow_below 8 count (omega (arith, is)), h)
 
+-- A byte is below 2 to the power of any count from 8 on.
 pub byte_below : (count byte : ℕ) → 8 ≤ count → byte < 2 ^ 8 → byte < 2 ^ count
 byte_below count byte up h = byte_by (count - 8) count byte (omega (arith, up)) h
 
 -- ---- by the arms of the code
 
+-- A field decoded by one form is decoded by an equal form.
 pub read_as : (f g : Form) (bytes : List ℕ) → f ≡ g → IsRead (judge_form (form_of f) bytes) → IsRead (judge_form (form_of g) bytes)
 read_as f g bytes is h = let P : Form → Type 0 = λ x. IsRead (judge_form (form_of x) bytes) in subst P is h
 
+-- The canonical bytes of a field of one form are those of an equal form.
 pub put_as : (f g : Form) (bytes put : List ℕ) → f ≡ g → PutAs g bytes put → PutAs f bytes put
 put_as f g bytes put is h = let P : Form → Type 0 = λ x. PutAs x bytes put in subst P (sym is) h
 
-pub slots_from : (shapes : List Slot) (k : ℕ) (d : Slot) → k < length shapes → drop k (slots_of shapes) ≡ slot_of (get_or shapes k d) ∷ drop (k + 1) (slots_of shapes)
+-- From field k on, the fields are field k and those after it.
+pub slots_from : (shapes : List Slot) (k : ℕ) (d : Slot) → k < length shapes
+    → drop k (slots_of shapes) ≡ slot_of (get_or shapes k d) ∷ drop (k + 1) (slots_of shapes)
 slots_from [] k d h = absurd (omega arith)
 slots_from (s ∷ shapes) zero d h = refl
-slots_from (s ∷ shapes) (suc k) d h = let next : suc (k + 1) ≡ suc k + 1 = omega arith in slots_from shapes k d (omega arith) ∙ ap (λ n. slot_of (get_or shapes k d) ∷ drop n (slot_of s ∷ slots_of shapes)) next
+slots_from (s ∷ shapes) (suc k) d h =
+    let next : suc (k + 1) ≡ suc k + 1 = omega arith in
+    slots_from shapes k d (omega arith) ∙ ap (λ n. slot_of (get_or shapes k d) ∷ drop n (slot_of s ∷ slots_of shapes)) next
 
 no_slots : (bytes : List ℕ) → canonical_of (slots_bytes []) (judge_slots [] bytes) ≡ []
 unfolding judge_slots slots_bytes
 no_slots bytes = refl
 
+-- the first k fields were put, up to a place, and the others are left
 abbrev pub SlotsPut : List meant.Slot → List ℕ → List ℕ → ℕ → List ℕ → List ℕ → ℕ → ℕ → Type 0
 SlotsPut = PutSoFar judge_slot judge_slots slot_bytes slots_bytes
 
-pub slots_none : (slots : List meant.Slot) (bytes buf : List ℕ) (at : ℕ) → IsBytes bytes → IsRead (judge_slots slots bytes) → SlotsPut slots bytes bytes 0 buf buf at at
+-- At the start no field was put, and the buffer is as it was.
+pub slots_none : (slots : List meant.Slot) (bytes buf : List ℕ) (at : ℕ) → IsBytes bytes
+    → IsRead (judge_slots slots bytes) → SlotsPut slots bytes bytes 0 buf buf at at
 slots_none = so_far_none judge_slot judge_slots slot_bytes slots_bytes
 
-pub slot_here : (slots : List meant.Slot) (slot : meant.Slot) (bytes left : List ℕ) (k n : ℕ) (old mid : List ℕ) (at end : ℕ) → drop k slots ≡ slot ∷ drop (k + 1) slots → (IsRead (judge_slot slot left) → n ≡ used_by (judge_slot slot left))
+-- The next field was decoded, its canonical bytes fit, and after them one field more was put.
+pub slot_here : (slots : List meant.Slot) (slot : meant.Slot) (bytes left : List ℕ) (k n : ℕ) (old mid : List ℕ) (at end : ℕ)
+    → drop k slots ≡ slot ∷ drop (k + 1) slots → (IsRead (judge_slot slot left) → n ≡ used_by (judge_slot slot left))
     → SlotsPut slots bytes left k old mid at end → PutHere judge_slot judge_slots slot_bytes slots_bytes slots slot bytes left k n old mid at end
 slot_here = so_far_here judge_slot judge_slots slot_bytes slots_bytes first_slot
 
-pub slots_end : (slots : List meant.Slot) (bytes left : List ℕ) (k : ℕ) (old new : List ℕ) (at end : ℕ) → length slots ≤ k → SlotsPut slots bytes left k old new at end → PutsIfRoom old new at (canonical_of (slots_bytes slots) (judge_slots slots bytes)) end
+-- Where all fields were put, their canonical bytes stand in the buffer.
+pub slots_end : (slots : List meant.Slot) (bytes left : List ℕ) (k : ℕ) (old new : List ℕ) (at end : ℕ) → length slots ≤ k
+    → SlotsPut slots bytes left k old new at end → PutsIfRoom old new at (canonical_of (slots_bytes slots) (judge_slots slots bytes)) end
 slots_end = so_far_end judge_slot judge_slots slot_bytes slots_bytes no_slots

@@ -7,6 +7,7 @@ use Rattle.amqp_types.specs.declared.tag.FieldTag.{FieldTag}
 use Rattle.amqp_canonical.specs.declared.values.TagByte.{TagByte}
 use Rattle.amqp_canonical.specs.Judgements.{layout_at, read_as}
 
+-- A byte of which no layout is said is no tag.
 pub no_tag : (byte : ℕ) (o : Option FieldTag) → option_map (read_as byte) o ≡ None → o ≡ None
 no_tag byte None h = refl
 no_tag byte (Some t) h = absurd cc
@@ -22,6 +23,7 @@ same_numbers : (a b : ℕ) (r : Bool) → nat_eq a b ≡ r → IsTrue r ↔ (a �
 same_numbers a b true h = (λ t. grind (arith, nat_tests), λ same. refl)
 same_numbers a b false h = (λ t. absurd cc, λ same. absurd (grind (arith, nat_tests)))
 
+-- A byte of which a layout is said is a tag with this layout, and it is said whether it is the byte that is written.
 pub some_tag : (byte : ℕ) (o : Option FieldTag) (decides : TagByte) → option_map (read_as byte) o ≡ Some decides → Tagged byte o decides
 some_tag byte None decides h = absurd cc
 some_tag byte (Some t) decides h =

@@ -33,17 +33,23 @@ framed bytes content n fits h = let one = long_string_exact.spelled bytes conten
 
 -- ---- arrays
 
-pub array_unread : {A : Type 0} (room : ℕ) (bytes : List ℕ) (view : A → List ℕ) (e : ParserError) → AnswersFully view (Err e) (judge_long_string bytes) → Fails e (judge_array (judge_value room) bytes)
+-- An error in reading the length and the content of an array is the error of the array.
+pub array_unread : {A : Type 0} (room : ℕ) (bytes : List ℕ) (view : A → List ℕ) (e : ParserError)
+    → AnswersFully view (Err e) (judge_long_string bytes) → Fails e (judge_array (judge_value room) bytes)
 unfolding judge_array
 array_unread room bytes view e h = fails_next e (judge_long_string bytes) _ (fully view e (judge_long_string bytes) h)
 
-pub array_fails : (room : ℕ) (bytes content : List ℕ) (n : ℕ) (e : ParserError) → judge_long_string bytes ≡ took content n → MayRefuse e × RefusesWhole e (filled (judge_value room) 0 content) → Fails e (judge_array (judge_value room) bytes)
+-- An error in the values of an array's content is the error of the array.
+pub array_fails : (room : ℕ) (bytes content : List ℕ) (n : ℕ) (e : ParserError) → judge_long_string bytes ≡ took content n
+    → MayRefuse e × RefusesWhole e (filled (judge_value room) 0 content) → Fails e (judge_array (judge_value room) bytes)
 unfolding judge_array
 array_fails room bytes content n e is h =
     let P : Judged (List ℕ) → Type 0 = λ j. Fails e (j >>= λ c. took_all c.1 (filled (judge_value room) 0 c.0)) in
     subst P (sym is) (fails_whole e n (filled (judge_value room) 0 content) h)
 
-pub array_took : (room : ℕ) (bytes content : List ℕ) (n : ℕ) (canonical : Bool) → IsBytes bytes → judge_long_string bytes ≡ took content n → Fills AreCanonicalValues canonical content (filled (judge_value room) 0 content)
+-- An array takes its content with the length, and is canonical exactly where the values are.
+pub array_took : (room : ℕ) (bytes content : List ℕ) (n : ℕ) (canonical : Bool) → IsBytes bytes
+    → judge_long_string bytes ≡ took content n → Fills AreCanonicalValues canonical content (filled (judge_value room) 0 content)
     → DecodesAs IsCanonicalArray (record { used = n; canonical = canonical }) bytes (judge_array (judge_value room) bytes)
 unfolding judge_array
 array_took room bytes content n canonical fits is h =
@@ -56,30 +62,38 @@ array_took room bytes content n canonical fits is h =
 
 -- ---- tables
 
-pub table_unread : {A : Type 0} (room : ℕ) (bytes : List ℕ) (view : A → List ℕ) (e : ParserError) → AnswersFully view (Err e) (judge_long_string bytes) → Fails e (judge_table (judge_value room) bytes)
+-- An error in reading the length and the content of a table is the error of the table.
+pub table_unread : {A : Type 0} (room : ℕ) (bytes : List ℕ) (view : A → List ℕ) (e : ParserError)
+    → AnswersFully view (Err e) (judge_long_string bytes) → Fails e (judge_table (judge_value room) bytes)
 unfolding judge_table
 table_unread room bytes view e h = fails_next e (judge_long_string bytes) _ (fully view e (judge_long_string bytes) h)
 
-pub table_fails : (room : ℕ) (bytes content : List ℕ) (n : ℕ) (e : ParserError) → judge_long_string bytes ≡ took content n → MayRefuse e × RefusesWhole e (filled (judge_entry (judge_value room)) 0 content) → Fails e (judge_table (judge_value room) bytes)
+-- An error in the entries of a table's content is the error of the table.
+pub table_fails : (room : ℕ) (bytes content : List ℕ) (n : ℕ) (e : ParserError) → judge_long_string bytes ≡ took content n
+    → MayRefuse e × RefusesWhole e (filled (judge_entry (judge_value room)) 0 content) → Fails e (judge_table (judge_value room) bytes)
 unfolding judge_table
 table_fails room bytes content n e is h =
     let read = filled (judge_entry (judge_value room)) 0 content in
     let P : Judged (List ℕ) → Type 0 = λ j. Fails e (j >>= λ c. took_all c.1 (read_map settled (filled (judge_entry (judge_value room)) 0 c.0))) in
     subst P (sym is) (fails_whole e n (read_map settled read) (h.0, RefusesWhole-map e settled read h.1))
 
-filled_taken : {A : Type 0} (item : Judge A) (Spells : List ℕ → A → Type 0) → IsExact item Spells → HasBytes Spells → (bytes : List ℕ) (xs : List A) → SpellsEach Spells bytes xs → filled item 0 bytes ≡ Ok xs
+filled_taken : {A : Type 0} (item : Judge A) (Spells : List ℕ → A → Type 0) → IsExact item Spells
+    → HasBytes Spells → (bytes : List ℕ) (xs : List A) → SpellsEach Spells bytes xs → filled item 0 bytes ≡ Ok xs
 unfolding filled
 filled_taken item Spells exact some bytes [] h = ap (filled item 0) h
 filled_taken item Spells exact some bytes (x ∷ xs) h =
     let here = h.0 in
     let behind = h.1 in
     let up = some here x h.3 in
-    let next = filled_next item (here ++ behind) x (length here) (omega (arith, length-append here behind)) (exact.taken here behind x h.3) up (omega (arith, length-append here behind)) in
+    let next =
+    filled_next item (here ++ behind) x (length here) (omega (arith, length-append here behind))
+    (exact.taken here behind x h.3) up (omega (arith, length-append here behind)) in
     ap (filled item 0) h.2 ∙ next ∙ ap (λ bs. read_map (λ ys. x ∷ ys) (filled item 0 bs)) (drop_at here behind (length here) refl)
     ∙ ap (read_map (λ ys. x ∷ ys)) (filled_taken item Spells exact some behind xs h.4)
 
 -- a table that was taken is read back from its canonical entries
-read_back : (room : ℕ) (bytes : List ℕ) (es : List Entry) (n : ℕ) → IsBytes bytes → judge_table (judge_value room) bytes ≡ took es n → filled (judge_entry (judge_value room)) 0 (entries_bytes (entries_of es)) ≡ Ok es
+read_back : (room : ℕ) (bytes : List ℕ) (es : List Entry) (n : ℕ) → IsBytes bytes → judge_table (judge_value room) bytes ≡ took es n
+    → filled (judge_entry (judge_value room)) 0 (entries_bytes (entries_of es)) ≡ Ok es
 read_back room bytes es n fits h =
     let Plain = SpellsValue plain room in
     let Strict = SpellsValue strict room in
@@ -87,15 +101,20 @@ read_back room bytes es n fits h =
     let one = tables.spelled bytes es n fits h in
     let b = table_bounded room Plain (value_bounded room) (take n bytes) es one.0 in
     let st = table_again Plain Strict (value_again room) (take n bytes) es b.not_long one.0 in
-    let each = each_into (SpellsEntry Strict) (SpellsEntry Plain) (entry_into Strict Plain (λ bs v s. value_is_plain strict room bs v s)) st.inner st.entries st.each in
+    let each =
+    each_into (SpellsEntry Strict) (SpellsEntry Plain) (entry_into Strict Plain (λ bs v s. value_is_plain strict room bs v s)) st.inner st.entries st.each in
     let inner : entries_bytes (entries_of es) ≡ st.inner = same_inner (entries_bytes (entries_of es)) st.inner st.framed.bytes_are in
-    ap (filled (judge_entry (judge_value room)) 0) inner ∙ filled_taken (judge_entry (judge_value room)) (SpellsEntry Plain) (entry_exact (judge_value room) Plain (value_exact room)) (entry_some Plain) st.inner st.entries each
+    ap (filled (judge_entry (judge_value room)) 0) inner
+    ∙ filled_taken (judge_entry (judge_value room)) (SpellsEntry Plain)
+    (entry_exact (judge_value room) Plain (value_exact room)) (entry_some Plain) st.inner st.entries each
     ∙ ap Ok st.once
 
 ok_is : {A : Type 0} (r : Result A Fault) (x y : A) → r ≡ Ok x → r ≡ Ok y → x ≡ y
 ok_is r x y h k = cc
 
-pub table_took : (room : ℕ) (bytes content : List ℕ) (n : ℕ) (canonical : Bool) → IsBytes bytes → judge_long_string bytes ≡ took content n → Fills AreCanonicalEntries canonical content (filled (judge_entry (judge_value room)) 0 content)
+-- A table takes its content with the length, and is canonical exactly where the entries are, in ascending key order.
+pub table_took : (room : ℕ) (bytes content : List ℕ) (n : ℕ) (canonical : Bool) → IsBytes bytes → judge_long_string bytes ≡ took content n
+    → Fills AreCanonicalEntries canonical content (filled (judge_entry (judge_value room)) 0 content)
     → DecodesAs IsCanonicalTable (record { used = n; canonical = canonical }) bytes (judge_table (judge_value room) bytes)
 unfolding judge_table
 table_took room bytes content n canonical fits is h =
@@ -107,9 +126,12 @@ table_took room bytes content n canonical fits is h =
     record {
       thing = settled es;
       is = judged;
-      decides = decided_as canonical _ _ h.decides (λ p. front ∙ ap with_length (p.0 ∙ ap (λ xs. entries_bytes (entries_of xs)) (sym (in_order [] es p.1)))) (λ q.
+      decides =
+          decided_as canonical _ _ h.decides (λ p. front ∙ ap with_length (p.0 ∙ ap (λ xs. entries_bytes (entries_of xs)) (sym (in_order [] es p.1)))) (λ q.
           let inner : content ≡ entries_bytes (entries_of (settled es)) = same_inner content _ (sym front ∙ q) in
-          let same : es ≡ settled es = ok_is (filled (judge_entry (judge_value room)) 0 content) es (settled es) h.is (ap (filled (judge_entry (judge_value room)) 0) inner ∙ read_back room bytes (settled es) n fits judged) in
+          let same : es ≡ settled es =
+          ok_is (filled (judge_entry (judge_value room)) 0 content) es (settled es) h.is
+          (ap (filled (judge_entry (judge_value room)) 0) inner ∙ read_back room bytes (settled es) n fits judged) in
           let s = settles es in
           (inner ∙ ap (λ xs. entries_bytes (entries_of xs)) (sym same), subst R (sym same) s.rising));
     }

@@ -12,28 +12,44 @@ use Rattle.amqp_types.specs.Methods.{judge_payload}
 use Rattle.amqp_types.specs.MethodSpelling.{SpellsPayload}
 use Rattle.amqp_types.specs.ContentHeaders.{judge_content_header, SpellsContentHeader}
 use Rattle.amqp_canonical.specs.Judgements.{IsCanonicalValue, IsCanonicalArray, IsCanonicalTable}
-use Rattle.amqp_canonical.specs.SlotJudgements.{AreCanonicalSlots, IsCanonicalPayload, IsCanonicalContentHeader}
+use Rattle.amqp_canonical.specs.SlotJudgements.{AreCanonicalSlots, IsCanonicalPayload}
+use Rattle.amqp_canonical.specs.SlotJudgements.{IsCanonicalContentHeader}
 
 -- the bytes that a thing is decoded from are canonical exactly where they encode it at level strict
-abbrev pub CanonicalIsStrict : {A : Type 0} → Judge A → (Level → List ℕ → A → Type 0) → (List ℕ → A → Type 0) → Type 0
+abbrev pub CanonicalIsStrict : {A : Type 0} → Judge A
+    → (Level → List ℕ → A → Type 0) → (List ℕ → A → Type 0) → Type 0
 -- the thing is decoded from the first n bytes, and these are the ones that are compared
-CanonicalIsStrict {A} judge Spells IsCanonical = (bytes : List ℕ) (x : A) (n : ℕ) → IsBytes bytes → judge bytes ≡ took x n → IsCanonical (take n bytes) x ↔ Spells strict (take n bytes) x
+CanonicalIsStrict {A} judge Spells IsCanonical =
+    (bytes : List ℕ) (x : A) (n : ℕ) → IsBytes bytes → judge bytes ≡ took x n
+    → IsCanonical (take n bytes) x ↔ Spells strict (take n bytes) x
 
 -- of values, for each number of levels that may nest
 abbrev pub CanonicalValuesAreStrict : Type 0
-CanonicalValuesAreStrict = (depth_left : ℕ) → CanonicalIsStrict (judge_value depth_left) (λ level. SpellsValue level depth_left) IsCanonicalValue
+CanonicalValuesAreStrict =
+    (depth_left : ℕ)
+    → CanonicalIsStrict (judge_value depth_left)
+    (λ level. SpellsValue level depth_left) IsCanonicalValue
 
 -- of arrays
 abbrev pub CanonicalArraysAreStrict : Type 0
-CanonicalArraysAreStrict = (depth_left : ℕ) → CanonicalIsStrict (judge_array (judge_value depth_left)) (λ level. SpellsArray (SpellsValue level depth_left)) IsCanonicalArray
+CanonicalArraysAreStrict =
+    (depth_left : ℕ)
+    → CanonicalIsStrict (judge_array (judge_value depth_left))
+    (λ level. SpellsArray (SpellsValue level depth_left)) IsCanonicalArray
 
 -- of tables
 abbrev pub CanonicalTablesAreStrict : Type 0
-CanonicalTablesAreStrict = (depth_left : ℕ) → CanonicalIsStrict (judge_table (judge_value depth_left)) (λ level. SpellsTable level (SpellsValue level depth_left)) IsCanonicalTable
+CanonicalTablesAreStrict =
+    (depth_left : ℕ)
+    → CanonicalIsStrict (judge_table (judge_value depth_left))
+    (λ level. SpellsTable level (SpellsValue level depth_left)) IsCanonicalTable
 
 -- of fields, where the constants of reserved ones are the least of their forms
 abbrev pub CanonicalSlotsAreStrict : Type 0
-CanonicalSlotsAreStrict = (slots : List Slot) → are_least slots ≡ true → CanonicalIsStrict (judge_slots slots) (λ level. SpellsSlots level slots) (AreCanonicalSlots slots)
+CanonicalSlotsAreStrict =
+    (slots : List Slot) → are_least slots ≡ true
+    → CanonicalIsStrict (judge_slots slots)
+    (λ level. SpellsSlots level slots) (AreCanonicalSlots slots)
 
 -- of methods
 abbrev pub CanonicalPayloadsAreStrict : Type 0
@@ -41,4 +57,5 @@ CanonicalPayloadsAreStrict = CanonicalIsStrict judge_payload SpellsPayload IsCan
 
 -- of content headers
 abbrev pub CanonicalContentHeadersAreStrict : Type 0
-CanonicalContentHeadersAreStrict = CanonicalIsStrict judge_content_header SpellsContentHeader IsCanonicalContentHeader
+CanonicalContentHeadersAreStrict =
+    CanonicalIsStrict judge_content_header SpellsContentHeader IsCanonicalContentHeader

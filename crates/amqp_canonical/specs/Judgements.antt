@@ -1,5 +1,6 @@
 -- What decoding without memory returns: how many bytes are used, and whether they are canonical.
-use Rattle.std.specs.Prelude.{◌≡◌, ◌≢◌, ◌↔◌, ◌⊎◌, ◌<◌, ◌≤◌, ℕ, nat_eq, List, ◌++◌, take, Bool, true, IsTrue, Option, option_map, Result, Ok, Err}
+use Rattle.std.specs.Prelude.{◌≡◌, ◌≢◌, ◌↔◌, ◌⊎◌, ◌<◌, ◌≤◌, ℕ, nat_eq, List, ◌++◌, take, Bool, true}
+use Rattle.std.specs.Prelude.{IsTrue, Option, option_map, Result, Ok, Err}
 use Rattle.std.specs.declared.cmp.Ordering.TheVariants.{Less}
 use Rattle.std.specs.Ordering.{nat_cmp}
 use Rattle.std.specs.Cmp.Lexicographic.{slice_cmp}
@@ -44,7 +45,8 @@ layout_at tag.Void = layout.Fixed 0
 abbrev pub read_as : ℕ → FieldTag → TagByte
 read_as byte t = record { layout = layout_at t; written = nat_eq (tag_byte t) byte }
 
--- how what stands after a tag byte is laid out, and whether this is the byte that is written, where the byte is a tag
+-- how what stands after a tag byte is laid out, and whether this is the byte that is written, where
+-- the byte is a tag
 abbrev pub layout_after_byte : ℕ → Option TagByte
 layout_after_byte byte = option_map (read_as byte) (tag_at byte)
 
@@ -59,7 +61,8 @@ IsBelow key next = slice_cmp nat_cmp key next ≡ Less
 
 -- the key of the entry at a place comes after the previous one, where there is one
 abbrev pub IsAbove : ℕ → List ℕ → List ℕ → Bool → Type 0
-IsAbove at previous key above = ((at ≡ 0) × (above ≡ true)) ⊎ ((0 < at) × (IsTrue above ↔ IsBelow previous key))
+IsAbove at previous key above =
+    ((at ≡ 0) × (above ≡ true)) ⊎ ((0 < at) × (IsTrue above ↔ IsBelow previous key))
 
 -- nothing here takes memory
 abbrev pub MayRefuse : ParserError → Type 0
@@ -97,35 +100,43 @@ IsCanonicalTable bytes es = bytes ≡ with_length (entries_bytes (entries_of es)
 
 -- ---- what is returned
 
--- A thing is decoded, and the result says how many bytes it uses and exactly whether they are canonical.
-pub record DecodesAs {A : Type 0} (IsCanonical : List ℕ → A → Type 0) (judgement : ValueJudgement) (bytes : List ℕ) (judged : Judged A) : Type 0 where
+-- A thing is decoded, and the result says how many bytes it uses and exactly whether
+-- they are canonical.
+pub record DecodesAs {A : Type 0} (IsCanonical : List ℕ → A → Type 0)
+    (judgement : ValueJudgement) (bytes : List ℕ) (judged : Judged A) : Type 0 where
   pub thing : A
   pub is : judged ≡ took thing judgement.used
   pub decides : IsTrue judgement.canonical ↔ IsCanonical (take judgement.used bytes) thing
 
 -- a thing decoded at the front, or its fault
-abbrev pub Judges : {A : Type 0} → (List ℕ → A → Type 0) → List ℕ → Result ValueJudgement ParserError → Judged A → Type 0
+abbrev pub Judges : {A : Type 0} → (List ℕ → A → Type 0) → List ℕ
+    → Result ValueJudgement ParserError → Judged A → Type 0
 Judges IsCanonical bytes (Ok judgement) judged = DecodesAs IsCanonical judgement bytes judged
 Judges IsCanonical bytes (Err error) judged = MayRefuse error × Refuses error judged
 
 -- an entry with this key is decoded, and the result says the same of it
-pub record DecodesAsEntry (judgement : ValueJudgement) (key bytes : List ℕ) (judged : Judged Entry) : Type 0 where
+pub record DecodesAsEntry (judgement : ValueJudgement)
+    (key bytes : List ℕ) (judged : Judged Entry) : Type 0 where
   pub value : FieldValue
   pub is : judged ≡ took (key, value) judgement.used
-  pub decides : IsTrue judgement.canonical ↔ (take judgement.used bytes ≡ short_string_bytes key ++ tagged_bytes value)
+  pub decides : IsTrue judgement.canonical
+      ↔ (take judgement.used bytes ≡ short_string_bytes key ++ tagged_bytes value)
 
 -- an entry decoded at the front, or its fault
-abbrev pub JudgesEntry : {K : Type 0} → (K → List ℕ) → List ℕ → Result (ValueJudgement × K) ParserError → Judged Entry → Type 0
+abbrev pub JudgesEntry : {K : Type 0} → (K → List ℕ) → List ℕ
+    → Result (ValueJudgement × K) ParserError → Judged Entry → Type 0
 JudgesEntry view bytes (Ok found) judged = DecodesAsEntry found.0 (view found.1) bytes judged
 JudgesEntry view bytes (Err error) judged = MayRefuse error × Refuses error judged
 
 -- a thing fills the bytes, and it is said exactly whether they are canonical
-pub record Fills {A : Type 0} (IsCanonical : List ℕ → A → Type 0) (canonical : Bool) (bytes : List ℕ) (read : Result A Fault) : Type 0 where
+pub record Fills {A : Type 0} (IsCanonical : List ℕ → A → Type 0)
+    (canonical : Bool) (bytes : List ℕ) (read : Result A Fault) : Type 0 where
   pub thing : A
   pub is : read ≡ Ok thing
   pub decides : IsTrue canonical ↔ IsCanonical bytes thing
 
 -- all of the bytes decoded, or their fault
-abbrev pub JudgesWhole : {A : Type 0} → (List ℕ → A → Type 0) → List ℕ → Result Bool ParserError → Result A Fault → Type 0
+abbrev pub JudgesWhole : {A : Type 0} → (List ℕ → A → Type 0)
+    → List ℕ → Result Bool ParserError → Result A Fault → Type 0
 JudgesWhole IsCanonical bytes (Ok canonical) read = Fills IsCanonical canonical bytes read
 JudgesWhole IsCanonical bytes (Err error) read = MayRefuse error × RefusesWhole error read

@@ -3,7 +3,8 @@ use Rattle.std.specs.Prelude.{ℕ, zero, suc, ◌+◌, ◌*◌, ◌^◌, List, [
 use Rattle.amqp_canonical.specs.Writes.{key_in}
 use Rattle.amqp_canonical.specs.declared.marks.EntryMark.{EntryMark}
 
--- the first n bytes of a key as a number, the first byte the highest, with zeros after a shorter key
+-- the first n bytes of a key as a number, the first byte the highest, with zeros
+-- after a shorter key
 unfoldable pub leading : ℕ → List ℕ → ℕ
 leading zero key = 0
 leading (suc n) [] = 0

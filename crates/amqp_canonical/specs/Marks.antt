@@ -1,5 +1,6 @@
 -- The entries of a table in ascending key order.
-use Rattle.std.specs.Prelude.{◌≡◌, ◌≢◌, ◌<◌, ◌⊎◌, ℕ, suc, List, [], ◌∷◌, length, map, drop, slice_index_or, Bool, false, if◌then◌else◌, All, Option, Some, None}
+use Rattle.std.specs.Prelude.{◌≡◌, ◌≢◌, ◌<◌, ◌⊎◌, ℕ, suc, List, [], ◌∷◌, length, map, drop}
+use Rattle.std.specs.Prelude.{slice_index_or, Bool, false, if◌then◌else◌, All, Option, Some, None}
 use Rattle.std.specs.declared.cmp.Ordering.TheVariants.{Greater}
 use Rattle.std.specs.Ordering.{nat_cmp}
 use Rattle.std.specs.Cmp.Lexicographic.{slice_cmp}
@@ -38,29 +39,35 @@ AreEntries depth_left content = IsFilled (filled (judge_entry (judge_value depth
 
 -- ---- marks
 
--- The mark's numbers are the first bytes and the length of the key at its place, and a size that is not 0 is that of the
--- entry there, which is copied.
+-- The mark's numbers are the first bytes and the length of the key at its place, and a size that is
+-- not 0 is that of the entry there, which is copied.
 pub record IsMarkOf (content : List ℕ) (mark : EntryMark) : Type 0 where
   pub first : mark.lead ≡ leading 8 (key_at content mark)
   pub next : mark.more ≡ leading 2 (drop 8 (key_at content mark))
   pub key_length : mark.key_size ≡ length (key_at content mark)
-  pub copied : mark.size ≢ 0 → (depth_left : ℕ) → IsRead (entry_at depth_left content mark.place) → IsCopied entry_bytes (drop mark.place content) mark.size (entry_at depth_left content mark.place)
+  pub copied : mark.size ≢ 0 → (depth_left : ℕ) → IsRead (entry_at depth_left content mark.place)
+      → IsCopied entry_bytes (drop mark.place content) mark.size
+      (entry_at depth_left content mark.place)
 
 -- an entry was decoded at each mark's place
 abbrev pub AreRead : ℕ → List ℕ → List EntryMark → Type 0
-AreRead depth_left content marks = All (λ mark. IsRead (entry_at depth_left content mark.place)) marks
+AreRead depth_left content marks =
+    All (λ mark. IsRead (entry_at depth_left content mark.place)) marks
 
 -- the marks are those of all entries, as they stand
 pub record AreMarks (depth_left : ℕ) (content : List ℕ) (marks : List EntryMark) : Type 0 where
   pub read : AreRead depth_left content marks
   pub entries : map (marked_entry depth_left content) marks ≡ entries_in depth_left content
-  pub placed : ArePlaced (λ mark. (marked_entry depth_left content mark).0) (λ mark. mark.place) marks
+  pub placed : ArePlaced (λ mark. (marked_entry depth_left content mark).0)
+      (λ mark. mark.place) marks
 
 -- ---- marks in order
 
 -- the key comes after the previous one, or is the same at a later place
 abbrev pub Follows : List ℕ → EntryMark → EntryMark → Type 0
-Follows content previous mark = IsBelow (key_at content previous) (key_at content mark) ⊎ ((key_at content previous ≡ key_at content mark) × (previous.place < mark.place))
+Follows content previous mark =
+    IsBelow (key_at content previous) (key_at content mark)
+    ⊎ ((key_at content previous ≡ key_at content mark) × (previous.place < mark.place))
 
 -- what is found where there is no mark
 abbrev pub blank : EntryMark
@@ -68,7 +75,9 @@ blank = record { lead = 0; place = 0; more = 0; key_size = 0; size = 0 }
 
 -- each follows the one before it
 abbrev pub AreInOrder : List ℕ → List EntryMark → Type 0
-AreInOrder content marks = (k : ℕ) → suc k < length marks → Follows content (slice_index_or marks k blank) (slice_index_or marks (suc k) blank)
+AreInOrder content marks =
+    (k : ℕ) → suc k < length marks
+    → Follows content (slice_index_or marks k blank) (slice_index_or marks (suc k) blank)
 
 -- the next entry has the same key
 abbrev pub ties : Entry → List Entry → Bool
@@ -80,10 +89,12 @@ abbrev pub last_of_ties : List Entry → List Entry
 last_of_ties [] = []
 last_of_ties (e ∷ es) = if ties e es then last_of_ties es else e ∷ last_of_ties es
 
--- The marks stand at entries, and of neighbours with one key the last ones are the table that the content is.
+-- The marks stand at entries, and of neighbours with one key the last ones are the table that
+-- the content is.
 pub record AreOfTable (depth_left : ℕ) (content : List ℕ) (marks : List EntryMark) : Type 0 where
   pub read : AreRead depth_left content marks
-  pub table : last_of_ties (map (marked_entry depth_left content) marks) ≡ settled (entries_in depth_left content)
+  pub table : last_of_ties (map (marked_entry depth_left content) marks)
+      ≡ settled (entries_in depth_left content)
 
 -- ---- the next key
 
@@ -98,22 +109,28 @@ ComesFirst view key None = Unit {0}
 ComesFirst view key (Some found) = slice_cmp nat_cmp key (view found.1) ≢ Greater
 
 -- The key is the least one after `last`, and the value that of the last entry with this key.
-pub record IsNext (last : Option (List ℕ)) (es : List Entry) (key : List ℕ) (v : FieldValue) : Type 0 where
+pub record IsNext (last : Option (List ℕ)) (es : List Entry)
+    (key : List ℕ) (v : FieldValue) : Type 0 where
   pub after : IsAfter last key
   pub value : last_at key es ≡ Some v
-  pub least : (other : List ℕ) (w : FieldValue) → IsAfter last other → last_at other es ≡ Some w → IsBelow other key → ⊥
+  pub least : (other : List ℕ) (w : FieldValue) → IsAfter last other
+      → last_at other es ≡ Some w → IsBelow other key → ⊥
 
 -- no key comes after `last`
 abbrev pub HasNoNext : Option (List ℕ) → List Entry → Type 0
-HasNoNext last es = (other : List ℕ) (w : FieldValue) → IsAfter last other → last_at other es ≡ Some w → ⊥
+HasNoNext last es =
+    (other : List ℕ) (w : FieldValue) → IsAfter last other → last_at other es ≡ Some w → ⊥
 
 -- the place of the next entry, with its key
-pub record IsNextAt (depth_left : ℕ) (content : List ℕ) (last : Option (List ℕ)) (es : List Entry) (place : ℕ) (key : List ℕ) : Type 0 where
+pub record IsNextAt (depth_left : ℕ) (content : List ℕ) (last : Option (List ℕ))
+    (es : List Entry) (place : ℕ) (key : List ℕ) : Type 0 where
   pub read : IsRead (entry_at depth_left content place)
   pub key_is : (judged_entry (entry_at depth_left content place)).0 ≡ key
   pub next : IsNext last es key (judged_entry (entry_at depth_left content place)).1
 
 -- the next entry is found, or there is none
-abbrev pub FindsNext : {K : Type 0} → (K → List ℕ) → ℕ → List ℕ → Option (List ℕ) → List Entry → Option (ℕ × K) → Type 0
+abbrev pub FindsNext : {K : Type 0} → (K → List ℕ) → ℕ → List ℕ
+    → Option (List ℕ) → List Entry → Option (ℕ × K) → Type 0
 FindsNext view depth_left content last es None = HasNoNext last es
-FindsNext view depth_left content last es (Some found) = IsNextAt depth_left content last es found.0 (view found.1)
+FindsNext view depth_left content last es (Some found) =
+    IsNextAt depth_left content last es found.0 (view found.1)

@@ -5,7 +5,9 @@ use Rattle.std.specs.Int.{from_be_bytes}
 use Rattle.std.specs.List.{list_all}
 use Rattle.amqp_types.specs.Numbers.{bytes1, bytes2, bytes4, bytes8, width_of}
 use Rattle.amqp_types.specs.Flags.{flags_from}
-use Rattle.amqp_types.specs.Slots.{Item, number_item, flag_item, text_item, bytes_item, entries_item, number_form, flags_form, short_string_form, long_string_form, table_form, kept_slot, reserved_slot}
+use Rattle.amqp_types.specs.Slots.{Item, number_item, flag_item, text_item, bytes_item}
+use Rattle.amqp_types.specs.Slots.{entries_item, number_form, flags_form, short_string_form}
+use Rattle.amqp_types.specs.Slots.{long_string_form, table_form, kept_slot, reserved_slot}
 use Rattle.amqp_types.specs.Slots as meant
 use Rattle.amqp_types.specs.SlotBytes.{form_bytes}
 use Rattle.amqp_types.specs.SlotLaws.{is_least}
@@ -36,16 +38,20 @@ constant_of short_string_form bytes = text_item [] ∷ []
 constant_of long_string_form bytes = bytes_item [] ∷ []
 constant_of table_form bytes = entries_item [] ∷ []
 
--- the bytes are the canonical bytes of what they give, which no item of the form is shorter than; so a table is never reserved
+-- the bytes are the canonical bytes of what they give, which no item of the form is shorter than;
+-- so a table is never reserved
 abbrev pub is_constant : meant.Form → List ℕ → Bool
-is_constant form bytes = is_least form (constant_of form bytes) && pointwise nat_eq (form_bytes form (constant_of form bytes)) bytes
+is_constant form bytes =
+    is_least form (constant_of form bytes)
+    && pointwise nat_eq (form_bytes form (constant_of form bytes)) bytes
 
 -- ---- fields
 
 -- the field of a shape
 abbrev pub slot_of : Slot → meant.Slot
 slot_of (slots.Kept form) = kept_slot (form_of form)
-slot_of (slots.Reserved form bytes) = reserved_slot (form_of form) (constant_of (form_of form) bytes.now)
+slot_of (slots.Reserved form bytes) =
+    reserved_slot (form_of form) (constant_of (form_of form) bytes.now)
 
 -- both are kept or both are reserved, by one form, with the same constant
 abbrev pub AreSameSlots : Slot → Slot → Type 0

@@ -1,5 +1,6 @@
 -- What is written in place of bytes that were decoded.
-use Rattle.std.specs.Prelude.{◌≡◌, ◌≤◌, ◌<◌, ℕ, ◌+◌, ◌^◌, Bool, true, List, [], ◌∷◌, ◌++◌, length, take, drop, Result, Ok, Err}
+use Rattle.std.specs.Prelude.{◌≡◌, ◌≤◌, ◌<◌, ℕ, ◌+◌, ◌^◌, Bool, true, List, [], ◌∷◌, ◌++◌}
+use Rattle.std.specs.Prelude.{length, take, drop, Result, Ok, Err}
 use Rattle.amqp_types.specs.Judging.{Judged, Fault, took, past, fault}
 use Rattle.amqp_types.specs.Strings.{short_string_bytes}
 use Rattle.amqp_types.specs.Slots.{Item, Slot, kept_slot, reserved_slot}
@@ -21,7 +22,8 @@ canonical_of canonical past = []
 canonical_of canonical (fault bad) = []
 
 -- the first n bytes are the canonical bytes of what was taken
-pub record IsCopied {A : Type 0} (canonical : A → List ℕ) (bytes : List ℕ) (n : ℕ) (j : Judged A) : Type 0 where
+pub record IsCopied {A : Type 0} (canonical : A → List ℕ)
+    (bytes : List ℕ) (n : ℕ) (j : Judged A) : Type 0 where
   pub within : n ≤ length bytes
   pub bytes_are : take n bytes ≡ canonical_of canonical j
 
@@ -34,7 +36,8 @@ pub record HasRoom (sure : Bool) (end length : ℕ) : Type 0 where
 abbrev pub HasRoomFor : Bool → List ℕ → ℕ → List ℕ → Type 0
 HasRoomFor sure buf at bytes = HasRoom sure (at + length bytes) (length buf)
 
--- A put call puts the bytes at a place where there is room for them, and returns the place after them in any case.
+-- A put call puts the bytes at a place where there is room for them, and returns the place after
+-- them in any case.
 pub record PutsIfRoom (old new : List ℕ) (at : ℕ) (bytes : List ℕ) (result : ℕ) : Type 0 where
   pub put : at + length bytes ≤ length old → new ≡ written old at bytes
   pub behind : result ≡ at + length bytes

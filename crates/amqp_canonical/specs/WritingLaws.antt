@@ -14,7 +14,9 @@ use Rattle.amqp_types.specs.Tidiness.{used_by}
 
 -- canonical bytes are no more than the bytes that were used
 abbrev pub WritesNoLonger : {A : Type 0} → Judge A → (A → List ℕ) → Type 0
-WritesNoLonger judge canonical = (bytes : List ℕ) → IsBytes bytes → IsRead (judge bytes) → length (canonical_of canonical (judge bytes)) ≤ used_by (judge bytes)
+WritesNoLonger judge canonical =
+    (bytes : List ℕ) → IsBytes bytes → IsRead (judge bytes)
+    → length (canonical_of canonical (judge bytes)) ≤ used_by (judge bytes)
 
 -- of values, for each number of levels that may nest
 abbrev pub ValuesAreNoLonger : Type 0
@@ -22,15 +24,19 @@ ValuesAreNoLonger = (depth_left : ℕ) → WritesNoLonger (judge_value depth_lef
 
 -- of arrays
 abbrev pub ArraysAreNoLonger : Type 0
-ArraysAreNoLonger = (depth_left : ℕ) → WritesNoLonger (judge_array (judge_value depth_left)) array_bytes
+ArraysAreNoLonger =
+    (depth_left : ℕ) → WritesNoLonger (judge_array (judge_value depth_left)) array_bytes
 
 -- of tables
 abbrev pub TablesAreNoLonger : Type 0
-TablesAreNoLonger = (depth_left : ℕ) → WritesNoLonger (judge_table (judge_value depth_left)) table_bytes
+TablesAreNoLonger =
+    (depth_left : ℕ) → WritesNoLonger (judge_table (judge_value depth_left)) table_bytes
 
 -- of fields, where the constants of reserved ones are the least of their forms
 abbrev pub SlotsAreNoLonger : Type 0
-SlotsAreNoLonger = (slots : List Slot) → are_least slots ≡ true → WritesNoLonger (judge_slots slots) (slots_bytes slots)
+SlotsAreNoLonger =
+    (slots : List Slot) → are_least slots ≡ true
+    → WritesNoLonger (judge_slots slots) (slots_bytes slots)
 
 -- of methods
 abbrev pub PayloadsAreNoLonger : Type 0

@@ -74,7 +74,8 @@ fn judge_properties(i: &[u8]) -> Result<Judgement, ParserError>
 /// fields are decoded one by one, and not by their shapes.
 #[inline(always)]
 fn judge_front(i: &[u8]) -> Result<Judgement, ParserError>
-    ensures judged { JudgesLevels (λ level. SpellsSlots level header_slots) i.now result (judge_slots header_slots i.now) }
+    ensures judged { JudgesLevels (λ level. SpellsSlots level header_slots) i.now result
+        (judge_slots header_slots i.now) }
     ensures used { IfOk result (λ j. j.used ≤ length i.now) }
 {
     let class = judge_form(Form::Short, i)?;

@@ -1,6 +1,11 @@
 //! Laws of canonical bytes, each the contract of a function that does nothing.
 
-ghost use Rattle.amqp_canonical.specs.CanonicalLaws.{CanonicalValuesAreStrict, CanonicalArraysAreStrict, CanonicalTablesAreStrict, CanonicalSlotsAreStrict, CanonicalPayloadsAreStrict, CanonicalContentHeadersAreStrict};
+ghost use Rattle.amqp_canonical.specs.CanonicalLaws.{CanonicalValuesAreStrict};
+ghost use Rattle.amqp_canonical.specs.CanonicalLaws.{CanonicalArraysAreStrict};
+ghost use Rattle.amqp_canonical.specs.CanonicalLaws.{CanonicalTablesAreStrict};
+ghost use Rattle.amqp_canonical.specs.CanonicalLaws.{CanonicalSlotsAreStrict};
+ghost use Rattle.amqp_canonical.specs.CanonicalLaws.{CanonicalPayloadsAreStrict};
+ghost use Rattle.amqp_canonical.specs.CanonicalLaws.{CanonicalContentHeadersAreStrict};
 
 /// The bytes of a value, an array or a table are canonical exactly where they encode it at level strict.
 pub fn canonical_values_are_strict()

@@ -1,9 +1,11 @@
 //! Marks of the entries of a table, by which they are put in ascending key order.
 
-ghost use Rattle.std.specs.Prelude.{◌≡◌, ◌≢◌, ◌≤◌, ◌<◌, ◌+◌, ◌↔◌, ℕ, length, map, take, drop, slice_index_or, All, IfSome, IsTrue};
+ghost use Rattle.std.specs.Prelude.{◌≡◌, ◌≢◌, ◌≤◌, ◌<◌, ◌+◌, ◌↔◌, ℕ, length, map, take, drop};
+ghost use Rattle.std.specs.Prelude.{slice_index_or, All, IfSome, IsTrue};
 ghost use Rattle.std.specs.List.Sorted.{IsPermutation};
 ghost use Rattle.amqp_canonical.specs.Leads.{key_at};
-ghost use Rattle.amqp_canonical.specs.Marks.{AreEntries, AreInOrder, AreMarks, AreOfTable, AreRead, Follows, IsMarkOf, blank, marked_entry, ties};
+ghost use Rattle.amqp_canonical.specs.Marks.{AreEntries, AreInOrder, AreMarks, AreOfTable, AreRead};
+ghost use Rattle.amqp_canonical.specs.Marks.{Follows, IsMarkOf, blank, marked_entry, ties};
 
 use crate::leads::first_ten;
 use crate::spans::{Span, bytes_from, entry_span, split_key};
@@ -76,7 +78,8 @@ fn mark_entries(marks: &mut [EntryMark], content: &[u8]) -> Option<usize>
     ensures within { IfSome result (λ count. count ≤ length marks.new) }
     ensures each { IfSome result (λ count. All (IsMarkOf content.now) (take count marks.new)) }
     ensures marked { IfSome result (λ count. (depth_left : ℕ)
-        → AreEntries depth_left content.now → AreMarks depth_left content.now (take count marks.new)) }
+        → AreEntries depth_left content.now
+        → AreMarks depth_left content.now (take count marks.new)) }
 {
     if content.len() > u32::MAX as usize {
         return None;
@@ -208,7 +211,8 @@ pub(crate) fn mark_in_order(marks: &mut [EntryMark], content: &[u8]) -> Option<u
     ensures within { IfSome result (λ count. count ≤ length marks.new) }
     ensures each { IfSome result (λ count. All (IsMarkOf content.now) (take count marks.new)) }
     ensures table { IfSome result (λ count. (depth_left : ℕ)
-        → AreEntries depth_left content.now → AreOfTable depth_left content.now (take count marks.new)) }
+        → AreEntries depth_left content.now
+        → AreOfTable depth_left content.now (take count marks.new)) }
 {
     let count = mark_entries(marks, content)?;
     if put_in_order(&mut marks[..count], content) {

@@ -45,7 +45,8 @@ pub fn method_parts(payload: &[u8]) -> (Identifier, Identifier, &[u8])
 /// The class id, the body size and the bytes of the properties of a content header in a payload, without its weight.
 pub fn header_parts(payload: &[u8]) -> (Identifier, PayloadSize, &[u8])
     requires { 12 ≤ length payload.now }
-    ensures same { judge_content_header (header_payload result.0 result.1 result.2.now) ≡ judge_content_header payload.now }
+    ensures same { judge_content_header (header_payload result.0 result.1 result.2.now)
+        ≡ judge_content_header payload.now }
     ensures as_many { length (header_payload result.0 result.1 result.2.now) ≡ length payload.now }
 {
     let class = short_at(payload);

@@ -7,7 +7,8 @@ ghost use Rattle.amqp_types.specs.PropertyJudging.{judge_properties, judge_set};
 ghost use Rattle.amqp_types.specs.PropertyBytes.{properties_bytes, set_bytes};
 ghost use Rattle.amqp_types.specs.ContentHeaders.{judge_content_header};
 ghost use Rattle.amqp_types.specs.Writing.{Puts};
-ghost use Rattle.amqp_canonical.specs.Payloads.{header_payload, method_payload, canonical_header, canonical_method};
+ghost use Rattle.amqp_canonical.specs.Payloads.{header_payload, method_payload};
+ghost use Rattle.amqp_canonical.specs.Payloads.{canonical_header, canonical_method};
 ghost use Rattle.amqp_canonical.specs.Writes.{IsRead, HasRoom, PutsIfRoom, canonical_of};
 
 use crate::headers::has_bit;
@@ -31,8 +32,10 @@ pub fn put_method<R: Room>(
     slots: &[u8],
 ) -> usize
     requires read { IsRead (judge_payload (method_payload class id slots.now)) }
-    requires room { HasRoom R.sure (at + length (canonical_method (method_payload class id slots.now))) (length buf.old) }
-    ensures { PutsIfRoom buf.old buf.new at (canonical_method (method_payload class id slots.now)) result }
+    requires room { HasRoom R.sure
+        (at + length (canonical_method (method_payload class id slots.now))) (length buf.old) }
+    ensures { PutsIfRoom buf.old buf.new at
+        (canonical_method (method_payload class id slots.now)) result }
 {
     let id_place = put_if_room::<R>(buf, at, &class.to_be_bytes());
     let place = put_if_room::<R>(buf, id_place, &id.to_be_bytes());
@@ -62,8 +65,11 @@ fn put_set<R: Room>(
     i: &[u8],
 ) -> usize
     requires read { IsRead (judge_set mask properties i.now) }
-    requires room { HasRoom R.sure (at + length (canonical_of (set_bytes properties) (judge_set mask properties i.now))) (length buf.old) }
-    ensures { PutsIfRoom buf.old buf.new at (canonical_of (set_bytes properties) (judge_set mask properties i.now)) result }
+    requires room { HasRoom R.sure
+        (at + length (canonical_of (set_bytes properties) (judge_set mask properties i.now)))
+        (length buf.old) }
+    ensures { PutsIfRoom buf.old buf.new at
+        (canonical_of (set_bytes properties) (judge_set mask properties i.now)) result }
 {
     let shapes = property_shapes();
     let mut end = at;
@@ -86,8 +92,10 @@ pub fn put_properties<R: Room>(
     i: &[u8],
 ) -> usize
     requires read { IsRead (judge_properties i.now) }
-    requires room { HasRoom R.sure (at + length (canonical_of properties_bytes (judge_properties i.now))) (length buf.old) }
-    ensures { PutsIfRoom buf.old buf.new at (canonical_of properties_bytes (judge_properties i.now)) result }
+    requires room { HasRoom R.sure
+        (at + length (canonical_of properties_bytes (judge_properties i.now))) (length buf.old) }
+    ensures { PutsIfRoom buf.old buf.new at
+        (canonical_of properties_bytes (judge_properties i.now)) result }
 {
     let mask = short_at(i);
     let place = put_if_room::<R>(buf, at, &(mask - mask % 4).to_be_bytes());
@@ -106,8 +114,11 @@ pub fn put_header<R: Room>(
     properties: &[u8],
 ) -> usize
     requires read { IsRead (judge_content_header (header_payload class body_size properties.now)) }
-    requires room { HasRoom R.sure (at + length (canonical_header (header_payload class body_size properties.now))) (length buf.old) }
-    ensures { PutsIfRoom buf.old buf.new at (canonical_header (header_payload class body_size properties.now)) result }
+    requires room { HasRoom R.sure
+        (at + length (canonical_header (header_payload class body_size properties.now)))
+        (length buf.old) }
+    ensures { PutsIfRoom buf.old buf.new at
+        (canonical_header (header_payload class body_size properties.now)) result }
 {
     let weight_place = put_if_room::<R>(buf, at, &class.to_be_bytes());
     let size_place = put_if_room::<R>(buf, weight_place, &[0, 0]);

@@ -1,6 +1,7 @@
 //! The put call of which those of canonical bytes are made, and bytes that they put.
 
-ghost use Rattle.std.specs.Prelude.{◌≡◌, ◌≤◌, ◌↔◌, ◌+◌, ◌==◌, [], ◌∷◌, Bool, true, false, length, not, IsTrue};
+ghost use Rattle.std.specs.Prelude.{◌≡◌, ◌≤◌, ◌↔◌, ◌+◌, ◌==◌, [], ◌∷◌, Bool};
+ghost use Rattle.std.specs.Prelude.{true, false, length, not, IsTrue};
 ghost use Rattle.amqp_types.specs.Booleans.{boolean_bytes};
 ghost use Rattle.amqp_canonical.specs.Writes.{HasRoom, PutsIfRoom};
 

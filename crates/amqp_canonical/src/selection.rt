@@ -1,7 +1,8 @@
 //! The entries of a table one after another in ascending key order, found without memory.
 
 ghost use Rattle.std.specs.Prelude.{◌≡◌, ◌↔◌, ℕ, option_map, IsTrue};
-ghost use Rattle.amqp_canonical.specs.Marks.{AreEntries, ComesFirst, FindsNext, IsAfter, entries_in};
+ghost use Rattle.amqp_canonical.specs.Marks.{AreEntries, ComesFirst};
+ghost use Rattle.amqp_canonical.specs.Marks.{FindsNext, IsAfter, entries_in};
 
 use crate::spans::{entry_size, split_key};
 use std::cmp::Ordering;
@@ -30,7 +31,8 @@ fn comes_first(key: &[u8], found: Option<(usize, &[u8])>) -> bool
 /// duplicate keys the last one wins.
 pub fn next_entry<'a>(content: &'a [u8], last: Option<&[u8]>) -> Option<(usize, &'a [u8])>
     ensures { (depth_left : ℕ) → AreEntries depth_left content.now
-        → FindsNext (λ k. k.now) depth_left content.now (option_map (λ k. k.now) last.entry) (entries_in depth_left content.now) result }
+        → FindsNext (λ k. k.now) depth_left content.now
+        (option_map (λ k. k.now) last.entry) (entries_in depth_left content.now) result }
 {
     let mut found: Option<(usize, &[u8])> = None;
     let mut at = 0;

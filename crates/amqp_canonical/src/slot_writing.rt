@@ -4,8 +4,10 @@ ghost use Rattle.std.specs.Prelude.{◌≡◌, ◌≤◌, ◌<◌, ◌+◌, ◌^
 ghost use Rattle.amqp_types.specs.Flags.{flags_byte, flags_from};
 ghost use Rattle.amqp_types.specs.SlotBytes.{form_bytes, slots_bytes};
 ghost use Rattle.amqp_types.specs.SlotJudging.{judge_form, judge_slot, judge_slots};
-ghost use Rattle.amqp_canonical.specs.Shapes.{form_of, slot_of, has_constant, slots_of, have_constants};
-ghost use Rattle.amqp_canonical.specs.Writes.{IsRead, HasRoom, PutsIfRoom, canonical_of, slot_bytes};
+ghost use Rattle.amqp_canonical.specs.Shapes.{form_of, slot_of, has_constant};
+ghost use Rattle.amqp_canonical.specs.Shapes.{slots_of, have_constants};
+ghost use Rattle.amqp_canonical.specs.Writes.{IsRead, HasRoom, PutsIfRoom};
+ghost use Rattle.amqp_canonical.specs.Writes.{canonical_of, slot_bytes};
 ghost use Rattle.amqp_types.specs.Tidiness.{used_by};
 
 use crate::marks::EntryMark;
@@ -17,7 +19,8 @@ use amqp_types::INNER_DEPTH;
 
 /// How many bytes what is encoded so takes at the front, where it was decoded there.
 pub fn form_size(form: Form, i: &[u8]) -> usize
-    ensures used { IsRead (judge_form (form_of form) i.now) → result ≡ used_by (judge_form (form_of form) i.now) }
+    ensures used { IsRead (judge_form (form_of form) i.now)
+        → result ≡ used_by (judge_form (form_of form) i.now) }
     ensures bound { result ≤ length i.now + 8 }
 {
     match form {
@@ -35,7 +38,8 @@ pub fn form_size(form: Form, i: &[u8]) -> usize
 /// How many bytes a field takes at the front, where one was decoded there.
 #[inline(always)]
 pub fn slot_size(slot: Slot, i: &[u8]) -> usize
-    ensures used { IsRead (judge_slot (slot_of slot) i.now) → result ≡ used_by (judge_slot (slot_of slot) i.now) }
+    ensures used { IsRead (judge_slot (slot_of slot) i.now)
+        → result ≡ used_by (judge_slot (slot_of slot) i.now) }
     ensures bound { result ≤ length i.now + 8 }
 {
     match slot {
@@ -60,8 +64,11 @@ pub(crate) fn put_form<R: Room>(
     i: &[u8],
 ) -> usize
     requires read { IsRead (judge_form (form_of form) i.now) }
-    requires room { HasRoom R.sure (at + length (canonical_of (form_bytes (form_of form)) (judge_form (form_of form) i.now))) (length buf.old) }
-    ensures { PutsIfRoom buf.old buf.new at (canonical_of (form_bytes (form_of form)) (judge_form (form_of form) i.now)) result }
+    requires room { HasRoom R.sure
+        (at + length (canonical_of (form_bytes (form_of form)) (judge_form (form_of form) i.now)))
+        (length buf.old) }
+    ensures { PutsIfRoom buf.old buf.new at
+        (canonical_of (form_bytes (form_of form)) (judge_form (form_of form) i.now)) result }
 {
     match form {
         Form::Table => put_table::<R>(buf, at, scratch, i, INNER_DEPTH),
@@ -80,8 +87,11 @@ fn put_slot<R: Room>(
 ) -> usize
     requires constant { has_constant slot ≡ true }
     requires read { IsRead (judge_slot (slot_of slot) i.now) }
-    requires room { HasRoom R.sure (at + length (canonical_of (slot_bytes (slot_of slot)) (judge_slot (slot_of slot) i.now))) (length buf.old) }
-    ensures { PutsIfRoom buf.old buf.new at (canonical_of (slot_bytes (slot_of slot)) (judge_slot (slot_of slot) i.now)) result }
+    requires room { HasRoom R.sure
+        (at + length (canonical_of (slot_bytes (slot_of slot)) (judge_slot (slot_of slot) i.now)))
+        (length buf.old) }
+    ensures { PutsIfRoom buf.old buf.new at
+        (canonical_of (slot_bytes (slot_of slot)) (judge_slot (slot_of slot) i.now)) result }
 {
     match slot {
         Slot::Kept(form) => put_form::<R>(buf, at, scratch, form, i),
@@ -99,8 +109,14 @@ pub fn put_slots<R: Room>(
 ) -> usize
     requires constants { have_constants shapes.now ≡ true }
     requires read { IsRead (judge_slots (slots_of shapes.now) i.now) }
-    requires room { HasRoom R.sure (at + length (canonical_of (slots_bytes (slots_of shapes.now)) (judge_slots (slots_of shapes.now) i.now))) (length buf.old) }
-    ensures { PutsIfRoom buf.old buf.new at (canonical_of (slots_bytes (slots_of shapes.now)) (judge_slots (slots_of shapes.now) i.now)) result }
+    requires room { HasRoom R.sure
+        (at
+        + length (canonical_of (slots_bytes (slots_of shapes.now))
+        (judge_slots (slots_of shapes.now) i.now)))
+        (length buf.old) }
+    ensures { PutsIfRoom buf.old buf.new at
+        (canonical_of (slots_bytes (slots_of shapes.now)) (judge_slots (slots_of shapes.now) i.now))
+        result }
 {
     let mut end = at;
     let mut rest = i;

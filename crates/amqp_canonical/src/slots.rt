@@ -1,10 +1,14 @@
 //! Decoding fields by their shapes.
 
-ghost use Rattle.std.specs.Prelude.{◌≡◌, ◌≤◌, ◌<◌, ◌^◌, ◌↔◌, true, [], ◌∷◌, length, IfOk, IfSome, IsTrue};
+ghost use Rattle.std.specs.Prelude.{◌≡◌, ◌≤◌, ◌<◌, ◌^◌, ◌↔◌, true, []};
+ghost use Rattle.std.specs.Prelude.{◌∷◌, length, IfOk, IfSome, IsTrue};
 ghost use Rattle.amqp_types.specs.Numbers.{NumberWidth, bytes2, bytes8, byte_count};
-ghost use Rattle.amqp_types.specs.Slots.{number_form, flags_form, short_string_form, long_string_form, table_form, kept_slot};
-ghost use Rattle.amqp_canonical.specs.Shapes.{form_of, is_constant, constant_of, slot_of, has_constant, slots_of, have_constants};
-ghost use Rattle.amqp_canonical.specs.SlotJudgements.{JudgesForm, JudgesReserved, JudgesSlot, JudgesSlots};
+ghost use Rattle.amqp_types.specs.Slots.{number_form, flags_form, short_string_form};
+ghost use Rattle.amqp_types.specs.Slots.{long_string_form, table_form, kept_slot};
+ghost use Rattle.amqp_canonical.specs.Shapes.{form_of, is_constant, constant_of, slot_of};
+ghost use Rattle.amqp_canonical.specs.Shapes.{has_constant, slots_of, have_constants};
+ghost use Rattle.amqp_canonical.specs.SlotJudgements.{JudgesForm, JudgesReserved};
+ghost use Rattle.amqp_canonical.specs.SlotJudgements.{JudgesSlot, JudgesSlots};
 
 use crate::shapes::{Form, Slot};
 use crate::texts::short_text;
@@ -28,7 +32,8 @@ pub struct Judgement {
 /// Decodes a number of so many bytes.
 #[inline(always)]
 fn judge_number(count: usize, i: &[u8]) -> Result<Judgement, ParserError>
-    ensures judged { (width : NumberWidth) → byte_count width ≡ count → JudgesForm (number_form width) i.now result }
+    ensures judged { (width : NumberWidth) → byte_count width ≡ count
+        → JudgesForm (number_form width) i.now result }
     ensures used { IfOk result (λ j. j.used ≤ length i.now) }
 {
     if i.len() < count {
@@ -131,7 +136,8 @@ pub(crate) fn judge_form(form: Form, i: &[u8]) -> Result<Judgement, ParserError>
 #[inline(always)]
 fn judge_reserved(form: Form, constant: &[u8], i: &[u8]) -> Result<Judgement, ParserError>
     requires constant { is_constant (form_of form) constant.now ≡ true }
-    ensures judged { JudgesReserved (form_of form) (constant_of (form_of form) constant.now) i.now result }
+    ensures judged { JudgesReserved (form_of form)
+        (constant_of (form_of form) constant.now) i.now result }
     ensures used { IfOk result (λ j. j.used ≤ length i.now) }
 {
     let found = judge_form(form, i)?;
@@ -147,7 +153,8 @@ fn judge_reserved(form: Form, constant: &[u8], i: &[u8]) -> Result<Judgement, Pa
 #[inline(always)]
 pub(crate) fn judge_reserved_short(constant: &[u8], i: &[u8]) -> Result<Judgement, ParserError>
     requires two { length constant.now ≡ 2 }
-    ensures judged { JudgesReserved (number_form bytes2) (constant_of (number_form bytes2) constant.now) i.now result }
+    ensures judged { JudgesReserved (number_form bytes2)
+        (constant_of (number_form bytes2) constant.now) i.now result }
     ensures used { IfOk result (λ j. j.used ≤ length i.now) }
 {
     let (used, number) = parse_short_uint(i)?;
@@ -177,7 +184,8 @@ fn judge_slot(slot: Slot, i: &[u8]) -> Result<Judgement, ParserError>
 /// most frames of many streams are acknowledgements.
 #[inline(always)]
 fn flags_after_number(shapes: &[Slot]) -> Option<u8>
-    ensures { IfSome result (λ count. slots_of shapes.now ≡ kept_slot (number_form bytes8) ∷ kept_slot (flags_form count) ∷ []) }
+    ensures { IfSome result (λ count. slots_of shapes.now
+        ≡ kept_slot (number_form bytes8) ∷ kept_slot (flags_form count) ∷ []) }
 {
     if let [first, second] = shapes
         && let Slot::Kept(Form::LongLong) = *first
@@ -192,7 +200,8 @@ fn flags_after_number(shapes: &[Slot]) -> Option<u8>
 /// Decodes a number of 8 bytes, and so many flags after it.
 #[inline(always)]
 fn judge_number_and_flags(count: u8, i: &[u8]) -> Result<Judgement, ParserError>
-    ensures judged { JudgesSlots (kept_slot (number_form bytes8) ∷ kept_slot (flags_form count) ∷ []) i.now result }
+    ensures judged { JudgesSlots
+        (kept_slot (number_form bytes8) ∷ kept_slot (flags_form count) ∷ []) i.now result }
     ensures used { IfOk result (λ j. j.used ≤ length i.now) }
 {
     let number = judge_number(8, i)?;

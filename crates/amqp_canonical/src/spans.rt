@@ -7,7 +7,8 @@ ghost use Rattle.amqp_types.specs.ValueBytes.{tagged_bytes, value_bytes};
 ghost use Rattle.amqp_types.specs.ValueJudging.{judge_entry, judge_behind, judge_value, nested};
 ghost use Rattle.amqp_types.specs.declared.tag.FieldTag.{FieldTag};
 ghost use Rattle.amqp_canonical.specs.Judgements.{IsShort, layout_at};
-ghost use Rattle.amqp_canonical.specs.Writes.{IsRead, IsCopied, canonical_of, entry_bytes, key_in, after_key};
+ghost use Rattle.amqp_canonical.specs.Writes.{IsRead, IsCopied, canonical_of};
+ghost use Rattle.amqp_canonical.specs.Writes.{entry_bytes, key_in, after_key};
 ghost use Rattle.amqp_types.specs.Tidiness.{used_by};
 
 use crate::values::{Layout, TagByte, layout_after};
@@ -40,7 +41,8 @@ pub(crate) fn long_size(i: &[u8]) -> usize
 pub(crate) fn size_in(layout: Layout, i: &[u8]) -> usize
     requires { IsShort layout }
     ensures used { (depth_left : ℕ) (tag : FieldTag) → layout_at tag ≡ layout
-        → IsRead (judge_behind (nested depth_left) tag i.now) → result ≡ used_by (judge_behind (nested depth_left) tag i.now) }
+        → IsRead (judge_behind (nested depth_left) tag i.now)
+        → result ≡ used_by (judge_behind (nested depth_left) tag i.now) }
     ensures bound { result ≤ length i.now + 8 }
 {
     match layout {
@@ -55,10 +57,13 @@ pub(crate) fn size_in(layout: Layout, i: &[u8]) -> usize
 fn span_after(tag: TagByte, i: &[u8]) -> Span
     requires { IsShort tag.layout }
     ensures used { (depth_left : ℕ) (t : FieldTag) → layout_at t ≡ tag.layout
-        → IsRead (judge_behind (nested depth_left) t i.now) → result.size ≡ used_by (judge_behind (nested depth_left) t i.now) }
+        → IsRead (judge_behind (nested depth_left) t i.now)
+        → result.size ≡ used_by (judge_behind (nested depth_left) t i.now) }
     ensures written { IsTrue result.copied → IsTrue tag.written }
-    ensures copied { IsTrue result.copied → (depth_left : ℕ) (t : FieldTag) → layout_at t ≡ tag.layout
-        → IsRead (judge_behind (nested depth_left) t i.now) → IsCopied value_bytes i.now result.size (judge_behind (nested depth_left) t i.now) }
+    ensures copied { IsTrue result.copied
+        → (depth_left : ℕ) (t : FieldTag) → layout_at t ≡ tag.layout
+        → IsRead (judge_behind (nested depth_left) t i.now)
+        → IsCopied value_bytes i.now result.size (judge_behind (nested depth_left) t i.now) }
     ensures bound { result.size ≤ length i.now + 8 }
 {
     match tag.layout {
@@ -84,8 +89,10 @@ fn span_after(tag: TagByte, i: &[u8]) -> Span
 /// What a value takes at the front, with its tag, where one was decoded there.
 #[inline(always)]
 pub(crate) fn value_span(i: &[u8]) -> Span
-    ensures used { (depth_left : ℕ) → IsRead (judge_value depth_left i.now) → result.size ≡ used_by (judge_value depth_left i.now) }
-    ensures copied { IsTrue result.copied → (depth_left : ℕ) → IsRead (judge_value depth_left i.now) → IsCopied tagged_bytes i.now result.size (judge_value depth_left i.now) }
+    ensures used { (depth_left : ℕ) → IsRead (judge_value depth_left i.now)
+        → result.size ≡ used_by (judge_value depth_left i.now) }
+    ensures copied { IsTrue result.copied → (depth_left : ℕ) → IsRead (judge_value depth_left i.now)
+        → IsCopied tagged_bytes i.now result.size (judge_value depth_left i.now) }
     ensures bound { result.size ≤ length i.now + 8 }
 {
     match i {
@@ -112,7 +119,8 @@ pub(crate) fn value_span(i: &[u8]) -> Span
 /// How many bytes a value takes at the front, with its tag, where one was decoded there.
 #[inline(always)]
 pub fn value_size(i: &[u8]) -> usize
-    ensures used { (depth_left : ℕ) → IsRead (judge_value depth_left i.now) → result ≡ used_by (judge_value depth_left i.now) }
+    ensures used { (depth_left : ℕ) → IsRead (judge_value depth_left i.now)
+        → result ≡ used_by (judge_value depth_left i.now) }
     ensures bound { result ≤ length i.now + 8 }
 {
     value_span(i).size
@@ -120,7 +128,8 @@ pub fn value_size(i: &[u8]) -> usize
 
 /// What an array or a table at the front holds, where one was decoded there.
 pub fn content_of(i: &[u8]) -> &[u8]
-    ensures { IsRead (judge_long_string i.now) → result.now ≡ canonical_of (λ content. content) (judge_long_string i.now) }
+    ensures { IsRead (judge_long_string i.now)
+        → result.now ≡ canonical_of (λ content. content) (judge_long_string i.now) }
 {
     match parse_long_bytes(i) {
         Ok((_, content)) => content,
@@ -154,8 +163,10 @@ pub fn split_key(i: &[u8]) -> (&[u8], &[u8])
 /// What an entry takes at the front, where one was decoded there.
 #[inline(always)]
 pub(crate) fn entry_span(i: &[u8]) -> Span
-    ensures used { (depth_left : ℕ) → IsRead (judge_entry (judge_value depth_left) i.now) → result.size ≡ used_by (judge_entry (judge_value depth_left) i.now) }
-    ensures copied { IsTrue result.copied → (depth_left : ℕ) → IsRead (judge_entry (judge_value depth_left) i.now)
+    ensures used { (depth_left : ℕ) → IsRead (judge_entry (judge_value depth_left) i.now)
+        → result.size ≡ used_by (judge_entry (judge_value depth_left) i.now) }
+    ensures copied { IsTrue result.copied → (depth_left : ℕ)
+        → IsRead (judge_entry (judge_value depth_left) i.now)
         → IsCopied entry_bytes i.now result.size (judge_entry (judge_value depth_left) i.now) }
     ensures some { 0 < result.size }
     ensures bound { result.size ≤ length i.now + 9 }
@@ -171,7 +182,8 @@ pub(crate) fn entry_span(i: &[u8]) -> Span
 /// How many bytes an entry takes at the front, where one was decoded there.
 #[inline(always)]
 pub fn entry_size(i: &[u8]) -> usize
-    ensures used { (depth_left : ℕ) → IsRead (judge_entry (judge_value depth_left) i.now) → result ≡ used_by (judge_entry (judge_value depth_left) i.now) }
+    ensures used { (depth_left : ℕ) → IsRead (judge_entry (judge_value depth_left) i.now)
+        → result ≡ used_by (judge_entry (judge_value depth_left) i.now) }
     ensures some { 0 < result }
     ensures bound { result ≤ length i.now + 9 }
 {

@@ -1,9 +1,16 @@
 //! Decoding values, arrays and tables at the front of a slice.
 
-ghost use Rattle.std.specs.Prelude.{◌≡◌, ◌≤◌, ◌<◌, ◌↔◌, Some, true, false, length, IfOk, IfSome, IsTrue};
+ghost use Rattle.std.specs.Prelude.{◌≡◌, ◌≤◌, ◌<◌, ◌↔◌, Some, true};
+ghost use Rattle.std.specs.Prelude.{false, length, IfOk, IfSome, IsTrue};
 ghost use Rattle.amqp_types.specs.Booleans.{judge_boolean};
-ghost use Rattle.amqp_types.specs.ValueJudging.{filled, nested, judge_entry, judge_array, judge_table, judge_behind, judge_value};
-ghost use Rattle.amqp_canonical.specs.Judgements.{layout_at, layout_after_byte, IsShort, IsAbove, IsBelow, MayRefuse, IsCanonicalBoolean, IsCanonicalAfterTag, IsCanonicalValue, AreCanonicalValues, AreCanonicalEntries, IsCanonicalArray, IsCanonicalTable, Judges, JudgesEntry, JudgesWhole};
+ghost use Rattle.amqp_types.specs.ValueJudging.{filled, nested, judge_entry, judge_array};
+ghost use Rattle.amqp_types.specs.ValueJudging.{judge_table, judge_behind, judge_value};
+ghost use Rattle.amqp_canonical.specs.Judgements.{layout_at, layout_after_byte, IsShort, IsAbove};
+ghost use Rattle.amqp_canonical.specs.Judgements.{IsBelow, MayRefuse, IsCanonicalBoolean};
+ghost use Rattle.amqp_canonical.specs.Judgements.{IsCanonicalAfterTag, IsCanonicalValue};
+ghost use Rattle.amqp_canonical.specs.Judgements.{AreCanonicalValues, AreCanonicalEntries};
+ghost use Rattle.amqp_canonical.specs.Judgements.{IsCanonicalArray, IsCanonicalTable, Judges};
+ghost use Rattle.amqp_canonical.specs.Judgements.{JudgesEntry, JudgesWhole};
 ghost use Rattle.amqp_canonical.specs.Leads.{leading};
 
 use crate::leads::{first_eight, next_two};

@@ -1,9 +1,13 @@
 //! Writing the canonical bytes of values, arrays and tables that were decoded, without memory.
 
 ghost use Rattle.std.specs.Prelude.{drop, All};
-ghost use Rattle.amqp_types.specs.ValueJudging.{filled, nested, judge_array, judge_behind, judge_entry, judge_table, judge_value};
+ghost use Rattle.amqp_types.specs.ValueJudging.{filled, nested, judge_array, judge_behind};
+ghost use Rattle.amqp_types.specs.ValueJudging.{judge_entry, judge_table, judge_value};
 ghost use Rattle.amqp_canonical.specs.Writes.{IsRead, IsFilled, HasRoomFor, PutsIfRoom};
-ghost use Rattle.amqp_canonical.specs.CanonicalValues.{canonical_after_tag, canonical_array, canonical_entries, canonical_entry, canonical_table, canonical_value, canonical_values, marked_entries};
+ghost use Rattle.amqp_canonical.specs.CanonicalValues.{canonical_after_tag, canonical_array};
+ghost use Rattle.amqp_canonical.specs.CanonicalValues.{canonical_entries, canonical_entry};
+ghost use Rattle.amqp_canonical.specs.CanonicalValues.{canonical_table, canonical_value};
+ghost use Rattle.amqp_canonical.specs.CanonicalValues.{canonical_values, marked_entries};
 ghost use Rattle.amqp_canonical.specs.Marks.{AreEntries, IsMarkOf, entry_at};
 
 use crate::marks::{EntryMark, is_tied, mark_in_order};
@@ -164,7 +168,8 @@ fn put_marked<R: Room>(
     requires read { All (λ mark. IsRead (entry_at depth_left content.now mark.place)) marks.now }
     requires each { All (IsMarkOf content.now) marks.now }
     requires room { HasRoomFor R.sure buf.old at (marked_entries depth_left content.now marks.now) }
-    ensures { PutsIfRoom buf.old buf.new at (marked_entries depth_left content.now marks.now) result }
+    ensures { PutsIfRoom buf.old buf.new at
+        (marked_entries depth_left content.now marks.now) result }
 {
     let mut end = at;
     let mut k = 0;
@@ -190,8 +195,10 @@ fn put_mark<R: Room>(
 ) -> usize
     requires read { IsRead (entry_at depth_left content.now mark.now.place) }
     requires is { IsMarkOf content.now mark.now }
-    requires room { HasRoomFor R.sure buf.old at (canonical_entry depth_left (drop mark.now.place content.now)) }
-    ensures { PutsIfRoom buf.old buf.new at (canonical_entry depth_left (drop mark.now.place content.now)) result }
+    requires room { HasRoomFor R.sure buf.old at
+        (canonical_entry depth_left (drop mark.now.place content.now)) }
+    ensures { PutsIfRoom buf.old buf.new at
+        (canonical_entry depth_left (drop mark.now.place content.now)) result }
 {
     let place = mark.place as usize;
     let size = mark.size as usize;

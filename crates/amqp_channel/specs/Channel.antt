@@ -1,5 +1,6 @@
 -- The methods of the class channel, and the items of their fields.
--- The fields stand in their order on the wire; a reserved one is decoded and dropped, is written as the value named, and gives no item.
+-- The fields stand in their order on the wire; a reserved one is decoded and dropped, is written as
+-- the value named, and gives no item.
 use Rattle.std.specs.Prelude.{[], ◌∷◌}
 use Rattle.amqp_types.specs.Slots.{number_item, flag_item, text_item}
 use Rattle.amqp_types.specs.Methods.{Method, method}
@@ -30,13 +31,16 @@ flow_ok_method m = method 20 21 (flag_item m.active ∷ [])
 
 -- channel.close (class 20, method 40): reply_code, reply_text, class_id, method_id
 abbrev pub close_method : Close → Method
-close_method m = method 20 40 (number_item m.reply_code ∷ text_item m.reply_text ∷ number_item m.class_id ∷ number_item m.method_id ∷ [])
+close_method m =
+    method 20 40 (number_item m.reply_code ∷ text_item m.reply_text
+    ∷ number_item m.class_id ∷ number_item m.method_id ∷ [])
 
 -- channel.close-ok (class 20, method 41): no fields
 abbrev pub close_ok_method : CloseOk → Method
 close_ok_method m = method 20 41 ([])
 
--- the row of class 20 that each variant is, by its method id: Open 10, OpenOk 11, Flow 20, FlowOk 21, Close 40, CloseOk 41
+-- the row of class 20 that each variant is, by its method id: Open 10, OpenOk 11, Flow 20, FlowOk
+-- 21, Close 40, CloseOk 41
 abbrev pub method_of : AMQPMethod → Method
 method_of (variant.Open m) = open_method m
 method_of (variant.OpenOk m) = open_ok_method m

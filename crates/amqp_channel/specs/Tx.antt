@@ -34,7 +34,8 @@ rollback_method m = method 90 30 ([])
 abbrev pub rollback_ok_method : RollbackOk → Method
 rollback_ok_method m = method 90 31 ([])
 
--- the row of class 90 that each variant is, by its method id: Select 10, SelectOk 11, Commit 20, CommitOk 21, Rollback 30, RollbackOk 31
+-- the row of class 90 that each variant is, by its method id: Select 10, SelectOk 11, Commit 20,
+-- CommitOk 21, Rollback 30, RollbackOk 31
 abbrev pub method_of : AMQPMethod → Method
 method_of (variant.Select m) = select_method m
 method_of (variant.SelectOk m) = select_ok_method m

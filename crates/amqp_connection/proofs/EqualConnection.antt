@@ -29,7 +29,9 @@ use Rattle.amqp_connection.specs.declared.methods.connection.AMQPMethod.{AMQPMet
 use Rattle.amqp_connection.specs.contracts.methods.connection.AMQPMethodPartialEq.TheImpl as method
 
 SameStart : Start → Start → Type 0
-SameStart a b = (a.version_major ≡ b.version_major) × ((a.version_minor ≡ b.version_minor) × ((a.server_properties ≡ b.server_properties) × ((a.mechanisms ≡ b.mechanisms) × (a.locales ≡ b.locales))))
+SameStart a b =
+    (a.version_major ≡ b.version_major)
+    × ((a.version_minor ≡ b.version_minor) × ((a.server_properties ≡ b.server_properties) × ((a.mechanisms ≡ b.mechanisms) × (a.locales ≡ b.locales))))
 
 start_fields : (a b : Start) → Decides (start.ghosts.eq a b) (SameStart a b)
 unfolding SameStart
@@ -50,35 +52,47 @@ start_ok_is : (a b : StartOk) → SameStartOk a b ↔ (a ≡ b)
 unfolding SameStartOk
 start_ok_is a b = search rules
 
+-- The test of equal connection.start methods is true exactly where contracts see the same.
 pub same_start : (a b : Start) → Decides (start.ghosts.eq a b) (a ≡ b)
 same_start a b = decides_same (start.ghosts.eq a b) (start_fields a b) (start_is a b)
 
+-- The test of equal connection.start-ok methods is true exactly where contracts see the same.
 pub same_start_ok : (a b : StartOk) → Decides (start_ok.ghosts.eq a b) (a ≡ b)
 same_start_ok a b = decides_same (start_ok.ghosts.eq a b) (start_ok_fields a b) (start_ok_is a b)
 
+-- The test of equal connection.secure methods is true exactly where contracts see the same.
 pub same_secure : (a b : Secure) → Decides (secure.ghosts.eq a b) (a ≡ b)
 same_secure a b = search rules
 
+-- The test of equal connection.secure-ok methods is true exactly where contracts see the same.
 pub same_secure_ok : (a b : SecureOk) → Decides (secure_ok.ghosts.eq a b) (a ≡ b)
 same_secure_ok a b = search rules
 
+-- The test of equal connection.tune methods is true exactly where contracts see the same.
 pub same_tune : (a b : Tune) → Decides (tune.ghosts.eq a b) (a ≡ b)
 same_tune a b = search rules
 
+-- The test of equal connection.tune-ok methods is true exactly where contracts see the same.
 pub same_tune_ok : (a b : TuneOk) → Decides (tune_ok.ghosts.eq a b) (a ≡ b)
 same_tune_ok a b = search rules
 
+-- The test of equal connection.open methods is true exactly where contracts see the same.
 pub same_open : (a b : Open) → Decides (opened.ghosts.eq a b) (a ≡ b)
 same_open a b = search rules
 
+-- The test of equal connection.close methods is true exactly where contracts see the same.
 pub same_close : (a b : Close) → Decides (close.ghosts.eq a b) (a ≡ b)
 same_close a b = search rules
 
+-- The test of equal connection.blocked methods is true exactly where contracts see the same.
 pub same_blocked : (a b : Blocked) → Decides (blocked.ghosts.eq a b) (a ≡ b)
 same_blocked a b = search rules
 
+-- The test of equal connection.update-secret methods is true exactly where contracts see the same.
 pub same_update_secret : (a b : UpdateSecret) → Decides (update_secret.ghosts.eq a b) (a ≡ b)
 same_update_secret a b = search rules
 
+-- The test of equal methods of the class connection is true exactly where contracts see the same.
 pub same_method : (a b : AMQPMethod) → Decides (method.ghosts.eq a b) (a ≡ b)
-same_method a b = search (rules, same_start, same_start_ok, same_secure, same_secure_ok, same_tune, same_tune_ok, same_open, same_close, same_blocked, same_update_secret)
+same_method a b =
+    search (rules, same_start, same_start_ok, same_secure, same_secure_ok, same_tune, same_tune_ok, same_open, same_close, same_blocked, same_update_secret)

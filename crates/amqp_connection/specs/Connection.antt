@@ -1,5 +1,6 @@
 -- The methods of the class connection, and the items of their fields.
--- The fields stand in their order on the wire; a reserved one is decoded and dropped, is written as the value named, and gives no item.
+-- The fields stand in their order on the wire; a reserved one is decoded and dropped, is written as
+-- the value named, and gives no item.
 use Rattle.std.specs.Prelude.{[], ◌∷◌}
 use Rattle.amqp_types.specs.Slots.{number_item, text_item, bytes_item, entries_item}
 use Rattle.amqp_types.specs.Methods.{Method, method}
@@ -20,13 +21,18 @@ use Rattle.amqp_connection.specs.declared.methods.connection.opening.UpdateSecre
 use Rattle.amqp_connection.specs.declared.methods.connection.AMQPMethod.{AMQPMethod}
 use Rattle.amqp_connection.specs.declared.methods.connection.AMQPMethod.TheVariants as variant
 
--- connection.start (class 10, method 10): version_major, version_minor, server_properties, mechanisms, locales
+-- connection.start (class 10, method 10): version_major, version_minor, server_properties,
+-- mechanisms, locales
 abbrev pub start_method : Start → Method
-start_method m = method 10 10 (number_item m.version_major ∷ number_item m.version_minor ∷ entries_item m.server_properties ∷ bytes_item m.mechanisms ∷ bytes_item m.locales ∷ [])
+start_method m =
+    method 10 10 (number_item m.version_major ∷ number_item m.version_minor
+    ∷ entries_item m.server_properties ∷ bytes_item m.mechanisms ∷ bytes_item m.locales ∷ [])
 
 -- connection.start-ok (class 10, method 11): client_properties, mechanism, response, locale
 abbrev pub start_ok_method : StartOk → Method
-start_ok_method m = method 10 11 (entries_item m.client_properties ∷ text_item m.mechanism ∷ bytes_item m.response ∷ text_item m.locale ∷ [])
+start_ok_method m =
+    method 10 11 (entries_item m.client_properties ∷ text_item m.mechanism
+    ∷ bytes_item m.response ∷ text_item m.locale ∷ [])
 
 -- connection.secure (class 10, method 20): challenge
 abbrev pub secure_method : Secure → Method
@@ -38,13 +44,18 @@ secure_ok_method m = method 10 21 (bytes_item m.response ∷ [])
 
 -- connection.tune (class 10, method 30): channel_max, frame_max, heartbeat
 abbrev pub tune_method : Tune → Method
-tune_method m = method 10 30 (number_item m.channel_max ∷ number_item m.frame_max ∷ number_item m.heartbeat ∷ [])
+tune_method m =
+    method 10 30
+    (number_item m.channel_max ∷ number_item m.frame_max ∷ number_item m.heartbeat ∷ [])
 
 -- connection.tune-ok (class 10, method 31): channel_max, frame_max, heartbeat
 abbrev pub tune_ok_method : TuneOk → Method
-tune_ok_method m = method 10 31 (number_item m.channel_max ∷ number_item m.frame_max ∷ number_item m.heartbeat ∷ [])
+tune_ok_method m =
+    method 10 31
+    (number_item m.channel_max ∷ number_item m.frame_max ∷ number_item m.heartbeat ∷ [])
 
--- connection.open (class 10, method 40): virtual_host, reserved (short string, empty), reserved (flag, false)
+-- connection.open (class 10, method 40): virtual_host, reserved (short string, empty),
+-- reserved (flag, false)
 abbrev pub open_method : Open → Method
 open_method m = method 10 40 (text_item m.virtual_host ∷ [])
 
@@ -54,7 +65,9 @@ open_ok_method m = method 10 41 ([])
 
 -- connection.close (class 10, method 50): reply_code, reply_text, class_id, method_id
 abbrev pub close_method : Close → Method
-close_method m = method 10 50 (number_item m.reply_code ∷ text_item m.reply_text ∷ number_item m.class_id ∷ number_item m.method_id ∷ [])
+close_method m =
+    method 10 50 (number_item m.reply_code ∷ text_item m.reply_text
+    ∷ number_item m.class_id ∷ number_item m.method_id ∷ [])
 
 -- connection.close-ok (class 10, method 51): no fields
 abbrev pub close_ok_method : CloseOk → Method
@@ -76,8 +89,9 @@ update_secret_method m = method 10 70 (bytes_item m.new_secret ∷ text_item m.r
 abbrev pub update_secret_ok_method : UpdateSecretOk → Method
 update_secret_ok_method m = method 10 71 ([])
 
--- the row of class 10 that each variant is, by its method id: Start 10, StartOk 11, Secure 20, SecureOk 21, Tune 30, TuneOk 31, Open 40, OpenOk 41,
--- Close 50, CloseOk 51, Blocked 60, Unblocked 61, UpdateSecret 70, UpdateSecretOk 71
+-- the row of class 10 that each variant is, by its method id: Start 10, StartOk 11, Secure 20,
+-- SecureOk 21, Tune 30, TuneOk 31, Open 40, OpenOk 41, Close 50, CloseOk 51, Blocked 60, Unblocked
+-- 61, UpdateSecret 70, UpdateSecretOk 71
 abbrev pub method_of : AMQPMethod → Method
 method_of (variant.Start m) = start_method m
 method_of (variant.StartOk m) = start_ok_method m

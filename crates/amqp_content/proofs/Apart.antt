@@ -15,6 +15,7 @@ use Rattle.amqp_content.specs.declared.outcome.Outcome.{Outcome}
 use Rattle.amqp_content.specs.declared.outcome.Outcome.TheVariants as given_as
 use Rattle.amqp_content.specs.Outcomes.{outcome_of}
 
+-- no frames give no outcomes
 pub none_given : (max : ℕ) (outcomes : List Outcome) → outcomes ≡ [] → AreGiven max [] [] (map outcome_of outcomes)
 none_given max outcomes none = subst (λ (os : List Outcome). AreGiven max [] [] (map outcome_of os)) (sym none) tt
 
@@ -25,17 +26,37 @@ pub record Assembled (max : ℕ) (frames : List AMQPFrame) (outcomes : List Outc
 
 -- what `push` promises of a frame outside of all content, and of one that is content
 abbrev pub OutsideIs : Assembling → Assembling → AMQPFrame → Outcome → Type 0
-OutsideIs before after frame outcome = is_content (outline_of (frame_of frame)) ≡ false → (◌≡◌ {A = Result Outcome NoMemory} (Ok outcome) (Ok (given_as.Passed frame))) × (after ≡ before)
+OutsideIs before after frame outcome =
+    is_content (outline_of (frame_of frame)) ≡ false → (◌≡◌ {A = Result Outcome NoMemory} (Ok outcome) (Ok (given_as.Passed frame))) × (after ≡ before)
 
-pub assembled_step : (max : ℕ) (before after : Assembling) (frames : List AMQPFrame) (outcomes : List Outcome) (frame : AMQPFrame) (outcome : Outcome) → before.max_body ≡ max → AllStand max (map frame_of frames) before.channels → AreGiven max [] (map frame_of frames) (map outcome_of outcomes) → OutsideIs before after frame outcome → (is_content (outline_of (frame_of frame)) ≡ true → Pushes before.max_body (kept_at before.channels (channel_id_of (frame_of frame))) (kept_at after.channels (channel_id_of (frame_of frame))) (frame_of frame) (outcome_of outcome)) → ((other : ℕ) → other ≢ channel_id_of (frame_of frame) → kept_at after.channels other ≡ kept_at before.channels other) → Assembled max (frames ++ frame ∷ []) (outcomes ++ outcome ∷ []) after.channels
+-- a frame more that `push` takes gives one outcome more, and what is kept of each channel stands for the longer list
+pub assembled_step : (max : ℕ) (before after : Assembling) (frames : List AMQPFrame) (outcomes : List Outcome) (frame : AMQPFrame) (outcome : Outcome)
+    → before.max_body ≡ max → AllStand max (map frame_of frames) before.channels
+    → AreGiven max [] (map frame_of frames) (map outcome_of outcomes) → OutsideIs before after frame outcome
+    → (is_content (outline_of (frame_of frame)) ≡ true
+    → Pushes before.max_body (kept_at before.channels (channel_id_of (frame_of frame)))
+    (kept_at after.channels (channel_id_of (frame_of frame))) (frame_of frame) (outcome_of outcome))
+    → ((other : ℕ) → other ≢ channel_id_of (frame_of frame) → kept_at after.channels other ≡ kept_at before.channels other)
+    → Assembled max (frames ++ frame ∷ []) (outcomes ++ outcome ∷ []) after.channels
 assembled_step max before after frames outcomes frame outcome is old given outside pushes others =
-    let at = λ (e : is_content (outline_of (frame_of frame)) ≡ true). subst (λ (m : ℕ). Pushes m (kept_at before.channels (channel_id_of (frame_of frame))) (kept_at after.channels (channel_id_of (frame_of frame))) (frame_of frame) (outcome_of outcome)) is (pushes e) in
-    let stand = stands-push max (map frame_of frames) (frame_of frame) before.channels after.channels old (λ e. ap (λ (a : Assembling). a.channels) (outside e).1) (λ e. (at e).stands) others in
-    let one = is_given max (map frame_of frames) (frame_of frame) before.channels (outcome_of outcome) old (λ e. outcome_passed outcome frame (outside e).0) (λ e. (at e).gives) in
+    let at = λ (e : is_content (outline_of (frame_of frame)) ≡ true).
+    subst
+    (λ (m : ℕ).
+    Pushes m (kept_at before.channels (channel_id_of (frame_of frame)))
+    (kept_at after.channels (channel_id_of (frame_of frame))) (frame_of frame) (outcome_of outcome))
+    is (pushes e) in
+    let stand =
+    stands-push max (map frame_of frames) (frame_of frame) before.channels after.channels old
+    (λ e. ap (λ (a : Assembling). a.channels) (outside e).1) (λ e. (at e).stands) others in
+    let one =
+    is_given max (map frame_of frames) (frame_of frame) before.channels (outcome_of outcome) old
+    (λ e. outcome_passed outcome frame (outside e).0) (λ e. (at e).gives) in
     let all = given-push max [] (map frame_of frames) (map outcome_of outcomes) (frame_of frame) (outcome_of outcome) given one in
     record {
       stand = subst (λ (fs : List Frame). AllStand max fs after.channels) (sym (map_push frame_of frames frame)) stand;
-      given = subst (λ (fs : List Frame). AreGiven max [] fs (map outcome_of (outcomes ++ outcome ∷ []))) (sym (map_push frame_of frames frame)) (subst (λ (ts : List OutcomeView). AreGiven max [] (map frame_of frames ++ frame_of frame ∷ []) ts) (sym (map_push outcome_of outcomes outcome)) all);
+      given =
+          subst (λ (fs : List Frame). AreGiven max [] fs (map outcome_of (outcomes ++ outcome ∷ []))) (sym (map_push frame_of frames frame))
+          (subst (λ (ts : List OutcomeView). AreGiven max [] (map frame_of frames ++ frame_of frame ∷ []) ts) (sym (map_push outcome_of outcomes outcome)) all);
     }
   where
     outcome_passed : (o : Outcome) (f : AMQPFrame) → ◌≡◌ {A = Result Outcome NoMemory} (Ok o) (Ok (given_as.Passed f)) → outcome_of o ≡ passed (frame_of f)

@@ -33,6 +33,7 @@ opening_itself (openings.Return a) = (same_return a a).1 refl
 opening_itself (openings.Deliver a) = (same_deliver a a).1 refl
 opening_itself (openings.GetOk a) = (same_get_ok a a).1 refl
 
+-- `==` of openings holds exactly where they are the same
 pub same_opening : (a b : Opening) → Decides (opening.ghosts.eq a b) (a ≡ b)
 same_opening a b = (opening_same a b, λ e. let P : Opening → Type 0 = λ x. opening.ghosts.eq a x ≡ true in subst P e (opening_itself a))
 
@@ -42,14 +43,18 @@ abbrev SameParts : Parts → Parts → Type 0
 SameParts a b = (a.channel ≡ b.channel) × ((a.opening ≡ b.opening) × ((a.properties ≡ b.properties) × (a.body ≡ b.body)))
 
 parts_decided : (a b : Parts) → Decides (message.ghosts.eq a b) (SameParts a b)
-parts_decided a b = both _ _ (unsigned_Decides a.channel b.channel) (both _ _ (same_opening a.opening b.opening) (both _ _ (same_properties a.properties b.properties) (bytes_decides a.body b.body)))
+parts_decided a b =
+    both _ _ (unsigned_Decides a.channel b.channel)
+    (both _ _ (same_opening a.opening b.opening) (both _ _ (same_properties a.properties b.properties) (bytes_decides a.body b.body)))
 
 message_of_parts : (a b : Parts) → SameParts a b → a ≡ b
 message_of_parts a b e = λ i. record { channel = e.0 i; opening = e.1.0 i; properties = e.1.1.0 i; body = e.1.1.1 i }
 
 parts_of_message : (a b : Parts) → a ≡ b → SameParts a b
-parts_of_message a b e = (ap (λ (m : Parts). m.channel) e, (ap (λ (m : Parts). m.opening) e, (ap (λ (m : Parts). m.properties) e, ap (λ (m : Parts). m.body) e)))
+parts_of_message a b e =
+    (ap (λ (m : Parts). m.channel) e, (ap (λ (m : Parts). m.opening) e, (ap (λ (m : Parts). m.properties) e, ap (λ (m : Parts). m.body) e)))
 
+-- `==` of messages holds exactly where their four parts are the same
 pub same_message : (a b : Parts) → Decides (message.ghosts.eq a b) (a ≡ b)
 same_message a b = (λ h. message_of_parts a b ((parts_decided a b).0 h), λ e. (parts_decided a b).1 (parts_of_message a b e))
 
@@ -71,5 +76,6 @@ outcome_itself outcomes.Held = refl
 outcome_itself (outcomes.Done a) = (same_message a a).1 refl
 outcome_itself (outcomes.Fault a) = (same_fault a a).1 refl
 
+-- `==` of outcomes holds exactly where they are the same
 pub same_outcome : (a b : Outcome) → Decides (outcome.ghosts.eq a b) (a ≡ b)
 same_outcome a b = (outcome_same a b, λ e. let P : Outcome → Type 0 = λ x. outcome.ghosts.eq a x ≡ true in subst P e (outcome_itself a))

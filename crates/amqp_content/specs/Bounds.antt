@@ -1,5 +1,7 @@
--- How many bytes the messages that are not complete hold, and which frame would pass a bound on them.
-use Rattle.std.specs.Prelude.{◌≡◌, ℕ, ◌+◌, ◌<◌, true, false, ◌==◌, zero, suc, List, length, Option, Some, None, if◌then◌else◌}
+-- How many bytes the messages that are not complete hold, and which frame would pass
+-- a bound on them.
+use Rattle.std.specs.Prelude.{◌≡◌, ℕ, ◌+◌, ◌<◌, true, false, ◌==◌, zero, suc, List, length}
+use Rattle.std.specs.Prelude.{Option, Some, None, if◌then◌else◌}
 use Rattle.amqp_wire.specs.Frames.{Frame, Proto, Meth, Head, Body, Beat, BadBeat, channel_id_of}
 use Rattle.amqp_turns.specs.declared.mark.Mark.{Mark}
 use Rattle.amqp_turns.specs.declared.mark.Mark.TheVariants as marks
@@ -34,7 +36,8 @@ channel_count = 65536
 unfoldable pub open_bytes : Assembling → ℕ
 open_bytes assembling = bytes_below channel_count assembling.channels
 
--- what a body with this mark adds to them: nothing where it completes its message, or is not in turn
+-- what a body with this mark adds to them: nothing where it completes its message,
+-- or is not in turn
 abbrev pub added_by : ℕ → Mark → ℕ
 added_by count (marks.Body before after size) = if after == size then 0 else count
 added_by count marks.Passed = 0
@@ -44,7 +47,8 @@ added_by count (marks.Fault bad) = 0
 
 -- what a frame adds, by what is kept of its channel; only bodies add bytes
 abbrev pub added_to : ℕ → Option Kept → Frame → ℕ
-added_to max kept (Body channel content) = added_by (length content) (mark_kept max kept (Body channel content))
+added_to max kept (Body channel content) =
+    added_by (length content) (mark_kept max kept (Body channel content))
 added_to max kept (Proto major minor revision) = 0
 added_to max kept (Meth channel m) = 0
 added_to max kept (Head channel header) = 0
@@ -53,7 +57,8 @@ added_to max kept (BadBeat channel) = 0
 
 -- the same in an assembler
 abbrev pub adds : Assembling → Frame → ℕ
-adds assembling frame = added_to assembling.max_body (kept_at assembling.channels (channel_id_of frame)) frame
+adds assembling frame =
+    added_to assembling.max_body (kept_at assembling.channels (channel_id_of frame)) frame
 
 -- the frame adds bytes, and with these there would be more than the bound
 pub record Passes (bound : ℕ) (assembling : Assembling) (frame : Frame) : Type 0 where
@@ -61,10 +66,13 @@ pub record Passes (bound : ℕ) (assembling : Assembling) (frame : Frame) : Type
   pub more : bound < open_bytes assembling + adds assembling frame
 
 -- a frame that does not pass the bound, and what it gives
-pub record IsPushed (bound : ℕ) (old new : Assembling) (frame : AMQPFrame) (outcome : Outcome) : Type 0 where
+pub record IsPushed (bound : ℕ) (old new : Assembling)
+    (frame : AMQPFrame) (outcome : Outcome) : Type 0 where
   pub within : Passes bound old (frame_of frame) → ⊥
-  pub outside : is_content (outline_of (frame_of frame)) ≡ false → (outcome ≡ outcomes.Passed frame) × (new ≡ old)
-  pub pushes : is_content (outline_of (frame_of frame)) ≡ true → PushesIn old new (frame_of frame) (outcome_of outcome)
+  pub outside : is_content (outline_of (frame_of frame)) ≡ false
+      → (outcome ≡ outcomes.Passed frame) × (new ≡ old)
+  pub pushes : is_content (outline_of (frame_of frame)) ≡ true
+      → PushesIn old new (frame_of frame) (outcome_of outcome)
 
 -- a frame that passes the bound: it comes back, and all stays
 pub record IsFull (bound : ℕ) (old new : Assembling) (frame back : AMQPFrame) : Type 0 where

@@ -9,6 +9,7 @@ pub use Rattle.amqp_turns.specs.Marks
 pub use Rattle.amqp_turns.specs.Steps
 pub mod Messages
 pub mod Outcomes
+pub mod Memory
 pub mod Bounds
 pub use Rattle.amqp_turns.specs.Sequences
 pub mod Splits

@@ -1,6 +1,13 @@
--- What an assembler gives for typed frames, and what it holds of a channel. What speaks of no typed frame is passed on.
+-- What an assembler gives for typed frames, and what it holds of a channel. What speaks of no typed
+-- frame is passed on.
 use Rattle.std.specs.Prelude.{ℕ, Some, None}
-pub use Rattle.amqp_turns.specs.Outcomes.{OutcomeView, passed, held, done, wrong, answer_outcome, Kept, message, fault, begun_kept, kept_of, AssemblerStands, IsOutcomeOf, Pushes, Assembling, PushesIn, progress_kept, kept_progress, with_header, with_bytes, IsHeaded, IsHeadedThere, whole_kept, marked_outcome, kept_marked, mark_kept, TakesFrame, IsMessage, TakesIn, TakesMarked}
+pub use Rattle.amqp_turns.specs.Outcomes.{OutcomeView, passed, held, done, wrong, answer_outcome}
+pub use Rattle.amqp_turns.specs.Outcomes.{Kept, message, fault, begun_kept, kept_of}
+pub use Rattle.amqp_turns.specs.Outcomes.{AssemblerStands, IsOutcomeOf, Pushes, Assembling}
+pub use Rattle.amqp_turns.specs.Outcomes.{PushesIn, progress_kept, kept_progress, with_header}
+pub use Rattle.amqp_turns.specs.Outcomes.{with_bytes, IsHeaded, IsHeadedThere, whole_kept}
+pub use Rattle.amqp_turns.specs.Outcomes.{marked_outcome, kept_marked, mark_kept, TakesFrame}
+pub use Rattle.amqp_turns.specs.Outcomes.{IsMessage, TakesIn, TakesMarked}
 use Rattle.amqp_frame.specs.Frames.{frame_of, header_of}
 use Rattle.amqp_content.specs.Messages.{content_of, opening_method}
 use Rattle.amqp_content.specs.declared.outcome.Outcome.{Outcome}
@@ -18,7 +25,8 @@ outcome_of (outcomes.Fault bad) = wrong bad
 -- what an assembler holds of a channel, in these words
 abbrev pub pending_kept : Pending → Kept
 pending_kept (pendings.Message opening None body) = message (opening_method opening) None body.items
-pending_kept (pendings.Message opening (Some header) body) = message (opening_method opening) (Some (header_of header)) body.items
+pending_kept (pendings.Message opening (Some header) body) =
+    message (opening_method opening) (Some (header_of header)) body.items
 pending_kept pendings.Faulted = fault
 
 -- the same of an entry of its channels

@@ -1,12 +1,17 @@
 //! Messages out of the frames of many channels.
 
-ghost use Rattle.std.specs.Prelude.{◌≡◌, ℕ, [], Ok, Some, None, IfOk, OnOk, OnErr, IsTrue, false};
+ghost use Rattle.std.specs.Prelude.{◌≡◌, ◌<◌, ℕ, [], Ok, Some, None, IfOk};
+ghost use Rattle.std.specs.Prelude.{OnOk, OnErr, IsTrue, false, length};
 ghost use Rattle.amqp_protocol.specs.Classes.{method_of};
 ghost use Rattle.amqp_frame.specs.Frames.{Meth, Head, Body, frame_of, header_of, channel_id_of};
 ghost use Rattle.amqp_wire.specs.Outlines.{outline_of};
-ghost use Rattle.amqp_turns.specs.Units.{is_content};
+ghost use Rattle.amqp_turns.specs.Units.{is_content, is_opening_id};
 ghost use Rattle.amqp_turns.specs.Stands.{kept_at, OthersStay};
-ghost use Rattle.amqp_content.specs.Outcomes.{AssemblerStands, PushesIn, TakesIn, TakesMarked, IsHeadedThere, IsMessage, outcome_of, wrong, fault, pending_kept, kept_progress, with_header, with_bytes, whole_kept};
+ghost use Rattle.amqp_content.specs.Outcomes.{AssemblerStands, PushesIn, TakesIn, TakesMarked};
+ghost use Rattle.amqp_content.specs.Outcomes.{IsHeadedThere, IsMessage, outcome_of, wrong, fault};
+ghost use Rattle.amqp_content.specs.Outcomes.{pending_kept, kept_progress, with_header};
+ghost use Rattle.amqp_content.specs.Outcomes.{with_bytes, whole_kept};
+ghost use Rattle.amqp_content.specs.Memory.{NeedsMemory};
 ghost use Rattle.amqp_content.specs.Bounds.{adds, body_bytes};
 ghost use Rattle.amqp_turns.specs.Steps.{mark_after, method_mark};
 
@@ -39,7 +44,8 @@ impl Model for Assembler {
 
     ghost coded = { Prim.hlevel (codes, value_code) };
 
-    ghost view = { λ assembler. record { max_body = assembler.max_body; channels = map entry_kept assembler.channels } };
+    ghost view = { λ assembler.
+        record { max_body = assembler.max_body; channels = map entry_kept assembler.channels } };
 }
 
 impl Assembler {
@@ -48,7 +54,8 @@ impl Assembler {
     pub fn open(alloc: Global, max_body: u64) -> Assembler
         ensures max_body { result.max_body ≡ max_body }
         ensures channels { result.channels ≡ [] }
-        ensures stands { (channel : ℕ) → AssemblerStands max_body [] (kept_at result.channels channel) }
+        ensures stands { (channel : ℕ)
+            → AssemblerStands max_body [] (kept_at result.channels channel) }
     {
         Assembler {
             alloc,
@@ -60,7 +67,8 @@ impl Assembler {
     /// Forgets what has come on a channel, its fault too: it was closed, and where it is opened again its content begins anew.
     pub fn forget(&mut self, channel_id: ChannelId)
         ensures none { kept_at self.new.channels channel_id ≡ None }
-        ensures stands { AssemblerStands self.old.max_body [] (kept_at self.new.channels channel_id) }
+        ensures stands { AssemblerStands self.old.max_body []
+            (kept_at self.new.channels channel_id) }
         ensures others { OthersStay channel_id self.old.channels self.new.channels }
         ensures max_body { self.new.max_body ≡ self.old.max_body }
     {
@@ -107,16 +115,20 @@ impl Assembler {
 
     /// What a frame is to its channel's content.
     fn mark(&self, channel_id: ChannelId, outline: FrameOutline) -> Mark
-        ensures { result ≡ mark_after self.now.max_body (kept_progress (kept_at self.now.channels channel_id)) outline }
+        ensures { result
+            ≡ mark_after self.now.max_body
+            (kept_progress (kept_at self.now.channels channel_id)) outline }
     {
         step(self.max_body, self.progress(channel_id), outline).0
     }
 
-    /// Keeps this of a channel. Where memory runs out, all stays.
+    /// Keeps this of a channel. Memory may run out only where nothing is kept of it, and all stays.
     fn keep(&mut self, channel_id: ChannelId, pending: Pending) -> Result<(), NoMemory>
-        ensures kept { OnOk result (kept_at self.new.channels channel_id ≡ Some (pending_kept pending)) }
+        ensures kept { OnOk result
+            (kept_at self.new.channels channel_id ≡ Some (pending_kept pending)) }
         ensures others { OthersStay channel_id self.old.channels self.new.channels }
         ensures max_body { self.new.max_body ≡ self.old.max_body }
+        ensures absent { OnErr result (kept_at self.old.channels channel_id ≡ None) }
         ensures err { OnErr result (self.new ≡ self.old) }
     {
         self.channels.insert(channel_id, pending)
@@ -124,7 +136,8 @@ impl Assembler {
 
     /// Keeps a content header with the opening before it.
     fn set_header(&mut self, channel_id: ChannelId, header: AMQPContentHeader)
-        ensures kept { kept_at self.new.channels channel_id ≡ with_header (kept_at self.old.channels channel_id) (header_of header) }
+        ensures kept { kept_at self.new.channels channel_id
+            ≡ with_header (kept_at self.old.channels channel_id) (header_of header) }
         ensures others { OthersStay channel_id self.old.channels self.new.channels }
         ensures max_body { self.new.max_body ≡ self.old.max_body }
     {
@@ -136,9 +149,11 @@ impl Assembler {
 
     /// Keeps more body bytes. Where memory runs out, all stays.
     fn append(&mut self, channel_id: ChannelId, bytes: &[u8]) -> Result<(), NoMemory>
-        ensures kept { OnOk result (kept_at self.new.channels channel_id ≡ with_bytes (kept_at self.old.channels channel_id) bytes.now) }
+        ensures kept { OnOk result (kept_at self.new.channels channel_id
+            ≡ with_bytes (kept_at self.old.channels channel_id) bytes.now) }
         ensures others { OthersStay channel_id self.old.channels self.new.channels }
         ensures max_body { self.new.max_body ≡ self.old.max_body }
+        ensures some { OnErr result (0 < length bytes.now) }
         ensures err { OnErr result (self.new ≡ self.old) }
     {
         let Some(pending) = self.channels.get_mut(channel_id) else {
@@ -151,7 +166,8 @@ impl Assembler {
     /// Takes a complete message out.
     fn complete(&mut self, channel_id: ChannelId) -> Outcome
         requires { IsHeadedThere (kept_at self.old.channels channel_id) }
-        ensures outcome { outcome_of result ≡ whole_kept channel_id (kept_at self.old.channels channel_id) }
+        ensures outcome { outcome_of result
+            ≡ whole_kept channel_id (kept_at self.old.channels channel_id) }
         ensures kept { kept_at self.new.channels channel_id ≡ None }
         ensures others { OthersStay channel_id self.old.channels self.new.channels }
         ensures max_body { self.new.max_body ≡ self.old.max_body }
@@ -168,6 +184,7 @@ impl Assembler {
         ensures kept { OnOk result (kept_at self.new.channels channel_id ≡ Some fault) }
         ensures others { OthersStay channel_id self.old.channels self.new.channels }
         ensures max_body { self.new.max_body ≡ self.old.max_body }
+        ensures absent { OnErr result (kept_at self.old.channels channel_id ≡ None) }
         ensures err { OnErr result (self.new ≡ self.old) }
     {
         self.keep(channel_id, Pending::Faulted)?;
@@ -176,10 +193,14 @@ impl Assembler {
 
     /// Takes a method between messages: an opening is kept, any other comes back.
     fn take_method(&mut self, channel_id: ChannelId, class: AMQPClass) -> Result<Outcome, NoMemory>
-        ensures takes { IfOk result (λ outcome. TakesIn self.old self.new (Meth channel_id (method_of class))
+        ensures takes { IfOk result
+            (λ outcome. TakesIn self.old self.new (Meth channel_id (method_of class))
             (method_mark (method_of class).class (method_of class).id) (outcome_of outcome)) }
         ensures others { OthersStay channel_id self.old.channels self.new.channels }
         ensures max_body { self.new.max_body ≡ self.old.max_body }
+        ensures opens { OnErr result
+            (IsTrue (is_opening_id (method_of class).class (method_of class).id)) }
+        ensures absent { OnErr result (kept_at self.old.channels channel_id ≡ None) }
         ensures err { OnErr result (self.new ≡ self.old) }
     {
         match Opening::from_class(class) {
@@ -200,7 +221,8 @@ impl Assembler {
     /// Takes a content header after an opening.
     fn take_header(&mut self, channel_id: ChannelId, header: AMQPContentHeader) -> Outcome
         requires { IsMessage (kept_at self.old.channels channel_id) }
-        ensures takes { TakesIn self.old self.new (Head channel_id (header_of header)) Mark.Header (outcome_of result) }
+        ensures takes { TakesIn self.old self.new
+            (Head channel_id (header_of header)) Mark.Header (outcome_of result) }
         ensures others { OthersStay channel_id self.old.channels self.new.channels }
         ensures max_body { self.new.max_body ≡ self.old.max_body }
     {
@@ -223,9 +245,12 @@ impl Assembler {
         size: u64,
     ) -> Result<Outcome, NoMemory>
         requires { IsHeadedThere (kept_at self.old.channels channel_id) }
-        ensures takes { IfOk result (λ outcome. TakesIn self.old self.new (Body channel_id bytes) (Mark.Body before after size) (outcome_of outcome)) }
+        ensures takes { IfOk result (λ outcome.
+            TakesIn self.old self.new (Body channel_id bytes)
+            (Mark.Body before after size) (outcome_of outcome)) }
         ensures others { OthersStay channel_id self.old.channels self.new.channels }
         ensures max_body { self.new.max_body ≡ self.old.max_body }
+        ensures some { OnErr result (0 < length bytes) }
         ensures err { OnErr result (self.new ≡ self.old) }
     {
         self.append(channel_id, bytes.as_slice())?;
@@ -238,9 +263,12 @@ impl Assembler {
 
     /// Takes a method.
     fn push_method(&mut self, channel_id: ChannelId, class: AMQPClass) -> Result<Outcome, NoMemory>
-        ensures takes { IfOk result (λ outcome. TakesMarked self.old self.new (Meth channel_id (method_of class)) (outcome_of outcome)) }
+        ensures takes { IfOk result (λ outcome.
+            TakesMarked self.old self.new
+            (Meth channel_id (method_of class)) (outcome_of outcome)) }
         ensures others { OthersStay channel_id self.old.channels self.new.channels }
         ensures max_body { self.new.max_body ≡ self.old.max_body }
+        ensures memory { OnErr result (NeedsMemory self.old (Meth channel_id (method_of class))) }
         ensures err { OnErr result (self.new ≡ self.old) }
     {
         let outline = FrameOutline::Method {
@@ -260,9 +288,12 @@ impl Assembler {
         channel_id: ChannelId,
         header: AMQPContentHeader,
     ) -> Result<Outcome, NoMemory>
-        ensures takes { IfOk result (λ outcome. TakesMarked self.old self.new (Head channel_id (header_of header)) (outcome_of outcome)) }
+        ensures takes { IfOk result (λ outcome.
+            TakesMarked self.old self.new
+            (Head channel_id (header_of header)) (outcome_of outcome)) }
         ensures others { OthersStay channel_id self.old.channels self.new.channels }
         ensures max_body { self.new.max_body ≡ self.old.max_body }
+        ensures memory { OnErr result (NeedsMemory self.old (Head channel_id (header_of header))) }
         ensures err { OnErr result (self.new ≡ self.old) }
     {
         let outline = FrameOutline::Header {
@@ -278,9 +309,11 @@ impl Assembler {
 
     /// Takes a body.
     fn push_body(&mut self, channel_id: ChannelId, bytes: ByteArray) -> Result<Outcome, NoMemory>
-        ensures takes { IfOk result (λ outcome. TakesMarked self.old self.new (Body channel_id bytes) (outcome_of outcome)) }
+        ensures takes { IfOk result (λ outcome.
+            TakesMarked self.old self.new (Body channel_id bytes) (outcome_of outcome)) }
         ensures others { OthersStay channel_id self.old.channels self.new.channels }
         ensures max_body { self.new.max_body ≡ self.old.max_body }
+        ensures memory { OnErr result (NeedsMemory self.old (Body channel_id bytes)) }
         ensures err { OnErr result (self.new ≡ self.old) }
     {
         let outline = FrameOutline::Body {
@@ -298,15 +331,20 @@ impl Assembler {
         }
     }
 
-    /// Takes a frame, and says what becomes of it. Where memory runs out, all channels are as before
-    /// and the frame is dropped.
+    /// Takes a frame, and says what becomes of it. Memory may run out only at the first that is kept of a channel, and at
+    /// body bytes: then all channels are as before, and the frame is dropped.
     pub fn push(&mut self, frame: AMQPFrame) -> Result<Outcome, NoMemory>
-        ensures outside { is_content (outline_of (frame_of frame)) ≡ false → (result ≡ Ok (Outcome.Passed frame)) × (self.new ≡ self.old) }
-        ensures takes { IfOk result (λ outcome. TakesMarked self.old self.new (frame_of frame) (outcome_of outcome)) }
+        ensures outside { is_content (outline_of (frame_of frame)) ≡ false
+            → (result ≡ Ok (Outcome.Passed frame)) × (self.new ≡ self.old) }
+        ensures takes { IfOk result
+            (λ outcome. TakesMarked self.old self.new (frame_of frame) (outcome_of outcome)) }
         ensures pushes { IsTrue (is_content (outline_of (frame_of frame)))
-            → IfOk result (λ outcome. PushesIn self.old self.new (frame_of frame) (outcome_of outcome)) }
-        ensures others { OthersStay (channel_id_of (frame_of frame)) self.old.channels self.new.channels }
+            → IfOk result
+            (λ outcome. PushesIn self.old self.new (frame_of frame) (outcome_of outcome)) }
+        ensures others { OthersStay
+            (channel_id_of (frame_of frame)) self.old.channels self.new.channels }
         ensures max_body { self.new.max_body ≡ self.old.max_body }
+        ensures memory { OnErr result (NeedsMemory self.old (frame_of frame)) }
         ensures err { OnErr result (self.new ≡ self.old) }
     {
         match frame {

@@ -17,7 +17,8 @@ pub fn assemble(
     max_body: u64,
     frames: Vec<AMQPFrame>,
 ) -> Result<Vec<Outcome>, NoMemory>
-    ensures { IfOk result (λ outcomes. AreGiven max_body [] (map frame_of frames.items) (map outcome_of outcomes.items)) }
+    ensures { IfOk result (λ outcomes.
+        AreGiven max_body [] (map frame_of frames.items) (map outcome_of outcomes.items)) }
 {
     let mut assembler = Assembler::open(alloc, max_body);
     let mut outcomes = Vec::new(alloc);

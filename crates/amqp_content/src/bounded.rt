@@ -47,13 +47,15 @@ impl BoundedAssembler {
     ghost use Rattle.amqp_frame.specs.Frames.{frame_of, channel_id_of};
     ghost use Rattle.amqp_turns.specs.Stands.{kept_at, OthersStay};
     ghost use Rattle.amqp_content.specs.Outcomes.{AssemblerStands};
+    ghost use Rattle.amqp_content.specs.Memory.{NeedsMemory};
     ghost use Rattle.amqp_content.specs.Bounds.{TakesWithin, body_bytes, open_bytes};
 
     /// An assembler of channels that have no message yet. Content headers may announce bodies of at most `max_body` bytes.
     pub fn open(alloc: Global, max_body: u64) -> BoundedAssembler
         ensures max_body { result.max_body ≡ max_body }
         ensures channels { result.channels ≡ [] }
-        ensures stands { (channel : ℕ) → AssemblerStands max_body [] (kept_at result.channels channel) }
+        ensures stands { (channel : ℕ)
+            → AssemblerStands max_body [] (kept_at result.channels channel) }
     {
         BoundedAssembler {
             assembler: Assembler::open(alloc, max_body),
@@ -70,10 +72,12 @@ impl BoundedAssembler {
 
     /// Forgets what has come on a channel, its fault too: it was closed, and where it is opened again its content begins anew.
     pub fn forget(&mut self, channel_id: ChannelId)
-        ensures stands { AssemblerStands self.old.max_body [] (kept_at self.new.channels channel_id) }
+        ensures stands { AssemblerStands self.old.max_body []
+            (kept_at self.new.channels channel_id) }
         ensures others { OthersStay channel_id self.old.channels self.new.channels }
         ensures max_body { self.new.max_body ≡ self.old.max_body }
-        ensures held { open_bytes self.new + body_bytes (kept_at self.old.channels channel_id) ≡ open_bytes self.old }
+        ensures held { open_bytes self.new + body_bytes (kept_at self.old.channels channel_id)
+            ≡ open_bytes self.old }
     {
         let before = self.assembler.held_of(channel_id);
         self.assembler.forget(channel_id);
@@ -82,12 +86,15 @@ impl BoundedAssembler {
 
     /// Takes a frame as `Assembler::push` does, but for a body with which the messages that are not complete would hold
     /// more than `bound` bytes together: it comes back, and nothing changes. A body that completes its message is taken.
-    /// Where memory runs out, all channels are as before and the frame is dropped.
+    /// Memory may run out only where it may in `push`: then all channels are as before, and the frame is dropped.
     pub fn push_within(&mut self, bound: u64, frame: AMQPFrame) -> Result<Taken, NoMemory>
         ensures takes { IfOk result (TakesWithin bound self.old self.new frame) }
-        ensures bounded { IfOk result (λ taken. (open_bytes self.new ≤ bound) ⊎ (open_bytes self.new ≤ open_bytes self.old)) }
-        ensures others { OthersStay (channel_id_of (frame_of frame)) self.old.channels self.new.channels }
+        ensures bounded { IfOk result
+            (λ taken. (open_bytes self.new ≤ bound) ⊎ (open_bytes self.new ≤ open_bytes self.old)) }
+        ensures others { OthersStay
+            (channel_id_of (frame_of frame)) self.old.channels self.new.channels }
         ensures max_body { self.new.max_body ≡ self.old.max_body }
+        ensures memory { OnErr result (NeedsMemory self.old (frame_of frame)) }
         ensures err { OnErr result (self.new ≡ self.old) }
     {
         let more = self.assembler.adds(&frame);

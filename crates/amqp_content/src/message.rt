@@ -26,9 +26,21 @@ impl Model for Message {
 
     ghost coded = { Prim.hlevel (codes, value_code) };
 
-    ghost view = { λ message. record { channel = message.channel; opening = message.opening; properties = message.properties; body = message.body } };
+    ghost view = { λ message.
+        record {
+          channel = message.channel;
+          opening = message.opening;
+          properties = message.properties;
+          body = message.body;
+        } };
 
-    ghost inverse = { λ parts. record { channel = parts.channel; opening = parts.opening; properties = parts.properties; body = parts.body } };
+    ghost inverse = { λ parts.
+        record {
+          channel = parts.channel;
+          opening = parts.opening;
+          properties = parts.properties;
+          body = parts.body;
+        } };
 }
 
 impl Message {

@@ -2,7 +2,8 @@
 
 ghost use Rattle.std.specs.Prelude.{◌≡◌, IfOk, IfErr, OnOk, OnErr, IsTrue, false};
 ghost use Rattle.amqp_protocol.specs.Classes.{method_of};
-ghost use Rattle.amqp_content.specs.Messages.{opening_method};
+ghost use Rattle.amqp_content.specs.Messages.{opening_exchange, opening_method};
+ghost use Rattle.amqp_content.specs.Messages.{opening_routing_key};
 ghost use Rattle.amqp_turns.specs.Units.{is_opening_id};
 
 use amqp_protocol::{AMQPClass, basic};
@@ -26,6 +27,30 @@ pub enum Opening {
 }
 
 impl Opening {
+    /// The exchange that the message is published to, or was: the empty name is that of the default exchange.
+    pub fn exchange(&self) -> &str
+        ensures { result.now ≡ opening_exchange self.now }
+    {
+        match self {
+            Opening::Publish(method) => method.exchange.as_str(),
+            Opening::Return(method) => method.exchange.as_str(),
+            Opening::Deliver(method) => method.exchange.as_str(),
+            Opening::GetOk(method) => method.exchange.as_str(),
+        }
+    }
+
+    /// The routing key that the message is published with.
+    pub fn routing_key(&self) -> &str
+        ensures { result.now ≡ opening_routing_key self.now }
+    {
+        match self {
+            Opening::Publish(method) => method.routing_key.as_str(),
+            Opening::Return(method) => method.routing_key.as_str(),
+            Opening::Deliver(method) => method.routing_key.as_str(),
+            Opening::GetOk(method) => method.routing_key.as_str(),
+        }
+    }
+
     /// A deep copy.
     pub fn copy(&self, alloc: Global) -> Result<Opening, NoMemory>
         ensures { IfOk result (λ copied. copied ≡ self.now) }
@@ -41,9 +66,11 @@ impl Opening {
     /// The opening that a method is; any other method comes back.
     pub(crate) fn from_class(class: AMQPClass) -> Result<Opening, AMQPClass>
         ensures opens { IfOk result (λ opening. opening_method opening ≡ method_of class) }
-        ensures is_opening { OnOk result (IsTrue (is_opening_id (method_of class).class (method_of class).id)) }
+        ensures is_opening { OnOk result
+            (IsTrue (is_opening_id (method_of class).class (method_of class).id)) }
         ensures back { IfErr result (λ other. other ≡ class) }
-        ensures is_other { OnErr result (is_opening_id (method_of class).class (method_of class).id ≡ false) }
+        ensures is_other { OnErr result
+            (is_opening_id (method_of class).class (method_of class).id ≡ false) }
     {
         let AMQPClass::Basic(method) = class else {
             return Err(class);

@@ -1,8 +1,9 @@
 //! What an assembler keeps of a channel.
 
-ghost use Rattle.std.specs.Prelude.{◌≡◌, Some, OnOk, OnErr};
+ghost use Rattle.std.specs.Prelude.{◌≡◌, ◌<◌, Some, OnOk, OnErr, length};
 ghost use Rattle.amqp_frame.specs.Frames.{header_of};
-ghost use Rattle.amqp_content.specs.Outcomes.{pending_kept, progress_kept, with_header, with_bytes, IsHeaded, outcome_of, whole_kept};
+ghost use Rattle.amqp_content.specs.Outcomes.{pending_kept, progress_kept, with_header, with_bytes};
+ghost use Rattle.amqp_content.specs.Outcomes.{IsHeaded, outcome_of, whole_kept};
 ghost use Rattle.amqp_content.specs.Bounds.{body_bytes};
 
 use crate::message::Message;
@@ -55,7 +56,8 @@ impl Pending {
 
     /// Keeps the content header of a message.
     pub(crate) fn set_header(&mut self, content_header: AMQPContentHeader)
-        ensures { Some (pending_kept self.new) ≡ with_header (Some (pending_kept self.old)) (header_of content_header) }
+        ensures { Some (pending_kept self.new)
+            ≡ with_header (Some (pending_kept self.old)) (header_of content_header) }
     {
         match self {
             Pending::Message { header, .. } => *header = Some(content_header),
@@ -63,9 +65,11 @@ impl Pending {
         }
     }
 
-    /// Keeps more body bytes of a message.
+    /// Keeps more body bytes of a message. Where there are none, this takes no memory.
     pub(crate) fn append(&mut self, bytes: &[u8]) -> Result<(), NoMemory>
-        ensures ok { OnOk result (Some (pending_kept self.new) ≡ with_bytes (Some (pending_kept self.old)) bytes.now) }
+        ensures ok { OnOk result
+            (Some (pending_kept self.new) ≡ with_bytes (Some (pending_kept self.old)) bytes.now) }
+        ensures some { OnErr result (0 < length bytes.now) }
         ensures err { OnErr result (pending_kept self.new ≡ pending_kept self.old) }
     {
         match self {

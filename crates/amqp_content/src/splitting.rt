@@ -19,7 +19,8 @@ fn push_pieces(
 ) -> Result<(), NoMemory>
     requires { 1 ≤ max_payload }
     ensures { OnOk result (map frame_of frames.new.items
-        ≡ map frame_of frames.old.items ++ map (λ piece. Body channel_id piece) (pieces max_payload bytes.now)) }
+        ≡ map frame_of frames.old.items
+        ++ map (λ piece. Body channel_id piece) (pieces max_payload bytes.now)) }
 {
     let mut rest = bytes;
     while !rest.is_empty() {

@@ -4,7 +4,9 @@ use Rattle.std.proofs.lemmas.List.{take-append-drop, drop-drop}
 use Rattle.std.proofs.lemmas.Str.{IsAscii-append, IsAscii-drop}
 use Rattle.std.specs.Str.{IsAscii}
 
-pub ascii_ends : (bytes : List ℕ) (n : ℕ) → n ≤ length bytes → length bytes ≤ 2 * n → IsAscii (take n bytes) → IsAscii (drop (length bytes - n) bytes) → IsAscii bytes
+-- bytes whose first n and last n are ASCII, and which these cover, are ASCII
+pub ascii_ends : (bytes : List ℕ) (n : ℕ) → n ≤ length bytes → length bytes ≤ 2 * n → IsAscii (take n bytes) → IsAscii (drop (length bytes - n) bytes)
+    → IsAscii bytes
 ascii_ends bytes n many few first last =
     let more = (2 * n) - length bytes in
     let sum : (length bytes - n) + more ≡ n = omega (arith, many, few) in

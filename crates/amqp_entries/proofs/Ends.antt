@@ -1,11 +1,12 @@
 -- Bytes that are put by their first and their last ones, which may overlap.
-use Rattle.std.proofs.Common.{◌≡◌, ℕ, ◌+◌, ◌-◌, ◌≤◌, ◌*◌, List, ◌++◌, length, take, drop, min, refl, sym, ap, ap₂, ◌∙◌, arith}
+use Rattle.std.proofs.Common.{◌≡◌, ℕ, ◌+◌, ◌-◌, ◌≤◌, ◌*◌, List, ◌++◌, length, take, drop, refl, sym, ap, ap₂, ◌∙◌, arith}
 use Rattle.std.proofs.lemmas.List.{take-append-drop, take-take, drop-drop, take_at, drop_at, length-append, length-take-le, length-drop}
 use Rattle.amqp_types.specs.Writing.{written, Puts}
 use Rattle.amqp_types.proofs.Written.{written-written, written-length}
 
 -- bytes in the place of others that are no more
-overwritten : (buf : List ℕ) (at : ℕ) (first second : List ℕ) → at ≤ length buf → length first ≤ length second → written (written buf at first) at second ≡ written buf at second
+overwritten : (buf : List ℕ) (at : ℕ) (first second : List ℕ) → at ≤ length buf → length first ≤ length second
+    → written (written buf at first) at second ≡ written buf at second
 unfolding written
 overwritten buf at first second within longer =
     let front = take at buf in
@@ -17,12 +18,15 @@ overwritten buf at first second within longer =
     let both : length second ≡ length first + more = omega (arith, longer) in
     let end : (at + length first) + more ≡ at + length second = omega (arith, longer) in
     let past : drop (length second) (first ++ rest) ≡ drop (at + length second) buf =
-    ap (λ (k : ℕ). drop k (first ++ rest)) both ∙ sym (drop-drop more (length first) (first ++ rest)) ∙ ap (drop more) (drop_at first rest (length first) refl) ∙ drop-drop more (at + length first) buf ∙ ap (λ (k : ℕ). drop k buf) end in
+    ap (λ (k : ℕ). drop k (first ++ rest)) both ∙ sym (drop-drop more (length first) (first ++ rest)) ∙ ap (drop more) (drop_at first rest (length first) refl)
+    ∙ drop-drop more (at + length first) buf ∙ ap (λ (k : ℕ). drop k buf) end in
     let after : drop (at + length second) (front ++ (first ++ rest)) ≡ drop (at + length second) buf =
     sym (drop-drop (length second) at (front ++ (first ++ rest))) ∙ ap (drop (length second)) behind ∙ past in
     ap₂ (λ (a b : List ℕ). a ++ (second ++ b)) before after
 
-pub ends : (old middle new bytes : List ℕ) (at n place end back : ℕ) → n ≤ length bytes → length bytes ≤ 2 * n → at + length bytes ≤ length old → back ≡ (at + length bytes) - n
+-- the first n and the last n bytes, put one after the other, put all where they cover them
+pub ends : (old middle new bytes : List ℕ) (at n place end back : ℕ) → n ≤ length bytes → length bytes ≤ 2 * n → at + length bytes ≤ length old
+    → back ≡ (at + length bytes) - n
     → Puts old middle at (take n bytes) place → Puts middle new back (drop (length bytes - n) bytes) end → Puts old new at bytes end
 ends old middle new bytes at n place end back many few room is one two =
     let k = length bytes - n in

@@ -8,3 +8,6 @@ pub mod Appended
 pub mod Room
 pub mod Ends
 pub mod AsciiEnds
+pub mod HighBits
+pub mod KeysInOrder
+pub mod PlainValues

@@ -1,5 +1,5 @@
 -- What fills a table or an array is what a table or an array with its length holds.
-use Rattle.std.proofs.Common.{◌≡◌, ℕ, zero, suc, ◌+◌, ◌<◌, ◌≤◌, ◌^◌, List, [], ◌++◌, length, take, Ok, refl, sym, ap, subst, ◌∙◌, append-nil, arith}
+use Rattle.std.proofs.Common.{◌≡◌, ℕ, zero, suc, ◌<◌, ◌≤◌, ◌^◌, List, [], length, Ok, refl, sym, ap, subst, ◌∙◌, append-nil, arith}
 use Rattle.std.proofs.lemmas.List.{take_all}
 use Rattle.amqp_types.specs.Levels.{plain}
 use Rattle.amqp_types.specs.Judging.{IsBytes, took, ◌>>=◌}
@@ -25,9 +25,12 @@ counted_bytes content fits (suc (suc (suc (suc i)))) = fits i
 
 -- content behind its length
 counted : (content : List ℕ) → length content < 2 ^ 32 → judge_long_string (with_length content) ≡ took content (length (with_length content))
-counted content few = ap judge_long_string (sym (append-nil (with_length content))) ∙ long_string_exact.taken (with_length content) [] content (record { fits = few; bytes_are = refl })
+counted content few = ap judge_long_string (sym (append-nil (with_length content)))
+    ∙ long_string_exact.taken (with_length content) [] content (record { fits = few; bytes_are = refl })
 
-pub table_plain : (room : ℕ) (content : List ℕ) (es : List Entry) → IsBytes content → length content < 2 ^ 32 → read_entries room content ≡ Ok es → SpellsTable plain (SpellsValue plain room) (with_length content) (settled es)
+-- content that is decoded to entries spells a table behind its length
+pub table_plain : (room : ℕ) (content : List ℕ) (es : List Entry) → IsBytes content → length content < 2 ^ 32 → read_entries room content ≡ Ok es
+    → SpellsTable plain (SpellsValue plain room) (with_length content) (settled es)
 unfolding judge_table
 table_plain room content es fits few h =
     let bytes = with_length content in
@@ -35,12 +38,15 @@ table_plain room content es fits few h =
     let Plain = SpellsValue plain room in
     let exact = table_exact (judge_value room) Plain (value_exact room) (value_some plain room) in
     let read : judge_table (judge_value room) bytes ≡ took (settled es) n =
-    ap (λ j. j >>= λ c. took_all c.1 (read_map settled (filled (judge_entry (judge_value room)) 0 c.0))) (counted content few) ∙ ap (λ r. took_all n (read_map settled r)) h in
+    ap (λ j. j >>= λ c. took_all c.1 (read_map settled (filled (judge_entry (judge_value room)) 0 c.0))) (counted content few)
+    ∙ ap (λ r. took_all n (read_map settled r)) h in
     let one = exact.spelled bytes (settled es) n (counted_bytes content fits) read in
     let P : List ℕ → Type 0 = λ bs. SpellsTable plain Plain bs (settled es) in
     subst P (take_all n bytes (omega arith)) one.0
 
-pub array_plain : (room : ℕ) (content : List ℕ) (vs : List FieldValue) → IsBytes content → length content < 2 ^ 32 → read_values room content ≡ Ok vs → SpellsArray (SpellsValue plain room) (with_length content) vs
+-- content that is decoded to values spells an array behind its length
+pub array_plain : (room : ℕ) (content : List ℕ) (vs : List FieldValue) → IsBytes content → length content < 2 ^ 32 → read_values room content ≡ Ok vs
+    → SpellsArray (SpellsValue plain room) (with_length content) vs
 unfolding judge_array
 array_plain room content vs fits few h =
     let bytes = with_length content in
@@ -54,12 +60,15 @@ array_plain room content vs fits few h =
     subst P (take_all n bytes (omega arith)) one.0
 
 -- canonical content is no longer
-pub entries_shorter : (room : ℕ) (content : List ℕ) (es : List Entry) → IsBytes content → length content < 2 ^ 32 → read_entries room content ≡ Ok es → length (table_content (settled es)) ≤ length content
+pub entries_shorter : (room : ℕ) (content : List ℕ) (es : List Entry) → IsBytes content → length content < 2 ^ 32 → read_entries room content ≡ Ok es
+    → length (table_content (settled es)) ≤ length content
 entries_shorter room content es fits few h =
     let b = table_bounded room (SpellsValue plain room) (value_bounded room) (with_length content) (settled es) (table_plain room content es fits few h) in
     omega (arith, b.shorter)
 
-pub values_shorter : (room : ℕ) (content : List ℕ) (vs : List FieldValue) → IsBytes content → length content < 2 ^ 32 → read_values room content ≡ Ok vs → length (array_content vs) ≤ length content
+-- the canonical content of an array is no longer than its content
+pub values_shorter : (room : ℕ) (content : List ℕ) (vs : List FieldValue) → IsBytes content → length content < 2 ^ 32 → read_values room content ≡ Ok vs
+    → length (array_content vs) ≤ length content
 values_shorter room content vs fits few h =
     let b = array_bounded room (SpellsValue plain room) (value_bounded room) (with_length content) vs (array_plain room content vs fits few h) in
     omega (arith, b.shorter)

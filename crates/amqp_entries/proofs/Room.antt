@@ -23,20 +23,26 @@ pub put_size : (flaw : Option PutError) (content : List ℕ) (n : ℕ) → flaw 
 put_size None content n none is = ap Ok (omega (arith, is))
 put_size (Some refusal) content n none is = absurd cc
 
-pub entry_room : (kf vf : Option PutError) (kb vb : List ℕ) (n m at room : ℕ) → Ok n ≡ size_or kf kb → Ok m ≡ size_or vf vb → at + (n + m) ≤ room → at + length (kb ++ vb) ≤ room
+-- a key and a value that were measured have room
+pub entry_room : (kf vf : Option PutError) (kb vb : List ℕ) (n m at room : ℕ) → Ok n ≡ size_or kf kb → Ok m ≡ size_or vf vb → at + (n + m) ≤ room
+    → at + length (kb ++ vb) ≤ room
 entry_room kf vf kb vb n m at room key value fits =
     let k = measured kf kb n key in
     let v = measured vf vb m value in
     omega (arith, k.is, v.is, fits, length-append kb vb)
 
-pub entry_fits : (kf vf : Option PutError) (kb vb : List ℕ) (n m at room : ℕ) → Ok n ≡ size_or kf kb → Ok m ≡ size_or vf vb → at + (n + m) ≤ room → first_of (first_of kf vf) (room_flaw at (length (kb ++ vb)) room) ≡ None
+-- a key and a value that were measured and have room have no flaw
+pub entry_fits : (kf vf : Option PutError) (kb vb : List ℕ) (n m at room : ℕ) → Ok n ≡ size_or kf kb → Ok m ≡ size_or vf vb → at + (n + m) ≤ room
+    → first_of (first_of kf vf) (room_flaw at (length (kb ++ vb)) room) ≡ None
 entry_fits kf vf kb vb n m at room key value fits =
     let k = measured kf kb n key in
     let v = measured vf vb m value in
     let enough = le-ltb room (at + length (kb ++ vb)) (entry_room kf vf kb vb n m at room key value fits) in
-    ap (λ (flaw : Option PutError). first_of (first_of flaw vf) (room_flaw at (length (kb ++ vb)) room)) k.none ∙ ap (λ (flaw : Option PutError). first_of flaw (room_flaw at (length (kb ++ vb)) room)) v.none ∙ rw enough refl
+    ap (λ (flaw : Option PutError). first_of (first_of flaw vf) (room_flaw at (length (kb ++ vb)) room)) k.none
+    ∙ ap (λ (flaw : Option PutError). first_of flaw (room_flaw at (length (kb ++ vb)) room)) v.none ∙ rw enough refl
 
-pub short_size : (key : List ℕ) → length key ≤ 16 → IsAscii key → Ok (1 + length key) ≡ size_or (text_flaw key) (short_string_bytes key)
+-- a short key of ASCII is measured without a flaw
+pub short_size : (key : List ℕ) → length key ≤ 255 → IsAscii key → Ok (1 + length key) ≡ size_or (text_flaw key) (short_string_bytes key)
 short_size key few ascii =
     let short = le-ltb 255 (length key) (omega (arith, few)) in
     let utf8 = is_utf8-from_IsUtf8 key (IsUtf8-from_ascii key ascii) in

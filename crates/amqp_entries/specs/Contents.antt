@@ -2,6 +2,7 @@
 use Rattle.std.specs.Prelude.{ℕ, List, Option, Result}
 use Rattle.amqp_types.specs.Judging.{Fault}
 use Rattle.amqp_types.specs.Settling.{settled}
+use Rattle.amqp_types.specs.Strings.{with_length}
 use Rattle.amqp_types.specs.Values.{FieldValue, Entry}
 use Rattle.amqp_types.specs.ValueJudging.{filled, judge_entry, judge_value}
 use Rattle.amqp_canonical.specs.Writes.{array_content, items_of, table_content}
@@ -39,3 +40,11 @@ canonical_entries depth_left content = table_content (table_in depth_left conten
 -- the canonical bytes of the content of an array
 abbrev pub canonical_values : ℕ → List ℕ → List ℕ
 canonical_values depth_left content = array_content (array_in depth_left content)
+
+-- the canonical bytes of a table with this content, its length first
+abbrev pub counted_entries : ℕ → List ℕ → List ℕ
+counted_entries depth_left content = with_length (canonical_entries depth_left content)
+
+-- the canonical bytes of an array with this content, its length first
+abbrev pub counted_values : ℕ → List ℕ → List ℕ
+counted_values depth_left content = with_length (canonical_values depth_left content)

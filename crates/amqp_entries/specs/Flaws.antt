@@ -1,7 +1,10 @@
 -- Why something is not put.
-use Rattle.std.specs.Prelude.{ℕ, nat_lt, List, length, if◌then◌else◌, Option, Some, None, Result, Ok, Err}
+use Rattle.std.specs.Prelude.{ℕ, nat_lt, List, length, if◌then◌else◌}
+use Rattle.std.specs.Prelude.{Option, Some, None, Result, Ok, Err}
 use Rattle.std.specs.Str.{is_utf8}
-use Rattle.amqp_types.specs.Judging.{Fault, unknown_frame_type, bad_protocol_header, too_large, bad_frame_end, unknown_class, unknown_method, short_payload, trailing_bytes, not_utf8, unknown_tag, too_deep, not_tidy}
+use Rattle.amqp_types.specs.Judging.{Fault, unknown_frame_type, bad_protocol_header, too_large}
+use Rattle.amqp_types.specs.Judging.{bad_frame_end, unknown_class, unknown_method, short_payload}
+use Rattle.amqp_types.specs.Judging.{trailing_bytes, not_utf8, unknown_tag, too_deep, not_tidy}
 use Rattle.amqp_types.specs.Strings.{is_too_long}
 use Rattle.amqp_types.specs.declared.errors.ParserError.{ParserError}
 use Rattle.amqp_types.specs.declared.errors.ParserError.TheVariants as parser
@@ -15,13 +18,15 @@ first_of (Some refusal) flaw = Some refusal
 
 -- a key or another short string has at most 255 bytes, of UTF-8
 abbrev pub text_flaw : List ℕ → Option PutError
-text_flaw text = if nat_lt 255 (length text) then Some errors.TooLong else (if is_utf8 text then None else Some errors.NotUtf8)
+text_flaw text = if nat_lt 255 (length text) then Some errors.TooLong else
+    (if is_utf8 text then None else Some errors.NotUtf8)
 
 -- four bytes hold the length of a long string
 abbrev pub long_flaw : List ℕ → Option PutError
 long_flaw content = if is_too_long content then Some errors.TooLong else None
 
--- the error of a fault; what a content holds never has the two faults of frames that have no error of their own
+-- the error of a fault; what a content holds never has the two faults of frames that have no error
+-- of their own
 abbrev pub error_of : Fault → ParserError
 error_of unknown_frame_type = parser.UnknownFrameType
 error_of bad_protocol_header = parser.BadProtocolHeader

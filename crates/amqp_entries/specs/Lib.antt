@@ -3,5 +3,6 @@ pub mod Flaws
 pub mod Contents
 pub mod Written
 pub mod Found
+pub mod Plain
 pub mod Appending
 pub mod Laws

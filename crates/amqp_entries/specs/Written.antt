@@ -1,5 +1,4 @@
 -- Values that may stand in a table or an array.
-use Rattle.std.specs.Prelude.{ℕ, List}
 use Rattle.amqp_types.specs.Constants.{inner_depth}
 use Rattle.amqp_types.specs.Levels.{strict}
 use Rattle.amqp_types.specs.Values.{FieldValue}

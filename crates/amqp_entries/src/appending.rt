@@ -8,25 +8,9 @@ ghost use Rattle.amqp_entries.specs.Flaws.{size_or, text_flaw};
 ghost use Rattle.amqp_entries.specs.Written.{IsWritten};
 
 use crate::errors::PutError;
-use crate::few::is_short_ascii;
+use crate::few::{is_short_ascii, text_size};
 use crate::puts::{put_short_text, put_text};
 use crate::values::ToValue;
-use amqp_canonical::is_text;
-
-/// How many bytes a key has with its length, or why it is not put.
-#[inline(always)]
-fn key_size(key: &[u8]) -> Result<usize, PutError>
-    ensures size { result ≡ size_or (text_flaw key.now) (short_string_bytes key.now) }
-    ensures bound { IfOk result (λ n. n ≤ 256) }
-{
-    if key.len() > 255 {
-        return Err(PutError::TooLong);
-    }
-    if !is_text(key) {
-        return Err(PutError::NotUtf8);
-    }
-    Ok(1 + key.len())
-}
 
 /// Whether a slice has room for so many bytes from a place on, which may lie after its end.
 #[inline(always)]
@@ -34,7 +18,7 @@ fn has_room(out: &[u8], at: usize, size: usize) -> bool
     requires some { 0 < size }
     ensures { IsTrue result ↔ (at + size ≤ length out.now) }
 {
-    at < out.len() && size <= out.len() - at
+    size <= out.len().saturating_sub(at)
 }
 
 /// How many bytes a key has with its length that was found to be short and ASCII.
@@ -84,7 +68,8 @@ fn append_any<V: ToValue>(
         (V.value value.now) (V.flaw value.now) result }
     ensures written { IfOk result (λ _. IsWritten (V.value value.now)) }
 {
-    let size = key_size(key)? + value.measure()?;
+    let key_size = text_size(key)?;
+    let size = key_size + value.measure()?;
     if !has_room(out, at, size) {
         return Err(PutError::BufferTooSmall(at.saturating_add(size)));
     }
@@ -115,7 +100,8 @@ pub fn append_entry<V: ToValue>(
 /// them. The value is tested first, and then whether there is room.
 #[inline(always)]
 pub fn append_value<V: ToValue>(out: &mut [u8], at: usize, value: &V) -> Result<usize, PutError>
-    ensures appends { AppendsValue out.old out.new at (V.value value.now) (V.flaw value.now) result }
+    ensures appends { AppendsValue out.old out.new at
+        (V.value value.now) (V.flaw value.now) result }
     ensures written { IfOk result (λ _. IsWritten (V.value value.now)) }
 {
     let size = value.measure()?;

@@ -4,15 +4,17 @@ ghost use Rattle.std.specs.Prelude.{◌≡◌, ◌≤◌, ◌<◌, ◌+◌, ◌^
 ghost use Rattle.amqp_types.specs.Strings.{with_length};
 ghost use Rattle.amqp_types.specs.Writing.{Puts};
 ghost use Rattle.amqp_canonical.specs.Writes.{IsFilled};
-ghost use Rattle.amqp_entries.specs.Contents.{array_flaw, canonical_entries, canonical_values, read_entries, read_values, table_flaw};
+ghost use Rattle.amqp_entries.specs.Contents.{array_flaw, canonical_entries, canonical_values};
+ghost use Rattle.amqp_entries.specs.Contents.{counted_entries, counted_values, read_entries};
+ghost use Rattle.amqp_entries.specs.Contents.{read_values, table_flaw};
 ghost use Rattle.amqp_entries.specs.Found.{IsFoundArray, IsFoundTable};
 
 use crate::errors::PutError;
-use crate::puts::put_counted;
+use crate::ordered::is_ascending;
 use amqp_canonical::{
     EntryMark, Sure, Tested, judge_entries, judge_values, put_entries, put_values,
 };
-use amqp_types::put_long_uint;
+use amqp_types::{put_bytes, put_long_uint};
 
 /// How many marks of entries the stack holds while content is put that is in no order. A table with more entries takes
 /// quadratic time.
@@ -75,6 +77,13 @@ pub(crate) fn find_table(content: &[u8], depth_left: usize) -> Found
     if content.len() > u32::MAX as usize {
         return refused(PutError::TooLong);
     }
+    if is_ascending(content, depth_left) {
+        return Found {
+            canonical: true,
+            size: content.len(),
+            flaw: None,
+        };
+    }
     match judge_entries(content, depth_left) {
         Ok(canonical) => Found {
             canonical,
@@ -133,6 +142,17 @@ fn rewrite_values(buf: &mut [u8], at: usize, content: &[u8], depth_left: usize) 
     put_values::<Sure>(buf, at, &mut scratch, content, depth_left)
 }
 
+/// Puts canonical content as it is, its length first. It mostly is no short text, so the bytes are copied by a call.
+#[inline(always)]
+fn put_canonical(buf: &mut [u8], at: usize, content: &[u8]) -> usize
+    requires few { length content.now < 2 ^ 32 }
+    requires room { at + length (with_length content.now) ≤ length buf.old }
+    ensures { Puts buf.old buf.new at (with_length content.now) result }
+{
+    let place = put_long_uint(buf, at, &(content.len() as u32));
+    put_bytes(buf, place, content)
+}
+
 /// Puts a table by what fills it, its length first. Canonical content is copied.
 #[inline(always)]
 pub(crate) fn put_table_content(
@@ -144,11 +164,11 @@ pub(crate) fn put_table_content(
 ) -> usize
     requires found { IsFoundTable depth_left content.now found }
     requires fits { table_flaw depth_left content.now ≡ None }
-    requires room { at + length (with_length (canonical_entries depth_left content.now)) ≤ length buf.old }
-    ensures { Puts buf.old buf.new at (with_length (canonical_entries depth_left content.now)) result }
+    requires room { at + length (counted_entries depth_left content.now) ≤ length buf.old }
+    ensures { Puts buf.old buf.new at (counted_entries depth_left content.now) result }
 {
     if found.canonical {
-        return put_counted(buf, at, content);
+        return put_canonical(buf, at, content);
     }
     let place = put_long_uint(buf, at, &(found.size as u32));
     rewrite_entries(buf, place, content, depth_left)
@@ -165,11 +185,11 @@ pub(crate) fn put_array_content(
 ) -> usize
     requires found { IsFoundArray depth_left content.now found }
     requires fits { array_flaw depth_left content.now ≡ None }
-    requires room { at + length (with_length (canonical_values depth_left content.now)) ≤ length buf.old }
-    ensures { Puts buf.old buf.new at (with_length (canonical_values depth_left content.now)) result }
+    requires room { at + length (counted_values depth_left content.now) ≤ length buf.old }
+    ensures { Puts buf.old buf.new at (counted_values depth_left content.now) result }
 {
     if found.canonical {
-        return put_counted(buf, at, content);
+        return put_canonical(buf, at, content);
     }
     let place = put_long_uint(buf, at, &(found.size as u32));
     rewrite_values(buf, place, content, depth_left)

@@ -1,38 +1,83 @@
 //! Short texts, which are tested and put by words.
 
-ghost use Rattle.std.specs.Prelude.{◌≡◌, ◌≤◌, ◌+◌, ◌*◌, IsTrue, length};
+ghost use Rattle.std.specs.Prelude.{◌≡◌, ◌≤◌, ◌+◌, ◌*◌, IfOk, IsTrue, length, take};
 ghost use Rattle.std.specs.Str.{IsAscii, is_utf8};
+ghost use Rattle.amqp_types.specs.Strings.{short_string_bytes};
 ghost use Rattle.amqp_types.specs.Writing.{Puts};
+ghost use Rattle.amqp_entries.specs.Flaws.{size_or, text_flaw};
 
+use crate::errors::PutError;
 use amqp_canonical::is_text;
 use amqp_types::put_bytes;
 
-/// Whether the first and the last N of some bytes are ASCII, which may overlap.
+/// Whether the first four bytes are ASCII: no highest bit of theirs is set.
 #[inline(always)]
-fn ends_are_ascii<const N: usize>(bytes: &[u8]) -> bool
-    requires many { N ≤ length bytes.now }
-    requires few { length bytes.now ≤ 2 * N }
-    ensures { IsTrue result → IsAscii bytes.now }
+fn four_are_ascii(bytes: &[u8]) -> bool
+    requires { 4 ≤ length bytes.now }
+    ensures { IsTrue result → IsAscii (take 4 bytes.now) }
 {
-    let mut first = [0u8; N];
-    let mut last = [0u8; N];
-    first.copy_from_slice(&bytes[..N]);
-    last.copy_from_slice(&bytes[bytes.len() - N..]);
-    first.is_ascii() && last.is_ascii()
+    u32::from_le_bytes([bytes[0], bytes[1], bytes[2], bytes[3]]) & 0x8080_8080 == 0
 }
 
-/// Whether few bytes are ASCII; false for many.
+/// Whether the first eight bytes are ASCII: no highest bit of theirs is set.
 #[inline(always)]
-fn are_few_ascii(bytes: &[u8]) -> bool
+fn eight_are_ascii(bytes: &[u8]) -> bool
+    requires { 8 ≤ length bytes.now }
+    ensures { IsTrue result → IsAscii (take 8 bytes.now) }
+{
+    let word = u64::from_le_bytes([
+        bytes[0], bytes[1], bytes[2], bytes[3], bytes[4], bytes[5], bytes[6], bytes[7],
+    ]);
+    word & 0x8080_8080_8080_8080 == 0
+}
+
+/// Whether four to eight bytes are ASCII, by their first and their last four, which may overlap.
+#[inline(always)]
+fn fours_are_ascii(bytes: &[u8]) -> bool
+    requires many { 4 ≤ length bytes.now }
+    requires few { length bytes.now ≤ 8 }
     ensures { IsTrue result → IsAscii bytes.now }
 {
-    match bytes.len() {
-        0..=3 => bytes.is_ascii(),
-        4..=7 => ends_are_ascii::<4>(bytes),
-        8..=16 => ends_are_ascii::<8>(bytes),
-        17..=32 => ends_are_ascii::<16>(bytes),
-        _ => false,
+    four_are_ascii(bytes) && four_are_ascii(&bytes[bytes.len() - 4..])
+}
+
+/// Whether eight to sixteen bytes are ASCII, by their first and their last eight, which may overlap.
+#[inline(always)]
+fn eights_are_ascii(bytes: &[u8]) -> bool
+    requires many { 8 ≤ length bytes.now }
+    requires few { length bytes.now ≤ 16 }
+    ensures { IsTrue result → IsAscii bytes.now }
+{
+    eight_are_ascii(bytes) && eight_are_ascii(&bytes[bytes.len() - 8..])
+}
+
+/// Whether sixteen to 32 bytes are ASCII, by their first and their last sixteen.
+#[inline(always)]
+fn sixteens_are_ascii(bytes: &[u8]) -> bool
+    requires many { 16 ≤ length bytes.now }
+    requires few { length bytes.now ≤ 32 }
+    ensures { IsTrue result → IsAscii bytes.now }
+{
+    eights_are_ascii(&bytes[..16]) && eights_are_ascii(&bytes[bytes.len() - 16..])
+}
+
+/// Whether few bytes are ASCII; false for many. Most texts have eight to sixteen bytes, which are tested first.
+#[inline(always)]
+fn are_few_ascii(bytes: &[u8]) -> bool
+    ensures few { IsTrue result → length bytes.now ≤ 32 }
+    ensures ascii { IsTrue result → IsAscii bytes.now }
+{
+    let n = bytes.len();
+    if 8 <= n && n <= 16 {
+        return eights_are_ascii(bytes);
     }
+    if 4 <= n && n <= 7 {
+        return fours_are_ascii(bytes);
+    }
+    if 17 <= n && n <= 32 {
+        return sixteens_are_ascii(bytes);
+    }
+    n <= 3 && bytes.is_ascii()
 }
 
 /// Whether bytes are ASCII, of which there are four to sixteen.
@@ -42,11 +87,11 @@ pub(crate) fn is_short_ascii(bytes: &[u8]) -> bool
     ensures few { IsTrue result → length bytes.now ≤ 16 }
     ensures ascii { IsTrue result → IsAscii bytes.now }
 {
-    match bytes.len() {
-        4..=7 => ends_are_ascii::<4>(bytes),
-        8..=16 => ends_are_ascii::<8>(bytes),
-        _ => false,
+    let n = bytes.len();
+    if 8 <= n && n <= 16 {
+        return eights_are_ascii(bytes);
     }
+    4 <= n && n <= 7 && fours_are_ascii(bytes)
 }
 
 /// Whether bytes are UTF-8, which are many, or not ASCII.
@@ -68,6 +113,33 @@ pub fn is_short_text(bytes: &[u8]) -> bool
     is_any_text(bytes)
 }
 
+/// How many bytes a short string has with its length, or why it is not put. Apart, since most are short and ASCII.
+#[inline(never)]
+fn any_text_size(text: &[u8]) -> Result<usize, PutError>
+    ensures size { result ≡ size_or (text_flaw text.now) (short_string_bytes text.now) }
+    ensures bound { IfOk result (λ n. n ≤ 256) }
+{
+    if text.len() > 255 {
+        return Err(PutError::TooLong);
+    }
+    if !is_short_text(text) {
+        return Err(PutError::NotUtf8);
+    }
+    Ok(1 + text.len())
+}
+
+/// How many bytes a short string has with its length, or why it is not put.
+#[inline(always)]
+pub fn text_size(text: &[u8]) -> Result<usize, PutError>
+    ensures size { result ≡ size_or (text_flaw text.now) (short_string_bytes text.now) }
+    ensures bound { IfOk result (λ n. n ≤ 256) }
+{
+    if is_short_ascii(text) {
+        return Ok(1 + text.len());
+    }
+    any_text_size(text)
+}
+
 /// Puts bytes by the first and the last N of them, which may overlap.
 #[inline(always)]
 pub(crate) fn put_ends<const N: usize>(buf: &mut [u8], at: usize, bytes: &[u8]) -> usize
@@ -85,17 +157,32 @@ pub(crate) fn put_ends<const N: usize>(buf: &mut [u8], at: usize, bytes: &[u8]) 
     put_bytes(buf, at + size - N, &last)
 }
 
+/// Puts bytes at a place of a slice. Apart, since most texts have four to sixteen.
+#[inline(never)]
+fn put_any(buf: &mut [u8], at: usize, bytes: &[u8]) -> usize
+    requires room { at + length bytes.now ≤ length buf.old }
+    ensures { Puts buf.old buf.new at bytes.now result }
+{
+    let n = bytes.len();
+    if 16 <= n && n <= 32 {
+        return put_ends::<16>(buf, at, bytes);
+    }
+    put_bytes(buf, at, bytes)
+}
+
 /// Puts bytes at a place of a slice, and returns the place after them, in fewer instructions than `put_bytes` where they
-/// are 4 to 32.
+/// are four to sixteen, most of all from eight on.
 #[inline(always)]
 pub fn put_few(buf: &mut [u8], at: usize, bytes: &[u8]) -> usize
     requires room { at + length bytes.now ≤ length buf.old }
     ensures { Puts buf.old buf.new at bytes.now result }
 {
-    match bytes.len() {
-        4..=7 => put_ends::<4>(buf, at, bytes),
-        8..=16 => put_ends::<8>(buf, at, bytes),
-        17..=32 => put_ends::<16>(buf, at, bytes),
-        _ => put_bytes(buf, at, bytes),
+    let n = bytes.len();
+    if 8 <= n && n <= 16 {
+        return put_ends::<8>(buf, at, bytes);
     }
+    if 4 <= n && n <= 7 {
+        return put_ends::<4>(buf, at, bytes);
+    }
+    put_any(buf, at, bytes)
 }

@@ -9,13 +9,14 @@ mod few;
 mod laws;
 mod nested;
 mod numbers;
+mod ordered;
 mod puts;
 mod table_content;
 mod values;
 
 pub use appending::{append_entry, append_value};
 pub use errors::PutError;
-pub use few::{is_short_text, put_few};
+pub use few::{is_short_text, put_few, text_size};
 pub use laws::{appended_in_order_is_canonical, appended_is_decoded};
 pub use nested::{ArrayValue, TableValue};
 pub use puts::{put_counted, put_text};

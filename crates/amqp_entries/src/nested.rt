@@ -40,7 +40,8 @@ impl<'a> TableValue<'a> {
 }
 
 impl<'a> ToValue for TableValue<'a> {
-    ghost value = { λ table. table_value (entries_of (table_in (inner_depth - 1) table.content.now)) };
+    ghost value = { λ table. table_value
+        (entries_of (table_in (inner_depth - 1) table.content.now)) };
 
     ghost flaw = { λ table. table_flaw (inner_depth - 1) table.content.now };
 
@@ -86,7 +87,8 @@ impl<'a> ArrayValue<'a> {
 }
 
 impl<'a> ToValue for ArrayValue<'a> {
-    ghost value = { λ array. array_value (values_of (array_in (inner_depth - 1) array.content.now)) };
+    ghost value = { λ array. array_value
+        (values_of (array_in (inner_depth - 1) array.content.now)) };
 
     ghost flaw = { λ array. array_flaw (inner_depth - 1) array.content.now };
 

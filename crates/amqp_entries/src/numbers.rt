@@ -1,7 +1,9 @@
 //! Truth values and numbers, which are appended as they are.
 
 ghost use Rattle.std.specs.Prelude.{None};
-ghost use Rattle.amqp_types.specs.Values.{boolean_value, decimal_value, long_int, long_long_int, long_uint, short_int, short_short_int, short_short_uint, short_uint, signed_value, unsigned_value};
+ghost use Rattle.amqp_types.specs.Values.{boolean_value, decimal_value, long_int, long_long_int};
+ghost use Rattle.amqp_types.specs.Values.{long_uint, short_int, short_short_int, short_short_uint};
+ghost use Rattle.amqp_types.specs.Values.{short_uint, signed_value, unsigned_value};
 
 use crate::errors::PutError;
 use crate::puts::put_tagged;

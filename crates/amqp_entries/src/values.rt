@@ -1,7 +1,9 @@
 //! What is appended as a value: the trait, and the kinds that are no plain numbers.
 
-ghost use Rattle.std.specs.Prelude.{◌≡◌, ◌≤◌, ◌<◌, ◌+◌, ◌^◌, ◌∷◌, ℕ, List, Option, None, length, IfOk};
-ghost use Rattle.amqp_types.specs.Values.{FieldValue, byte_array, bytes_value, double, float, long_string, timestamp, unsigned_value, void_value};
+ghost use Rattle.std.specs.Prelude.{◌≡◌, ◌≤◌, ◌<◌, ◌+◌, ◌^◌, ◌∷◌, ℕ};
+ghost use Rattle.std.specs.Prelude.{List, Option, None, length, IfOk};
+ghost use Rattle.amqp_types.specs.Values.{FieldValue, byte_array, bytes_value, double, float};
+ghost use Rattle.amqp_types.specs.Values.{long_string, timestamp, unsigned_value, void_value};
 ghost use Rattle.amqp_types.specs.ValueBytes.{tagged_bytes};
 ghost use Rattle.amqp_types.specs.Strings.{with_length};
 ghost use Rattle.amqp_types.specs.Writing.{Puts};

@@ -1,5 +1,6 @@
 -- Bytes that are put one after another.
-use Rattle.std.proofs.Common.{◌≡◌, ℕ, ◌+◌, ◌^◌, ◌<◌, ◌≤◌, true, false, List, [], ◌++◌, length, Result, Ok, Err, refl, sym, ap, subst, ◌∙◌, arith, nat_lt, if◌then◌else◌}
+use Rattle.std.proofs.Common.{◌≡◌, ℕ, ◌+◌, ◌^◌, ◌<◌, ◌≤◌, true, false, List, [], ◌++◌, length, Result, Ok, Err, refl, sym, ap, subst}
+use Rattle.std.proofs.Common.{◌∙◌, arith, nat_lt, if◌then◌else◌}
 use Rattle.std.proofs.lemmas.Bool.Decides.{nat_tests}
 use Rattle.std.specs.Str.{is_utf8}
 use Rattle.std.proofs.lemmas.List.{length-append}
@@ -39,7 +40,8 @@ as_put {old} {new} {a} {b} {at} {count} is h = subst (λ bytes. ArePut old new a
 pub none_put : (old : List ℕ) (at : ℕ) → ArePut old old at [] 0
 none_put old at = record { count_is = refl; same_length = refl; put = λ few room. sym (written-nil old at) }
 
-pub both_put : {old mid new a b : List ℕ} {at place n m total : ℕ} → ArePut old mid at a n → place ≡ cut_long (at + n) → ArePut mid new place b m → total ≡ cut_long (n + m) → ArePut old new at (a ++ b) total
+pub both_put : {old mid new a b : List ℕ} {at place n m total : ℕ} → ArePut old mid at a n → place ≡ cut_long (at + n)
+    → ArePut mid new place b m → total ≡ cut_long (n + m) → ArePut old new at (a ++ b) total
 both_put {old} {mid} {new} {a} {b} {at} {place} {n} {m} {total} one there two sum =
     let size = length-append a b in
     let parts : n + m ≡ cut_long (length a) + cut_long (length b) = omega (arith, one.count_is, two.count_is) in
@@ -57,20 +59,26 @@ both_put {old} {mid} {new} {a} {b} {at} {place} {n} {m} {total} one there two su
 
 -- ---- what was made
 
-pub text_put : {old new : List ℕ} {at count : ℕ} (node : ℕ) (text : List ℕ) → length text < 256 → is_utf8 text ≡ true → ArePut old new at (short_string_bytes text) count → Gives (made_text node text) old new at count
+pub text_put : {old new : List ℕ} {at count : ℕ} (node : ℕ) (text : List ℕ) → length text < 256 → is_utf8 text ≡ true
+    → ArePut old new at (short_string_bytes text) count → Gives (made_text node text) old new at count
 text_put node text few valid put =
     record {
       bytes = short_string_bytes text;
-      is = ap (λ test. if test then refuse node whys.TooLong else (if is_utf8 text then Ok (short_string_bytes text) else faulty node errors.NotUtf8)) (not_lt 255 (length text) (omega (arith, few))) ∙ ap (λ test. if test then Ok (short_string_bytes text) else faulty node errors.NotUtf8) valid;
+      is =
+          ap (λ test. if test then refuse node whys.TooLong else (if is_utf8 text then Ok (short_string_bytes text) else faulty node errors.NotUtf8))
+          (not_lt 255 (length text) (omega (arith, few)))
+          ∙ ap (λ test. if test then Ok (short_string_bytes text) else faulty node errors.NotUtf8) valid;
       are_put = put;
     }
 
-pub long_put : {old new : List ℕ} {at count : ℕ} (node : ℕ) (content : List ℕ) → length content < 2 ^ 32 → ArePut old new at (with_length content) count → Gives (made_long node content) old new at count
+pub long_put : {old new : List ℕ} {at count : ℕ} (node : ℕ) (content : List ℕ) → length content < 2 ^ 32
+    → ArePut old new at (with_length content) count → Gives (made_long node content) old new at count
 long_put node content few put =
     let short : is_too_long content ≡ false = grind (arith, nat_tests, few) in
     record { bytes = with_length content; is = ap (λ test. if test then refuse node whys.TooLong else Ok (with_length content)) short; are_put = put }
 
-pub both_made : {E : Type 0} {first second : Result (List ℕ) E} {old mid new : List ℕ} {at place n m total : ℕ} → Gives first old mid at n → place ≡ cut_long (at + n) → Gives second mid new place m → total ≡ cut_long (n + m) → Gives (after first second) old new at total
+pub both_made : {E : Type 0} {first second : Result (List ℕ) E} {old mid new : List ℕ} {at place n m total : ℕ} → Gives first old mid at n
+    → place ≡ cut_long (at + n) → Gives second mid new place m → total ≡ cut_long (n + m) → Gives (after first second) old new at total
 both_made {E} {first} {second} one there two sum =
     record {
       bytes = one.bytes ++ two.bytes;
@@ -79,10 +87,13 @@ both_made {E} {first} {second} one there two sum =
     }
 
 -- of which the first is there
-pub made_after : {E : Type 0} {second : Result (List ℕ) E} {old mid new first : List ℕ} {at place n m total : ℕ} → ArePut old mid at first n → place ≡ cut_long (at + n) → Gives second mid new place m → total ≡ cut_long (n + m) → Gives (after (Ok first) second) old new at total
-made_after {E} {second} {old} {mid} {new} {first} one there two sum = both_made {first = Ok first} (record { bytes = first; is = refl; are_put = one }) there two sum
+pub made_after : {E : Type 0} {second : Result (List ℕ) E} {old mid new first : List ℕ} {at place n m total : ℕ} → ArePut old mid at first n
+    → place ≡ cut_long (at + n) → Gives second mid new place m → total ≡ cut_long (n + m) → Gives (after (Ok first) second) old new at total
+made_after {E} {second} {old} {mid} {new} {first} one there two sum =
+    both_made {first = Ok first} (record { bytes = first; is = refl; are_put = one }) there two sum
 
-pub second_refused : {E : Type 0} {old mid : List ℕ} {at n : ℕ} (first second : Result (List ℕ) E) (bad : E) → Gives first old mid at n → second ≡ Err bad → after first second ≡ Err bad
+pub second_refused : {E : Type 0} {old mid : List ℕ} {at n : ℕ} (first second : Result (List ℕ) E) (bad : E)
+    → Gives first old mid at n → second ≡ Err bad → after first second ≡ Err bad
 second_refused first second bad one is = ap (λ made. after made second) one.is ∙ ap (after (Ok one.bytes)) is
 
 pub rest_refused : {E : Type 0} (first : List ℕ) (second : Result (List ℕ) E) (bad : E) → second ≡ Err bad → after (Ok first) second ≡ Err bad
@@ -94,7 +105,8 @@ fits_four : (content : List ℕ) (n : ℕ) → n ≡ cut_long (length content) �
 fits_four content n is few = cut_small (length content) n (sym is) (omega (arith, few))
 
 -- what stands in front is put later
-pub before_put : {old mid new first second : List ℕ} {at place k n total : ℕ} → ArePut old mid place second n → place ≡ cut_long (at + k) → ArePut mid new at first k → length first ≡ k → total ≡ cut_long (k + n) → ArePut old new at (first ++ second) total
+pub before_put : {old mid new first second : List ℕ} {at place k n total : ℕ} → ArePut old mid place second n → place ≡ cut_long (at + k)
+    → ArePut mid new at first k → length first ≡ k → total ≡ cut_long (k + n) → ArePut old new at (first ++ second) total
 before_put {old} {mid} {new} {first} {second} {at} {place} {k} {n} {total} later there head four sum =
     let size = length-append first second in
     let parts : k + n ≡ cut_long (length first) + cut_long (length second) = omega (arith, head.count_is, later.count_is) in
@@ -108,7 +120,8 @@ before_put {old} {mid} {new} {first} {second} {at} {place} {k} {n} {total} later
           ended ∙ ap (λ bs. written bs at first) begun ∙ written_before old first second at place at_place (omega (arith, room, size, at_place));
     }
 
-pub closed_put : {made : Made} {old mid new : List ℕ} {at place n total : ℕ} (node : ℕ) → Gives made old mid place n → place ≡ cut_long (at + 4) → IsClosed n mid new at total → Gives (closed node made) old new at total
+pub closed_put : {made : Made} {old mid new : List ℕ} {at place n total : ℕ} (node : ℕ) → Gives made old mid place n
+    → place ≡ cut_long (at + 4) → IsClosed n mid new at total → Gives (closed node made) old new at total
 closed_put {made} {old} {mid} {new} {at} {place} {n} {total} node one there h =
     let content = one.bytes in
     let count : length content ≡ n = fits_four content n one.are_put.count_is h.fits in
@@ -120,7 +133,8 @@ closed_put {made} {old} {mid} {new} {at} {place} {n} {total} node one there h =
       are_put = before_put one.are_put there head refl (h.count_is ∙ sym (cut_is (4 + n) (omega (arith, h.fits))));
     }
 
-pub closed_long : {made : Made} {old mid : List ℕ} {place n : ℕ} (node : ℕ) (bad : Refusal) → Gives made old mid place n → (2 ^ 32 ≤ n) × (bad ≡ refusal node whys.TooLong) → closed node made ≡ Err bad
+pub closed_long : {made : Made} {old mid : List ℕ} {place n : ℕ} (node : ℕ) (bad : Refusal)
+    → Gives made old mid place n → (2 ^ 32 ≤ n) × (bad ≡ refusal node whys.TooLong) → closed node made ≡ Err bad
 closed_long {made} {old} {mid} {place} {n} node bad one h =
     let long : is_too_long one.bytes ≡ true = grind (arith, nat_tests, one.are_put.count_is, h.0) in
     ap (closed node) one.is ∙ ap (λ test. if test then refuse node whys.TooLong else Ok (with_length one.bytes)) long ∙ ap Err (sym h.1)

@@ -1,5 +1,6 @@
 -- How many fields a frame has, by the table of methods and by the mask of properties.
-use Rattle.std.proofs.Common.{Bor, ◌≡◌, ℕ, ◌+◌, ◌<◌, ◌≤◌, ◌==◌, Bool, true, false, if◌then◌else◌, List, [], ◌∷◌, ◌++◌, length, get_or, drop, map, Option, Some, None, Ok, refl, sym, ap, subst, ◌∙◌, arith}
+use Rattle.std.proofs.Common.{Bor, ◌≡◌, ℕ, ◌+◌, ◌<◌, ◌≤◌, ◌==◌, Bool, true, false, if◌then◌else◌, List, [], ◌∷◌, ◌++◌, length, get_or, drop, map, Option, Some}
+use Rattle.std.proofs.Common.{None, Ok, refl, sym, ap, subst, ◌∙◌, arith}
 use Rattle.std.specs.Prelude.{option_copied, option_map, unwrap_or}
 use Rattle.std.specs.List.{list_all}
 use Rattle.std.proofs.lemmas.List.{length-append}
@@ -9,7 +10,8 @@ use Rattle.amqp_types.specs.Numbers.{bytes1, bytes2, judge_number}
 use Rattle.amqp_types.specs.Strings.{judge_short_string, judge_long_string}
 use Rattle.amqp_types.specs.Flags.{bit_of, flag_at, flags_from, judge_flags}
 use Rattle.amqp_types.specs.ValueJudging.{judge_field_table}
-use Rattle.amqp_types.specs.Slots.{Item, number_item, flag_item, text_item, bytes_item, entries_item, Form, number_form, flags_form, short_string_form, long_string_form, table_form, Slot, kept_slot, reserved_slot}
+use Rattle.amqp_types.specs.Slots.{Item, number_item, flag_item, text_item, bytes_item, entries_item, Form, number_form, flags_form, short_string_form}
+use Rattle.amqp_types.specs.Slots.{long_string_form, table_form, Slot, kept_slot, reserved_slot}
 use Rattle.amqp_types.specs.SlotJudging.{judge_dropped, judge_form, judge_slots}
 use Rattle.amqp_types.specs.Properties.{Property, properties}
 use Rattle.amqp_types.specs.PropertyJudging.{first_item, judge_optional, judge_properties, judge_set}
@@ -40,31 +42,38 @@ pub total_none : (shapes : List SlotShape) → length shapes < 1 → total (slot
 total_none [] h = refl
 total_none (shape ∷ shapes) h = absurd (omega (arith, h))
 
-pub total_more : (shapes : List SlotShape) (other : SlotShape) → 1 ≤ length shapes → kept_count (slot_of (get_or shapes 0 other)) + total (slots_of (drop 1 shapes)) ≡ total (slots_of shapes)
+pub total_more : (shapes : List SlotShape) (other : SlotShape) → 1 ≤ length shapes
+    → kept_count (slot_of (get_or shapes 0 other)) + total (slots_of (drop 1 shapes)) ≡ total (slots_of shapes)
 total_more [] other h = absurd (omega (arith, h))
 total_more (shape ∷ shapes) other h = refl
 
-method_is : (class id : ℕ) (found : Option (Bor (List SlotShape))) (shapes : Bor (List SlotShape)) → option_map slots_of (option_copied found) ≡ slots_at class id → found ≡ Some shapes → slots_at class id ≡ Some (slots_of shapes.now)
+method_is : (class id : ℕ) (found : Option (Bor (List SlotShape))) (shapes : Bor (List SlotShape))
+    → option_map slots_of (option_copied found) ≡ slots_at class id → found ≡ Some shapes → slots_at class id ≡ Some (slots_of shapes.now)
 method_is class id found shapes at is = sym at ∙ ap (λ o. option_map slots_of (option_copied o)) is
 
-pub method_few : (class id : ℕ) (found : Option (Bor (List SlotShape))) (shapes : Bor (List SlotShape)) → option_map slots_of (option_copied found) ≡ slots_at class id → found ≡ Some shapes → total (slots_of shapes.now) ≤ 255
+pub method_few : (class id : ℕ) (found : Option (Bor (List SlotShape))) (shapes : Bor (List SlotShape))
+    → option_map slots_of (option_copied found) ≡ slots_at class id → found ≡ Some shapes → total (slots_of shapes.now) ≤ 255
 method_few class id found shapes at is = (small_is (slots_of shapes.now) (slots_small class id (slots_of shapes.now) (method_is class id found shapes at is))).0
 
-pub method_total : (class id : ℕ) (found : Option (Bor (List SlotShape))) (shapes : Bor (List SlotShape)) → option_map slots_of (option_copied found) ≡ slots_at class id → found ≡ Some shapes → total (slots_of shapes.now) ≡ method_count class id
+pub method_total : (class id : ℕ) (found : Option (Bor (List SlotShape))) (shapes : Bor (List SlotShape))
+    → option_map slots_of (option_copied found) ≡ slots_at class id → found ≡ Some shapes → total (slots_of shapes.now) ≡ method_count class id
 method_total class id found shapes at is = ap (λ o. total (unwrap_or o [])) (sym (method_is class id found shapes at is))
 
-pub method_none : (class id : ℕ) (found : Option (Bor (List SlotShape))) → option_map slots_of (option_copied found) ≡ slots_at class id → found ≡ None → method_count class id ≡ 0
+pub method_none : (class id : ℕ) (found : Option (Bor (List SlotShape)))
+    → option_map slots_of (option_copied found) ≡ slots_at class id → found ≡ None → method_count class id ≡ 0
 method_none class id found at is = ap (λ o. total (unwrap_or o [])) (sym at ∙ ap (λ o. option_map slots_of (option_copied o)) is)
 
 pub set_none : (mask : ℕ) (shapes : List (ℕ × FormShape)) → length shapes < 1 → set_count mask (map property_of shapes) ≡ 0
 set_none mask [] h = refl
 set_none mask (shape ∷ shapes) h = absurd (omega (arith, h))
 
-pub set_on : (mask : ℕ) (shapes : List (ℕ × FormShape)) (other : ℕ × FormShape) → 1 ≤ length shapes → flag_at mask (get_or shapes 0 other).0 ≡ true → set_count mask (map property_of shapes) ≡ 1 + set_count mask (map property_of (drop 1 shapes))
+pub set_on : (mask : ℕ) (shapes : List (ℕ × FormShape)) (other : ℕ × FormShape) → 1 ≤ length shapes → flag_at mask (get_or shapes 0 other).0 ≡ true
+    → set_count mask (map property_of shapes) ≡ 1 + set_count mask (map property_of (drop 1 shapes))
 set_on mask [] other h on = absurd (omega (arith, h))
 set_on mask (shape ∷ shapes) other h on = ap (λ b. bit_of b + set_count mask (map property_of shapes)) on
 
-pub set_off : (mask : ℕ) (shapes : List (ℕ × FormShape)) (other : ℕ × FormShape) → 1 ≤ length shapes → flag_at mask (get_or shapes 0 other).0 ≡ false → set_count mask (map property_of shapes) ≡ set_count mask (map property_of (drop 1 shapes))
+pub set_off : (mask : ℕ) (shapes : List (ℕ × FormShape)) (other : ℕ × FormShape) → 1 ≤ length shapes
+    → flag_at mask (get_or shapes 0 other).0 ≡ false → set_count mask (map property_of shapes) ≡ set_count mask (map property_of (drop 1 shapes))
 set_off mask [] other h off = absurd (omega (arith, h))
 set_off mask (shape ∷ shapes) other h off = ap (λ b. bit_of b + set_count mask (map property_of shapes)) off ∙ omega arith
 
@@ -87,7 +96,8 @@ form_count (number_form width) bytes items n h = let one = map_took (judge_numbe
 form_count (flags_form count) bytes items n h =
     let one = map_took (judge_flags count) (map flag_item) bytes items n h in
     let two = bind_took (judge_number bytes1 bytes) _ one.0 n one.1 in
-    ap length (sym one.2) ∙ map_length flag_item one.0 ∙ ap length (sym (value_took (flags_from count 0 two.0) one.0 two.1 n two.3)) ∙ flags_length count 0 two.0
+    ap length (sym one.2) ∙ map_length flag_item one.0
+    ∙ ap length (sym (value_took (flags_from count 0 two.0) one.0 two.1 n two.3)) ∙ flags_length count 0 two.0
 form_count short_string_form bytes items n h = let one = map_took judge_short_string (λ x. text_item x ∷ []) bytes items n h in ap length (sym one.2)
 form_count long_string_form bytes items n h = let one = map_took judge_long_string (λ x. bytes_item x ∷ []) bytes items n h in ap length (sym one.2)
 form_count table_form bytes items n h = let one = map_took judge_field_table (λ es. entries_item es ∷ []) bytes items n h in ap length (sym one.2)
@@ -124,7 +134,8 @@ from_count place [] items h = refl
 from_count place (kind ∷ kinds) [] h = absurd (omega (arith, h))
 from_count place (kind ∷ kinds) (item ∷ items) h = omega (arith, from_count (place + 1) kinds items (omega (arith, h)))
 
-method_counted : (channel : ℕ) (payload : List ℕ) (m : Method) (n : ℕ) → judge_payload payload ≡ took m n → length (fields_of (Meth channel m)) ≡ method_count m.class m.id
+method_counted : (channel : ℕ) (payload : List ℕ) (m : Method) (n : ℕ)
+    → judge_payload payload ≡ took m n → length (fields_of (Meth channel m)) ≡ method_count m.class m.id
 unfolding judge_payload judge_in_class judge_method fields_of
 method_counted channel payload m n h =
     let class = bind_took (judge_number bytes2 payload) _ m n h in
@@ -138,15 +149,18 @@ method_counted channel payload m n h =
     let items = bind_took (judge_slots slots.0 fields) _ of_class.0 of_class.1 slots.3 in
     let at = (known_took unknown_method (slots_at class.0 id.0) slots.0 slots.1 slots.2).0 in
     let is : method class.0 id.0 items.0 ≡ m =
-    value_took (method class.0 id.0 items.0) of_class.0 items.1 of_class.1 items.3 ∙ value_took of_class.0 inner.0 (id.1 + of_class.1) inner.1 of_class.3 ∙ value_took inner.0 m (class.1 + inner.1) n inner.3 in
+    value_took (method class.0 id.0 items.0) of_class.0 items.1 of_class.1 items.3
+    ∙ value_took of_class.0 inner.0 (id.1 + of_class.1) inner.1 of_class.3 ∙ value_took inner.0 m (class.1 + inner.1) n inner.3 in
     let count : length (fields_from 0 (kinds_in (unwrap_or (slots_at class.0 id.0) [])) items.0) ≡ method_count class.0 id.0 =
-    from_count 0 (kinds_in (unwrap_or (slots_at class.0 id.0) [])) items.0 (kinds_total (unwrap_or (slots_at class.0 id.0) []) ∙ ap (λ o. total (unwrap_or o [])) at ∙ sym (slots_count slots.0 fields items.0 items.1 items.2))
+    from_count 0 (kinds_in (unwrap_or (slots_at class.0 id.0) [])) items.0
+    (kinds_total (unwrap_or (slots_at class.0 id.0) []) ∙ ap (λ o. total (unwrap_or o [])) at ∙ sym (slots_count slots.0 fields items.0 items.1 items.2))
     ∙ kinds_total (unwrap_or (slots_at class.0 id.0) []) in
     subst (λ (x : Method). length (fields_from 0 (kinds_in (unwrap_or (slots_at x.class x.id) [])) x.items) ≡ method_count x.class x.id) is count
 
 -- ---- properties
 
-option_count : (set : Bool) (bytes : List ℕ) (place n : ℕ) (p : Property) (option : Option Item) → gives_one p.form ≡ true → judge_optional set p.form bytes ≡ took option n → length (set_field place p option) ≡ bit_of set
+option_count : (set : Bool) (bytes : List ℕ) (place n : ℕ) (p : Property) (option : Option Item) → gives_one p.form ≡ true
+    → judge_optional set p.form bytes ≡ took option n → length (set_field place p option) ≡ bit_of set
 unfolding judge_optional
 option_count false bytes place n p option single h = ap (λ o. length (set_field place p o)) (sym (value_took None option 0 n h))
 option_count true bytes place n p option single h =
@@ -155,7 +169,8 @@ option_count true bytes place n p option single h =
     let item = one_item given.0 (form_count p.form bytes given.0 given.1 given.2 ∙ (single_form p.form single).count) in
     ap (λ o. length (set_field place p o)) (sym is ∙ ap first_item item.1)
 
-set_counted : (mask : ℕ) (ps : List Property) (bytes : List ℕ) (place n : ℕ) (options : List (Option Item)) → list_all (λ p. gives_one p.form) ps ≡ true → judge_set mask ps bytes ≡ took options n → length (set_fields place ps options) ≡ set_count mask ps
+set_counted : (mask : ℕ) (ps : List Property) (bytes : List ℕ) (place n : ℕ) (options : List (Option Item))
+    → list_all (λ p. gives_one p.form) ps ≡ true → judge_set mask ps bytes ≡ took options n → length (set_fields place ps options) ≡ set_count mask ps
 unfolding judge_set
 set_counted mask [] bytes place n options single h = ap (λ os. length (set_fields place [] os)) (sym (value_took [] options 0 n h))
 set_counted mask (p ∷ ps) bytes place n options single h =
@@ -164,9 +179,15 @@ set_counted mask (p ∷ ps) bytes place n options single h =
     let two = bind_took (judge_set mask ps (drop one.1 bytes)) _ options n one.3 in
     let is : one.0 ∷ two.0 ≡ options = value_took (one.0 ∷ two.0) options (one.1 + two.1) n two.3 in
     ap (λ os. length (set_fields place (p ∷ ps) os)) (sym is)
-    ∙ omega (arith, length-append (set_field place p one.0) (set_fields (place + 1) ps two.0), option_count (flag_at mask p.bit) bytes place one.1 p one.0 all.0 one.2, set_counted mask ps (drop one.1 bytes) (place + 1) two.1 two.0 all.1 two.2)
+    ∙ omega (
+      arith,
+      length-append (set_field place p one.0) (set_fields (place + 1) ps two.0),
+      option_count (flag_at mask p.bit) bytes place one.1 p one.0 all.0 one.2,
+      set_counted mask ps (drop one.1 bytes) (place + 1) two.1 two.0 all.1 two.2,
+    )
 
-header_counted : (channel : ℕ) (payload : List ℕ) (header : ContentHeader) (n : ℕ) → judge_content_header payload ≡ took header n → length (fields_of (Head channel header)) ≡ set_at (judge_number bytes2 (drop 12 payload))
+header_counted : (channel : ℕ) (payload : List ℕ) (header : ContentHeader) (n : ℕ) → judge_content_header payload ≡ took header n
+    → length (fields_of (Head channel header)) ≡ set_at (judge_number bytes2 (drop 12 payload))
 unfolding judge_content_header judge_properties fields_of
 header_counted channel payload header n h =
     let front = bind_took (judge_slots header_slots payload) _ header n h in
@@ -178,21 +199,26 @@ header_counted channel payload header n h =
     let mask = bind_took (judge_number bytes2 behind) _ set.0 set.1 set.2 in
     let some = bind_took (judge_set mask.0 properties (drop mask.1 behind)) _ set.0 set.1 mask.3 in
     let same : some.0 ≡ header.options = value_took some.0 set.0 (mask.1 + some.1) set.1 some.3 ∙ options in
-    ap (λ os. length (set_fields 0 properties os)) (sym same) ∙ set_counted mask.0 properties (drop mask.1 behind) 0 some.1 some.0 all_single some.2 ∙ sym (ap set_at mask.2) ∙ ap (λ k. set_at (judge_number bytes2 (drop k payload))) parts.0
+    ap (λ os. length (set_fields 0 properties os)) (sym same) ∙ set_counted mask.0 properties (drop mask.1 behind) 0 some.1 some.0 all_single some.2
+    ∙ sym (ap set_at mask.2) ∙ ap (λ k. set_at (judge_number bytes2 (drop k payload))) parts.0
 
 -- ---- frames
 
-beat_counted : (payload : List ℕ) (channel : ℕ) (none : Bool) → length (fields_of (if none then Beat else BadBeat channel)) ≡ count_of payload (outline_of (if none then Beat else BadBeat channel))
+beat_counted : (payload : List ℕ) (channel : ℕ) (none : Bool)
+    → length (fields_of (if none then Beat else BadBeat channel)) ≡ count_of payload (outline_of (if none then Beat else BadBeat channel))
 unfolding fields_of
 beat_counted payload channel true = refl
 beat_counted payload channel false = refl
 
-pub frame_counted : (kind : AMQPFrameType) (channel : ℕ) (payload : List ℕ) (frame : Frame) → whole_as kind channel payload ≡ Ok frame → count_of payload (outline_of frame) ≡ length (fields_of frame)
+pub frame_counted : (kind : AMQPFrameType) (channel : ℕ) (payload : List ℕ) (frame : Frame)
+    → whole_as kind channel payload ≡ Ok frame → count_of payload (outline_of frame) ≡ length (fields_of frame)
 unfolding whole_as fields_of
 frame_counted kinds.ProtocolHeader channel [] frame h = absurd cc
 frame_counted kinds.ProtocolHeader channel (a ∷ []) frame h = absurd cc
 frame_counted kinds.ProtocolHeader channel (a ∷ b ∷ []) frame h = absurd cc
-frame_counted kinds.ProtocolHeader channel (a ∷ b ∷ c ∷ []) frame h = let is : Proto a b c ≡ frame = cc in subst (λ f. count_of (a ∷ b ∷ c ∷ []) (outline_of f) ≡ length (fields_of f)) is refl
+frame_counted kinds.ProtocolHeader channel (a ∷ b ∷ c ∷ []) frame h =
+    let is : Proto a b c ≡ frame = cc in
+    subst (λ f. count_of (a ∷ b ∷ c ∷ []) (outline_of f) ≡ length (fields_of f)) is refl
 frame_counted kinds.ProtocolHeader channel (a ∷ b ∷ c ∷ d ∷ more) frame h = absurd cc
 frame_counted kinds.Method channel payload frame h =
     let read = read_as (λ x. Meth channel x) (all_of judge_payload payload) frame h in
@@ -202,5 +228,9 @@ frame_counted kinds.Header channel payload frame h =
     let read = read_as (λ x. Head channel x) (all_of judge_content_header payload) frame h in
     let header = filled_took (length payload) (judge_content_header payload) read.0 read.1 in
     subst (λ f. count_of payload (outline_of f) ≡ length (fields_of f)) read.2 (sym (header_counted channel payload read.0 header.0 header.1))
-frame_counted kinds.Body channel payload frame h = let is : Body channel payload ≡ frame = cc in subst (λ f. count_of payload (outline_of f) ≡ length (fields_of f)) is refl
-frame_counted kinds.Heartbeat channel payload frame h = let is : beat_on channel ≡ frame = cc in subst (λ f. count_of payload (outline_of f) ≡ length (fields_of f)) is (sym (beat_counted payload channel (channel == 0)))
+frame_counted kinds.Body channel payload frame h =
+    let is : Body channel payload ≡ frame = cc in
+    subst (λ f. count_of payload (outline_of f) ≡ length (fields_of f)) is refl
+frame_counted kinds.Heartbeat channel payload frame h =
+    let is : beat_on channel ≡ frame = cc in
+    subst (λ f. count_of payload (outline_of f) ≡ length (fields_of f)) is (sym (beat_counted payload channel (channel == 0)))

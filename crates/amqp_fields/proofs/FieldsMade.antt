@@ -1,5 +1,6 @@
 -- What fields make, by the parts that are put.
-use Rattle.std.proofs.Common.{◌≡◌, ℕ, zero, suc, ◌+◌, ◌-◌, ◌*◌, ◌<◌, ◌≤◌, ◌^◌, ◌==◌, Bool, true, false, List, [], ◌∷◌, length, get_or, drop, Result, Ok, Err, refl, sym, ap, ap₂, subst, ◌∙◌, inl, inr, arith, if◌then◌else◌}
+use Rattle.std.proofs.Common.{◌≡◌, ℕ, zero, suc, ◌+◌, ◌-◌, ◌*◌, ◌<◌, ◌≤◌, ◌^◌, ◌==◌, Bool, true, false, List, [], ◌∷◌, length, get_or, drop, Result, Ok, Err}
+use Rattle.std.proofs.Common.{refl, sym, ap, ap₂, subst, ◌∙◌, inl, inr, arith, if◌then◌else◌}
 use Rattle.std.proofs.lemmas.Bool.Decides.{nat_tests}
 use Rattle.std.proofs.lemmas.Bool.{cases_lt}
 use Rattle.std.proofs.Math.Pow.{pow_mono}
@@ -27,13 +28,16 @@ module _ (end place next : ℕ) where
   flags_missing (suc count) [] some none = refl
   flags_missing (suc count) (node ∷ nodes) some none = absurd (omega (arith, none))
 
-  pub flags_other : (count : ℕ) (nodes : List Node) (blank : Node) → 0 < count → 1 ≤ length nodes → is_flag place (get_or nodes 0 blank) ≡ false → flags_in end place count nodes ≡ misfit (end - length nodes)
+  pub flags_other : (count : ℕ) (nodes : List Node) (blank : Node) → 0 < count → 1 ≤ length nodes
+      → is_flag place (get_or nodes 0 blank) ≡ false → flags_in end place count nodes ≡ misfit (end - length nodes)
   unfolding flags_in
   flags_other zero nodes blank some more other = absurd (omega (arith, some))
   flags_other (suc count) [] blank some more other = absurd (omega (arith, more))
-  flags_other (suc count) (node ∷ nodes) blank some more other = ap (λ test. if test then flag_before node.number (flags_in end (next_place place 1) count nodes) else misfit (end - length (node ∷ nodes))) other
+  flags_other (suc count) (node ∷ nodes) blank some more other =
+      ap (λ test. if test then flag_before node.number (flags_in end (next_place place 1) count nodes) else misfit (end - length (node ∷ nodes))) other
 
-  pub flags_more : (count : ℕ) (nodes : List Node) (blank : Node) → 0 < count → 1 ≤ length nodes → is_flag place (get_or nodes 0 blank) ≡ true → next ≡ next_place place 1
+  pub flags_more : (count : ℕ) (nodes : List Node) (blank : Node) → 0 < count → 1 ≤ length nodes
+      → is_flag place (get_or nodes 0 blank) ≡ true → next ≡ next_place place 1
       → flags_in end place count nodes ≡ flag_before (get_or nodes 0 blank).number (flags_in end next (count - 1) (drop 1 nodes))
   unfolding flags_in
   flags_more zero nodes blank some more is at = absurd (omega (arith, some))
@@ -52,7 +56,8 @@ pub flag_few : (place : ℕ) (node : Node) → is_flag place node ≡ true → n
 flag_few place node is = grind (arith, nat_tests, is)
 
 -- one more flag in front
-pub byte_more : (read more : Result (List Bool) Refusal) (number count byte total : ℕ) → read ≡ flag_before number more → number < 2 → 0 < count → IsFlagsByte more (count - 1) byte → total ≡ number + 2 * byte → IsFlagsByte read count total
+pub byte_more : (read more : Result (List Bool) Refusal) (number count byte total : ℕ) → read ≡ flag_before number more
+    → number < 2 → 0 < count → IsFlagsByte more (count - 1) byte → total ≡ number + 2 * byte → IsFlagsByte read count total
 byte_more read more number count byte total is few some h sum =
     record {
       flags = (number == 1) ∷ h.flags;

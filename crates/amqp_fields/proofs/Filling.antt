@@ -26,18 +26,26 @@ map_filled : {A : Type 0} (x : A) (r : Result (List A) Fault) → IsFilled r →
 map_filled x (Ok xs) h = tt
 map_filled x (Err bad) h = absurd h
 
-pub goes_on : {A : Type 0} (item : Judge A) (content rest next : List ℕ) (x : A) (n : ℕ) → Onward item content rest → 0 < length rest → item rest ≡ took x n → 0 < n → n ≤ length rest → next ≡ drop n rest → Onward item content next
+-- a thing that is decoded leaves what comes after it to be filled
+pub goes_on : {A : Type 0} (item : Judge A) (content rest next : List ℕ) (x : A) (n : ℕ) → Onward item content rest
+    → 0 < length rest → item rest ≡ took x n → 0 < n → n ≤ length rest → next ≡ drop n rest → Onward item content next
 goes_on item content rest next x n h some is up le e =
-    let same : filled item 0 rest ≡ read_map (λ xs. x ∷ xs) (filled item 0 next) = filled_next item rest x n some is up le ∙ ap (λ bs. read_map (λ xs. x ∷ xs) (filled item 0 bs)) (sym e) in
+    let same : filled item 0 rest ≡ read_map (λ xs. x ∷ xs) (filled item 0 next) =
+    filled_next item rest x n some is up le ∙ ap (λ bs. read_map (λ xs. x ∷ xs) (filled item 0 bs)) (sym e) in
     record {
       refused = λ e r. h.refused e (subst (RefusesWhole e) (sym same) (RefusesWhole-map e (λ xs. x ∷ xs) (filled item 0 next) r));
       fills = λ f. h.fills (subst IsFilled (sym same) (map_filled x (filled item 0 next) f));
     }
 
-pub fails : {A : Type 0} (item : Judge A) (content rest : List ℕ) (e inside : ParserError) → Onward item content rest → 0 < length rest → inside ≡ inside_error e → MayRefuse e → Refuses e (item rest) → FillsOrFails (Err inside) (filled item 0 content)
-fails item content rest e inside h some is may refused = (refused_inside e inside is may, h.refused inside (subst (λ x. RefusesWhole x (filled item 0 rest)) (sym is) (filled_refused item e rest some refused)))
+-- a fault of the next thing is one of the whole
+pub fails : {A : Type 0} (item : Judge A) (content rest : List ℕ) (e inside : ParserError) → Onward item content rest → 0 < length rest
+    → inside ≡ inside_error e → MayRefuse e → Refuses e (item rest) → FillsOrFails (Err inside) (filled item 0 content)
+fails item content rest e inside h some is may refused =
+    (refused_inside e inside is may, h.refused inside (subst (λ x. RefusesWhole x (filled item 0 rest)) (sym is) (filled_refused item e rest some refused)))
 
-pub ends : {A : Type 0} (item : Judge A) (content rest : List ℕ) (done : Unit {0}) → Onward item content rest → length rest ≡ 0 → FillsOrFails (Ok done) (filled item 0 content)
+-- where nothing is left, things fill the content
+pub ends : {A : Type 0} (item : Judge A) (content rest : List ℕ) (done : Unit {0})
+    → Onward item content rest → length rest ≡ 0 → FillsOrFails (Ok done) (filled item 0 content)
 unfolding filled
 ends item content rest done h none = h.fills (subst (λ bs. IsFilled (filled item 0 bs)) (sym (nil_from_length rest none)) tt)
 
@@ -57,16 +65,24 @@ refuses_next errors.UnknownTag j f may h = ap (λ k. k >>= f) h
 refuses_next errors.TooDeep j f may h = ap (λ k. k >>= f) h
 refuses_next errors.NoMemory j f may h = tt
 
-pub entry_used : (d : ℕ) (i key rest : List ℕ) (v : FieldValue) (n m : ℕ) → judge_short_string i ≡ took key n → rest ≡ drop n i → judge_value d rest ≡ took v m → UsesOrFails (Ok (n + m)) (judge_entry (judge_value d) i)
+-- a key and a value are an entry of as many bytes as both
+pub entry_used : (d : ℕ) (i key rest : List ℕ) (v : FieldValue) (n m : ℕ) → judge_short_string i ≡ took key n
+    → rest ≡ drop n i → judge_value d rest ≡ took v m → UsesOrFails (Ok (n + m)) (judge_entry (judge_value d) i)
 unfolding judge_entry
-entry_used d i key rest v n m one e two =
-    ((key, v), ap (λ j. j >>= λ k. judge_value d (drop k.1 i) >>= λ y. took (k.0, y.0) (k.1 + y.1)) one ∙ ap (λ j. j >>= λ y. took (key, y.0) (n + y.1)) (ap (judge_value d) (sym e) ∙ two))
+entry_used d i key rest v n m one e two = (
+  (key, v),
+  ap (λ j. j >>= λ k. judge_value d (drop k.1 i) >>= λ y. took (k.0, y.0) (k.1 + y.1)) one
+      ∙ ap (λ j. j >>= λ y. took (key, y.0) (n + y.1)) (ap (judge_value d) (sym e) ∙ two),
+)
 
+-- a fault of a key is one of its entry
 pub key_refused : (d : ℕ) (i : List ℕ) (e : ParserError) → MayRefuse e → Refuses e (judge_short_string i) → UsesOrFails (Err e) (judge_entry (judge_value d) i)
 unfolding judge_entry
 key_refused d i e may h = (may, refuses_next e (judge_short_string i) _ may h)
 
-pub value_refused : (d : ℕ) (i key rest : List ℕ) (e : ParserError) (n : ℕ) → judge_short_string i ≡ took key n → rest ≡ drop n i → MayRefuse e × Refuses e (judge_value d rest) → UsesOrFails (Err e) (judge_entry (judge_value d) i)
+-- a fault of a value behind a key is one of the entry
+pub value_refused : (d : ℕ) (i key rest : List ℕ) (e : ParserError) (n : ℕ) → judge_short_string i ≡ took key n
+    → rest ≡ drop n i → MayRefuse e × Refuses e (judge_value d rest) → UsesOrFails (Err e) (judge_entry (judge_value d) i)
 unfolding judge_entry
 value_refused d i key rest e n one is h =
     let P : Judged (List ℕ) → Type 0 = λ j. Refuses {B = Entry} e (j >>= λ k. judge_value d (drop k.1 i) >>= λ y. took (k.0, y.0) (k.1 + y.1)) in

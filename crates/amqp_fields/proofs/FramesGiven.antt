@@ -1,8 +1,9 @@
 -- The frames that are read, one after another, with their heads and nodes.
-use Rattle.std.proofs.Common.{◌≡◌, ℕ, suc, ◌+◌, ◌*◌, ◌-◌, ◌<◌, ◌≤◌, ◌^◌, Bool, List, [], ◌∷◌, ◌++◌, length, take, drop, set, append_assoc, append-nil, Some, Ok, refl, sym, ap, subst, ◌∙◌, arith}
+use Rattle.std.proofs.Common.{◌≡◌, ℕ, suc, ◌+◌, ◌*◌, ◌-◌, ◌<◌, ◌≤◌, ◌^◌, Bool, List, [], ◌∷◌, ◌++◌, length, take, drop, set, append_assoc, append-nil, Some, Ok}
+use Rattle.std.proofs.Common.{refl, sym, ap, subst, ◌∙◌, arith}
 use Rattle.std.proofs.lemmas.List.{drop-drop, length-append, length-drop, length-set, length-take, length-take-le, take_more_set}
 use Rattle.amqp_types.specs.Answers.{RefusesWhole}
-use Rattle.amqp_types.specs.Judging.{IsBytes, Judged, took}
+use Rattle.amqp_types.specs.Judging.{Judged, took}
 use Rattle.amqp_types.specs.Levels.{plain}
 use Rattle.amqp_types.specs.declared.errors.ParserError.{ParserError}
 use Rattle.amqp_types.specs.declared.errors.ParserError.TheVariants as errors
@@ -21,52 +22,76 @@ use Rattle.amqp_fields.specs.declared.head.Head.{Head}
 use Rattle.amqp_fields.specs.declared.frames.FramesRead.{FramesRead}
 use Rattle.amqp_fields.specs.Frames.{HasNoRoom, ReadsFrames, SaysFault, in_reach}
 use Rattle.amqp_fields.specs.Framing.{IsFound, IsNextFrame, IsRead}
-use Rattle.amqp_fields.specs.Heads.{SayFrames, SaysFrame, head_of}
+use Rattle.amqp_fields.specs.Heads.{SayFrames, SaysFrame, head_of, nodes_at}
 use Rattle.amqp_fields.specs.Laws.{AreInFront}
 use Rattle.amqp_fields.specs.Listing.{listing, pushed_all}
 use Rattle.amqp_fields.specs.Meaning.{IsSpan}
+use Rattle.amqp_fields.specs.Listed.{nodes_of, payload_nodes}
 use Rattle.amqp_fields.proofs.Answering.{pushed_front, pushed_keeps, pushed_length, put_all, whole_found}
 use Rattle.amqp_fields.proofs.Spans.{Stands, itself, stands_part}
 
 -- ---- the next frame
 
-pub verdict_whole : (m : ℕ) (left : List ℕ) (raw : Raw) (size : ℕ) (frame : Frame) → outer (Some m) left ≡ took raw size → whole raw ≡ Ok frame → verdict plain (Some m) left ≡ took frame size
+-- a whole frame around a payload that encodes one is taken by the verdict
+pub verdict_whole : (m : ℕ) (left : List ℕ) (raw : Raw) (size : ℕ) (frame : Frame)
+    → outer (Some m) left ≡ took raw size → whole raw ≡ Ok frame → verdict plain (Some m) left ≡ took frame size
 unfolding verdict
 verdict_whole m left raw size frame found is = ap (judged plain) found ∙ ap (λ r. judged_frame (is_at plain raw) r size) is
 
 -- what fills a payload ends where the payload does
-frame_stands : (bytes payload : List ℕ) (used place count : ℕ) → IsBytes bytes → used + (place + count) ≤ length bytes → payload ≡ take count (drop place (drop used bytes)) → Stands bytes (used + place + length payload) payload
-frame_stands bytes payload used place count fits within is =
-    let part = stands_part bytes bytes (length bytes) (used + place) count (itself bytes fits) (omega (arith, within)) in
+frame_stands : (bytes payload : List ℕ) (used place count : ℕ) → used + (place + count) ≤ length bytes
+    → payload ≡ take count (drop place (drop used bytes)) → Stands bytes (used + place + length payload) payload
+frame_stands bytes payload used place count within is =
+    let part = stands_part bytes bytes (length bytes) (used + place) count (itself bytes) (omega (arith, within)) in
     let same : take count (drop (used + place) bytes) ≡ payload = ap (take count) (sym (drop-drop place used bytes) ∙ refl) ∙ sym is in
-    let size : length payload ≡ count = ap length (sym same) ∙ length-take-le count (drop (used + place) bytes) (omega (arith, within, length-drop (used + place) bytes)) in
-    let end : length bytes - length (drop (used + place + count) bytes) ≡ used + place + length payload = omega (arith, within, size, length-drop (used + place + count) bytes) in
+    let size : length payload ≡ count =
+    ap length (sym same) ∙ length-take-le count (drop (used + place) bytes) (omega (arith, within, length-drop (used + place) bytes)) in
+    let end : length bytes - length (drop (used + place + count) bytes) ≡ used + place + length payload =
+    omega (arith, within, size, length-drop (used + place + count) bytes) in
     let P : ℕ → Type 0 = λ e. Stands bytes e (take count (drop (used + place) bytes)) in
     subst (Stands bytes (used + place + length payload)) same (subst P end part)
 
 stands_span : (bytes payload : List ℕ) (start : ℕ) → Stands bytes (start + length payload) payload → IsSpan bytes start (length payload) payload
-stands_span bytes payload start h = record { within = h.within; bytes_are = ap (λ s. take (length payload) (drop s bytes)) {x = start} {y = start + length payload - length payload} (omega arith) ∙ h.is }
+stands_span bytes payload start h =
+    record {
+      within = h.within;
+      bytes_are = ap (λ s. take (length payload) (drop s bytes)) {x = start} {y = start + length payload - length payload} (omega arith) ∙ h.is;
+    }
 
-pub next_frame : (m : ℕ) (deep : Bool) (bytes : List ℕ) (used start : ℕ) (old new : List Node) (first : ℕ) (layout : FrameLayout) (raw : Raw) (head : Head) → length bytes < 2 ^ 32 → used ≤ length bytes → first ≤ used → IsBytes bytes → IsFound m (drop used bytes) layout → raw ≡ laid_out layout (drop used bytes)
+-- what was read of the frame at a place is its head and its nodes
+pub next_frame : (m : ℕ) (deep : Bool) (bytes : List ℕ) (used start : ℕ) (old new : List Node) (first : ℕ) (layout : FrameLayout) (raw : Raw) (head : Head)
+    → length bytes < 2 ^ 32 → used ≤ length bytes → first ≤ used → IsFound m (drop used bytes) layout → raw ≡ laid_out layout (drop used bytes)
     → start ≡ used + layout.payload_start → IsRead raw start deep old first new head → IsNextFrame m deep bytes used old first new layout.frame_len head
-next_frame m deep bytes used start old new first layout raw head few within counted fits found is place read =
+next_frame m deep bytes used start old new first layout raw head few within counted found is place read =
     let left = length-drop used bytes in
     let payload = raw.payload in
     let payload_is : payload ≡ take layout.payload_len (drop layout.payload_start (drop used bytes)) = ap (λ (r : Raw). r.payload) is in
     let kind : raw.kind ≡ layout.frame_type = ap (λ (r : Raw). r.kind) is in
     let inside : used + (layout.payload_start + layout.payload_len) ≤ length bytes = omega (arith, left, within, found.inside.0, found.inside.1) in
-    let stands : Stands bytes (start + length payload) payload = subst (λ s. Stands bytes (s + length payload) payload) (sym place) (frame_stands bytes payload used layout.payload_start layout.payload_len fits inside payload_is) in
-    let size : length payload ≤ layout.payload_len = omega (arith, ap length payload_is, length-take-le layout.payload_len (drop layout.payload_start (drop used bytes)) (omega (arith, left, within, found.inside.0, found.inside.1, length-drop layout.payload_start (drop used bytes)))) in
-    let all = whole_found deep bytes (start + length payload) few raw.kind payload raw.channel read.frame stands read.is in
-    let put = put_all raw.kind bytes (start + length payload) payload deep read.frame old new first read.count all (omega (arith, few, counted, inside, size)) read.counts in
+    let stands : Stands bytes (start + length payload) payload =
+    subst (λ s. Stands bytes (s + length payload) payload) (sym place)
+    (frame_stands bytes payload used layout.payload_start layout.payload_len inside payload_is) in
+    let size : length payload ≤ layout.payload_len = omega (
+      arith,
+      ap length payload_is,
+      length-take-le layout.payload_len (drop layout.payload_start (drop used bytes))
+          (omega (arith, left, within, found.inside.0, found.inside.1, length-drop layout.payload_start (drop used bytes))),
+    ) in
+    let all = whole_found deep bytes (start + length payload) raw.kind payload raw.channel read.frame stands read.is in
+    let put =
+    put_all raw.kind bytes (start + length payload) payload deep read.frame old new first read.count all
+    (omega (arith, few, counted, inside, size)) read.counts in
     let begins : start ≡ used + payload_place raw.kind = place ∙ ap (λ k. used + k) (found.placed.0 ∙ ap payload_place (sym kind)) in
     let outer_is : outer (Some m) (drop used bytes) ≡ took raw layout.frame_len = found.found ∙ ap (λ (r : Raw). took r layout.frame_len) (sym is) in
     let bounds = outer-in_bounds (Some m) (drop used bytes) raw layout.frame_len outer_is in
-    let many : read.count - first ≡ length all.nodes = omega (arith, put.count_is) in
-    let head_is : head ≡ head_of raw (outline_of read.frame) (used + payload_place raw.kind) first (length all.nodes) =
-    read.head_is ∙ ap (λ s. head_of raw (outline_of read.frame) s first (read.count - first)) begins ∙ ap (head_of raw (outline_of read.frame) (used + payload_place raw.kind) first) many in
+    let own = payload_nodes raw.kind deep (start + length payload) payload in
+    let many : read.count - first ≡ length own = omega (arith, put.count_is) in
+    let own_few : length own ≤ length payload = subst (λ (ns : List Node). length ns ≤ length payload) (sym (ap nodes_of all.is)) all.few in
+    let head_is : head ≡ head_of raw (outline_of read.frame) (used + payload_place raw.kind) first (length own) =
+    read.head_is ∙ ap (λ s. head_of raw (outline_of read.frame) s first (read.count - first)) begins
+    ∙ ap (head_of raw (outline_of read.frame) (used + payload_place raw.kind) first) many in
     record {
-      own = all.nodes;
+      own = own;
       says = record {
         raw = raw;
         frame = read.frame;
@@ -74,15 +99,16 @@ next_frame m deep bytes used start old new first layout raw head few within coun
         is = read.is;
         payload_is = subst (λ (h : Head). IsSpan bytes h.start h.length payload) (sym read.head_is) (stands_span bytes payload start stands);
         head_is = head_is;
-        nodes_are = all.nodes_are;
+        nodes_are = ap (nodes_at raw deep) begins;
       };
       list_is = put.list_is;
-      few = omega (arith, all.few, size, found.inside.0);
+      few = omega (arith, own_few, size, found.inside.0);
       within = omega (arith, left, within, found.inside.1);
       some = bounds.least;
     }
 
-faulty : (error : ParserError) (j : Judged Raw) (raw : Raw) (size : ℕ) → j ≡ took raw size → IsPayloadFault error → RefusesWhole error (whole raw) → SaysFault error (judged plain j)
+faulty : (error : ParserError) (j : Judged Raw) (raw : Raw) (size : ℕ) → j ≡ took raw size
+    → IsPayloadFault error → RefusesWhole error (whole raw) → SaysFault error (judged plain j)
 faulty errors.Incomplete j raw size e may h = absurd h
 faulty errors.UnknownFrameType j raw size e may h = absurd may.0
 faulty errors.BadProtocolHeader j raw size e may h = absurd may.0
@@ -96,13 +122,17 @@ faulty errors.UnknownTag j raw size e may h = ap (judged plain) e ∙ ap (λ r. 
 faulty errors.TooDeep j raw size e may h = ap (judged plain) e ∙ ap (λ r. judged_frame (is_at plain raw) r size) h
 faulty errors.NoMemory j raw size e may h = absurd (may.1 refl)
 
-pub payload_fault : (m : ℕ) (left : List ℕ) (layout : FrameLayout) (raw : Raw) (error : ParserError) → IsFound m left layout → raw ≡ laid_out layout left → IsPayloadFault error → RefusesWhole error (whole raw) → SaysFault error (verdict plain (Some m) left)
+-- a fault of a payload is that of its frame
+pub payload_fault : (m : ℕ) (left : List ℕ) (layout : FrameLayout) (raw : Raw) (error : ParserError) → IsFound m left layout
+    → raw ≡ laid_out layout left → IsPayloadFault error → RefusesWhole error (whole raw) → SaysFault error (verdict plain (Some m) left)
 unfolding verdict
-payload_fault m left layout raw error found is may h = faulty error (outer (Some m) left) raw layout.frame_len (found.found ∙ ap (λ (r : Raw). took r layout.frame_len) (sym is)) may h
+payload_fault m left layout raw error found is may h =
+    faulty error (outer (Some m) left) raw layout.frame_len (found.found ∙ ap (λ (r : Raw). took r layout.frame_len) (sym is)) may h
 
 -- ---- frames one after another
 
-one_more : (m : ℕ) (deep : Bool) (bytes : List ℕ) (at first end size : ℕ) (heads : List Head) (nodes own : List Node) (head : Head) → SayFrames m deep bytes at first heads nodes end → SaysFrame m deep bytes end (first + length nodes) head own size
+one_more : (m : ℕ) (deep : Bool) (bytes : List ℕ) (at first end size : ℕ) (heads : List Head) (nodes own : List Node) (head : Head)
+    → SayFrames m deep bytes at first heads nodes end → SaysFrame m deep bytes end (first + length nodes) head own size
     → SayFrames m deep bytes at first (heads ++ head ∷ []) (nodes ++ own) (end + size)
 one_more m deep bytes at first end size [] nodes own head h says =
     let P : ℕ → Type 0 = λ a. SaysFrame m deep bytes a first head own size in
@@ -138,9 +168,11 @@ pub record Going (m : ℕ) (deep : Bool) (bytes : List ℕ) (heads : List Head) 
   pub frames : SayFrames m deep bytes 0 0 (take count heads) (take total nodes) used
 
 pub going_start : {m : ℕ} {deep : Bool} {bytes : List ℕ} {heads : List Head} {nodes : List Node} → Going m deep bytes heads nodes 0 0 0
-going_start = record { heads_fit = omega arith; nodes_fit = omega arith; within = omega arith; few = omega arith; few_heads = omega arith; frames = (refl, refl) }
+going_start =
+    record { heads_fit = omega arith; nodes_fit = omega arith; within = omega arith; few = omega arith; few_heads = omega arith; frames = (refl, refl) }
 
-module _ {m : ℕ} {deep : Bool} {bytes : List ℕ} {heads : List Head} {nodes new : List Node} {used count total size : ℕ} {head : Head} (g : Going m deep bytes heads nodes used count total) (next : IsNextFrame m deep bytes used nodes total new size head) where
+module _ {m : ℕ} {deep : Bool} {bytes : List ℕ} {heads : List Head} {nodes new : List Node} {used count total size : ℕ} {head : Head}
+    (g : Going m deep bytes heads nodes used count total) (next : IsNextFrame m deep bytes used nodes total new size head) where
   pub next_length : length new ≡ length nodes
   next_length = ap length next.list_is ∙ pushed_length (listing nodes total) next.own
 
@@ -151,13 +183,20 @@ module _ {m : ℕ} {deep : Bool} {bytes : List ℕ} {heads : List Head} {nodes n
   pub next_few : total + head.nodes ≤ used + size
   next_few = omega (arith, g.few, next.few, next_nodes)
 
-  pub going_on : count < length heads → total + head.nodes ≤ length new → Going m deep bytes (set heads count head) new (used + size) (count + 1) (total + head.nodes)
+  -- a head and its nodes are added, where both lists have room
+  pub going_on : count < length heads → total + head.nodes ≤ length new
+      → Going m deep bytes (set heads count head) new (used + size) (count + 1) (total + head.nodes)
   going_on room fits =
-      let front : take (total + length next.own) (pushed_all (listing nodes total) next.own).nodes ≡ take total nodes ++ next.own = pushed_front nodes total next.own (omega (arith, fits, next_length, next_nodes)) in
-      let own : take total nodes ++ next.own ≡ take (total + head.nodes) new = sym front ∙ ap (λ n. take n (pushed_all (listing nodes total) next.own).nodes) {x = total + length next.own} {y = total + head.nodes} (omega (arith, next_nodes)) ∙ ap (take (total + head.nodes)) (sym next.list_is) in
+      let front : take (total + length next.own) (pushed_all (listing nodes total) next.own).nodes ≡ take total nodes ++ next.own =
+      pushed_front nodes total next.own (omega (arith, fits, next_length, next_nodes)) in
+      let own : take total nodes ++ next.own ≡ take (total + head.nodes) new =
+      sym front
+      ∙ ap (λ n. take n (pushed_all (listing nodes total) next.own).nodes) {x = total + length next.own} {y = total + head.nodes} (omega (arith, next_nodes))
+      ∙ ap (take (total + head.nodes)) (sym next.list_is) in
       let before : length (take total nodes) ≡ total = length-take-le total nodes g.nodes_fit in
       let Q : ℕ → Type 0 = λ f. SaysFrame m deep bytes used f head next.own size in
-      let says : SaysFrame m deep bytes used (0 + length (take total nodes)) head next.own size = subst Q {x = total} {y = 0 + length (take total nodes)} (omega (arith, before)) next.says in
+      let says : SaysFrame m deep bytes used (0 + length (take total nodes)) head next.own size =
+      subst Q {x = total} {y = 0 + length (take total nodes)} (omega (arith, before)) next.says in
       let more = one_more m deep bytes 0 0 used size (take count heads) (take total nodes) next.own head g.frames says in
       let P : List Head → Type 0 = λ hs. SayFrames m deep bytes 0 0 hs (take total nodes ++ next.own) (used + size) in
       let R : List Node → Type 0 = λ ns. SayFrames m deep bytes 0 0 (take (count + 1) (set heads count head)) ns (used + size) in
@@ -173,20 +212,44 @@ module _ {m : ℕ} {deep : Bool} {bytes : List ℕ} {heads : List Head} {nodes n
   -- what was put behind the nodes that are given changes none of them
   pub going_stays : Going m deep bytes heads new used count total
   going_stays =
-      let same : take total nodes ≡ take total new = sym (pushed_keeps (listing nodes total) total next.own (omega arith)) ∙ ap (take total) (sym next.list_is) in
-      record { heads_fit = g.heads_fit; nodes_fit = omega (arith, g.nodes_fit, next_length); within = g.within; few = g.few; few_heads = g.few_heads; frames = subst (λ (ns : List Node). SayFrames m deep bytes 0 0 (take count heads) ns used) same g.frames }
+      let same : take total nodes ≡ take total new =
+      sym (pushed_keeps (listing nodes total) total next.own (omega arith)) ∙ ap (take total) (sym next.list_is) in
+      record {
+        heads_fit = g.heads_fit;
+        nodes_fit = omega (arith, g.nodes_fit, next_length);
+        within = g.within;
+        few = g.few;
+        few_heads = g.few_heads;
+        frames = subst (λ (ns : List Node). SayFrames m deep bytes 0 0 (take count heads) ns used) same g.frames;
+      }
 
-  pub going_full : (read : FramesRead) (head_room node_room needed : ℕ) → read.used ≡ used → needed ≡ head.nodes → (read.heads < head_room → node_room < read.nodes + needed) → HasNoRoom m deep bytes read head_room node_room needed
+  -- where a list has no room, the nodes of the next frame are as many as is said
+  pub going_full : (read : FramesRead) (head_room node_room needed : ℕ) → read.used ≡ used → needed ≡ head.nodes
+      → (read.heads < head_room → node_room < read.nodes + needed) → HasNoRoom m deep bytes read head_room node_room needed
   going_full read head_room node_room needed at is no_room =
       let says = next.says in
-      let P : ℕ → Type 0 = λ u. verdict plain (Some m) (drop u bytes) ≡ took says.frame size in
-      record { frame = says.frame; size = size; found = subst P (sym at) (verdict_whole m (drop used bytes) says.raw size says.frame says.found says.is); nodes = next.own; nodes_are = says.nodes_are; needed_is = is ∙ next_nodes; no_room = no_room }
+      record {
+        raw = says.raw;
+        frame = says.frame;
+        size = size;
+        found = ap (λ u. outer (Some m) (drop u bytes)) at ∙ says.found;
+        is = says.is;
+        needed_is =
+            is ∙ next_nodes ∙ ap length says.nodes_are
+            ∙ ap (λ u. length (nodes_at says.raw deep (u + payload_place says.raw.kind))) (sym at);
+        few = omega (arith, is, next_nodes, next.few);
+        no_room = no_room;
+      }
 
 -- ---- what is returned
 
-pub going_given : (m : ℕ) (deep : Bool) (bytes : List ℕ) (heads : List Head) (nodes : List Node) (read : FramesRead) → Going m deep (in_reach bytes) heads nodes read.used read.heads read.nodes → ReadsFrames m deep bytes heads nodes read
-going_given m deep bytes heads nodes read g = record { heads_fit = g.heads_fit; nodes_fit = g.nodes_fit; frames = g.frames; within = g.within; few_heads = g.few_heads; few_nodes = g.few }
+-- what was gone through is what is given
+pub going_given : (m : ℕ) (deep : Bool) (bytes : List ℕ) (heads : List Head) (nodes : List Node) (read : FramesRead)
+    → Going m deep (in_reach bytes) heads nodes read.used read.heads read.nodes → ReadsFrames m deep bytes heads nodes read
+going_given m deep bytes heads nodes read g =
+    record { heads_fit = g.heads_fit; nodes_fit = g.nodes_fit; frames = g.frames; within = g.within; few_heads = g.few_heads; few_nodes = g.few }
 
+-- where no bytes are left, all were read
 pub all_read : (bytes : List ℕ) (used : ℕ) → length bytes ≤ used → used ≤ length (in_reach bytes) → used ≡ length bytes
 all_read bytes used all within = omega (arith, all, within, length-take 4294967295 bytes)
 
@@ -194,7 +257,8 @@ all_read bytes used all within = omega (arith, all, within, length-take 42949672
 
 module _ (m : ℕ) (deep : Bool) (bytes : List ℕ) where
   front_from : (at first used : ℕ) (heads : List Head) (nodes : List Node) → SayFrames m deep bytes at first heads nodes used
-      → (frames : List Frame) × (length frames ≡ length heads) × (front plain (Some m) (drop at bytes) ≡ frames ++ front plain (Some m) (drop used bytes)) × (place plain (Some m) (drop at bytes) ≡ place plain (Some m) (drop used bytes))
+      → (frames : List Frame) × (length frames ≡ length heads) × (front plain (Some m) (drop at bytes) ≡ frames ++ front plain (Some m) (drop used bytes))
+      × (place plain (Some m) (drop at bytes) ≡ place plain (Some m) (drop used bytes))
   front_from at first used [] nodes h = ([], refl, ap (λ a. front plain (Some m) (drop a bytes)) h.1, ap (λ a. place plain (Some m) (drop a bytes)) h.1)
   front_from at first used (head ∷ heads) nodes h =
       let says = h.says in
@@ -207,5 +271,8 @@ module _ (m : ℕ) (deep : Bool) (bytes : List ℕ) where
         goes.after ∙ ap (place plain (Some m)) next ∙ others.3,
       )
 
+  -- the frames that heads say are those in front of the bytes
   pub heads_front : (used : ℕ) (heads : List Head) (nodes : List Node) → SayFrames m deep bytes 0 0 heads nodes used → AreInFront m bytes used (length heads)
-  heads_front used heads nodes h = let found = front_from 0 0 used heads nodes h in record { frames = found.0; count_is = found.1; sequence = found.2; after = found.3 }
+  heads_front used heads nodes h =
+      let found = front_from 0 0 used heads nodes h in
+      record { frames = found.0; count_is = found.1; sequence = found.2; after = found.3 }

@@ -1,5 +1,7 @@
 -- What was made of heads and nodes encodes frames that they mean.
-use Rattle.std.proofs.Common.{◌≡◌, ℕ, zero, suc, ◌+◌, ◌<◌, ◌≤◌, ◌^◌, ◌%◌, ◌==◌, ◌&&◌, Bool, true, false, List, [], ◌∷◌, ◌++◌, length, map, take, drop, Option, Some, None, unwrap_or, Result, Ok, Err, refl, sym, ap, ap₂, subst, ◌∙◌, append-nil, append_assoc, arith, nat_lt, nat_le, if◌then◌else◌}
+use Rattle.std.proofs.Common.{◌≡◌, ℕ, zero, suc, ◌+◌, ◌<◌, ◌≤◌, ◌^◌, ◌%◌, ◌==◌, ◌&&◌, Bool, true, false, List, [], ◌∷◌, ◌++◌, length, map, take}
+use Rattle.std.proofs.Common.{drop, Option, Some, None, unwrap_or, Result, Ok, Err, refl, sym, ap, ap₂, subst, ◌∙◌, append-nil, append_assoc, arith}
+use Rattle.std.proofs.Common.{nat_lt, nat_le, if◌then◌else◌}
 use Rattle.std.specs.Prelude.{is_some}
 use Rattle.std.proofs.lemmas.Bool.Decides.{nat_tests}
 use Rattle.amqp_types.specs.Levels.{Level, plain}
@@ -29,7 +31,8 @@ use Rattle.amqp_fields.specs.declared.refusals.WriteRefusal.TheVariants as whys
 use Rattle.amqp_fields.specs.Listed.{next_place, version_slots}
 use Rattle.amqp_fields.specs.Made.{Made, after, made_span, misfit, refusal, span_in}
 use Rattle.amqp_fields.specs.MadeFields.{group_size, is_next, made_field, made_none, made_properties, made_set, made_slots, set_at}
-use Rattle.amqp_fields.specs.MadeFrames.{at_head, has_no_ids, header_front, is_held, made_around, made_beat, made_body, made_frame, made_frames, made_header, made_known, made_method, made_own, made_payload, made_typed, made_version, nodes_in}
+use Rattle.amqp_fields.specs.MadeFrames.{at_head, has_no_ids, header_front, is_held, made_around, made_beat, made_body, made_frame, made_frames, made_header}
+use Rattle.amqp_fields.specs.MadeFrames.{made_known, made_method, made_own, made_payload, made_typed, made_version, nodes_in}
 use Rattle.amqp_fields.specs.Meaning.{AreNodes, IsSpan, fields_from, fields_of, kinds_in, set_fields}
 use Rattle.amqp_fields.specs.Meant.{HasNoIds, IsMethod, TellFrames, TellsField, TellsFields, TellsFrame, TellsTyped}
 use Rattle.amqp_fields.proofs.AtLevel.{from_tidy}
@@ -46,7 +49,8 @@ at_ok k (Ok made) bytes h = let same : made ≡ bytes = cc in ap Ok same
 at_ok k (Err bad) bytes h = absurd cc
 
 some_by : (place : ℕ) (ps : List Property) (nodes : List Node) → ((left : List Node) → length (set_at (next_place place 1) ps left) ≡ length ps) → (on : Bool)
-    → length (if on then Some (number_item 0) ∷ set_at (next_place place 1) ps (drop (group_size nodes) nodes) else None ∷ set_at (next_place place 1) ps nodes) ≡ suc (length ps)
+    → length (if on then Some (number_item 0) ∷ set_at (next_place place 1) ps (drop (group_size nodes) nodes) else None ∷ set_at (next_place place 1) ps nodes)
+    ≡ suc (length ps)
 some_by place ps nodes more true = ap suc (more (drop (group_size nodes) nodes))
 some_by place ps nodes more false = ap suc (more nodes)
 
@@ -68,9 +72,16 @@ module _ (pool : List ℕ) (fits : IsBytes pool) where
 
   -- a property that is set or not, where the others are told
   one_told : (mask end place : ℕ) (p : Property) (ps : List Property) (nodes : List Node) (bytes : List ℕ) → place + 1 < 256
-      → ((left : List Node) (rest : List ℕ) → set_flags mask ps ≡ map is_some (set_at (place + 1) ps left) → made_set pool end (place + 1) ps left ≡ Ok rest → SetTold mask (place + 1) ps left rest)
-      → (on : Bool) → set_flags mask (p ∷ ps) ≡ map is_some (if on then Some (number_item 0) ∷ set_at (next_place place 1) ps (drop (group_size nodes) nodes) else None ∷ set_at (next_place place 1) ps nodes)
-      → (if on then after (made_field pool end place p.form nodes) (made_set pool end (next_place place 1) ps (drop (group_size nodes) nodes)) else made_set pool end (next_place place 1) ps nodes) ≡ Ok bytes → SetTold mask place (p ∷ ps) nodes bytes
+      → ((left : List Node) (rest : List ℕ) → set_flags mask ps ≡ map is_some (set_at (place + 1) ps left)
+      → made_set pool end (place + 1) ps left ≡ Ok rest → SetTold mask (place + 1) ps left rest)
+      → (on : Bool)
+      → set_flags mask (p ∷ ps)
+      ≡ map is_some
+      (if on then Some (number_item 0) ∷ set_at (next_place place 1) ps (drop (group_size nodes) nodes) else None ∷ set_at (next_place place 1) ps nodes)
+      → (if on then after (made_field pool end place p.form nodes) (made_set pool end (next_place place 1) ps (drop (group_size nodes) nodes))
+      else made_set pool end (next_place place 1) ps nodes)
+      ≡ Ok bytes
+      → SetTold mask place (p ∷ ps) nodes bytes
   one_told mask end place p ps nodes bytes room more true flags h =
       let next : next_place place 1 ≡ place + 1 = byte_below (place + 1) room in
       let left = drop (group_size nodes) nodes in
@@ -78,18 +89,30 @@ module _ (pool : List ℕ) (fits : IsBytes pool) where
       let others : set_flags mask ps ≡ map is_some (set_at (next_place place 1) ps left) = cc in
       let parts = after_ok (made_field pool end place p.form nodes) (made_set pool end (next_place place 1) ps left) bytes h in
       let one = field_told pool fits end place p.form nodes parts.front parts.first_is in
-      let rest = more left parts.behind (others ∙ ap (λ k. map is_some (set_at k ps left)) next) (ap (λ k. made_set pool end k ps left) (sym next) ∙ parts.second_is) in
+      let rest =
+      more left parts.behind (others ∙ ap (λ k. map is_some (set_at k ps left)) next) (ap (λ k. made_set pool end k ps left) (sym next) ∙ parts.second_is) in
       record {
         options = Some one.item ∷ rest.options;
         number = ap suc rest.number;
-        means = record { node = one.node; inside = one.inside; others = left; nodes_are = one.nodes_are; inside_is = one.inside_is; means = one.tells; rest = rest.means };
+        means =
+            record {
+              node = one.node;
+              inside = one.inside;
+              others = left;
+              nodes_are = one.nodes_are;
+              inside_is = one.inside_is;
+              means = one.tells;
+              rest = rest.means;
+            };
         spelled = record {
           front = parts.front;
           behind = parts.behind;
           one = Some one.item;
           two = rest.options;
           bytes_are = parts.bytes_are;
-          first_is = subst (λ present. SpellsOptional plain present p.form parts.front (Some one.item)) (sym on) (record { thing = one.item ∷ []; spelled = one.spelled; made = refl });
+          first_is =
+              subst (λ present. SpellsOptional plain present p.form parts.front (Some one.item))
+              (sym on) (record { thing = one.item ∷ []; spelled = one.spelled; made = refl });
           second_is = rest.spelled;
           joined = refl;
         };
@@ -115,11 +138,15 @@ module _ (pool : List ℕ) (fits : IsBytes pool) where
         };
       }
 
-  set_told : (mask end place : ℕ) (ps : List Property) (nodes : List Node) (bytes : List ℕ) → place + length ps < 256 → set_flags mask ps ≡ map is_some (set_at place ps nodes) → made_set pool end place ps nodes ≡ Ok bytes → SetTold mask place ps nodes bytes
+  set_told : (mask end place : ℕ) (ps : List Property) (nodes : List Node) (bytes : List ℕ) → place + length ps < 256
+      → set_flags mask ps ≡ map is_some (set_at place ps nodes) → made_set pool end place ps nodes ≡ Ok bytes → SetTold mask place ps nodes bytes
   unfolding made_set set_at
-  set_told mask end place [] nodes bytes room flags h = let none = left_over end nodes bytes h in record { options = []; number = refl; means = none.0; spelled = (none.1, refl) }
+  set_told mask end place [] nodes bytes room flags h =
+      let none = left_over end nodes bytes h in
+      record { options = []; number = refl; means = none.0; spelled = (none.1, refl) }
   set_told mask end place (p ∷ ps) nodes bytes room flags h =
-      one_told mask end place p ps nodes bytes (omega (arith, room)) (λ left rest f m. set_told mask end (place + 1) ps left rest (omega (arith, room)) f m) (is_next place nodes) flags h
+      one_told mask end place p ps nodes bytes (omega (arith, room))
+      (λ left rest f m. set_told mask end (place + 1) ps left rest (omega (arith, room)) f m) (is_next place nodes) flags h
 
   record PropertiesTold (nodes : List Node) (bytes : List ℕ) : Type 0 where
     options : List (Option Item)
@@ -137,14 +164,23 @@ module _ (pool : List ℕ) (fits : IsBytes pool) where
       let chosen = set_at 0 properties nodes in
       let mask = mask_of properties chosen in
       let count : length (map is_some chosen) ≡ 14 = map_length chosen ∙ set_some 0 properties nodes ∙ fourteen in
-      let is : IsMaskOf mask (map is_some chosen) = subst (λ m. IsMaskOf m (map is_some chosen)) (sym (mask_of-flags properties chosen)) (flags_mask_is (map is_some chosen) count) in
+      let is : IsMaskOf mask (map is_some chosen) =
+      subst (λ m. IsMaskOf m (map is_some chosen)) (sym (mask_of-flags properties chosen)) (flags_mask_is (map is_some chosen) count) in
       let parts = after_ok (Ok (number_bytes bytes2 mask)) (made_set pool end 0 properties nodes) bytes h in
       let set = set_told mask end 0 properties nodes parts.behind (omega (arith, fourteen)) is.set parts.second_is in
       record {
         options = set.options;
         number = set.number;
         means = set.means;
-        spelled = record { mask = mask; behind = parts.behind; fits = is.fits; bytes_are = parts.bytes_are ∙ ap (λ bs. bs ++ parts.behind) (ok_is parts.first_is); set = set.spelled; unused = tt };
+        spelled =
+            record {
+              mask = mask;
+              behind = parts.behind;
+              fits = is.fits;
+              bytes_are = parts.bytes_are ∙ ap (λ bs. bs ++ parts.behind) (ok_is parts.first_is);
+              set = set.spelled;
+              unused = tt;
+            };
       }
 
   -- ---- the nodes of a head
@@ -153,11 +189,14 @@ module _ (pool : List ℕ) (fits : IsBytes pool) where
     within : head.first + head.nodes ≤ length nodes
     is : make (take head.nodes (drop head.first nodes)) ≡ Ok bytes
 
-  own_by : (make : List Node → Made) (nodes : List Node) (head : given.Head) (bytes : List ℕ) (test : Bool) → nat_le (head.first + head.nodes) (length nodes) ≡ test → made_own make (if test then Some (take head.nodes (drop head.first nodes)) else None) ≡ Ok bytes → OwnTold make nodes head bytes
+  own_by : (make : List Node → Made) (nodes : List Node) (head : given.Head) (bytes : List ℕ) (test : Bool)
+      → nat_le (head.first + head.nodes) (length nodes) ≡ test
+      → made_own make (if test then Some (take head.nodes (drop head.first nodes)) else None) ≡ Ok bytes → OwnTold make nodes head bytes
   own_by make nodes head bytes true is h = record { within = grind (arith, nat_tests, is); is = h }
   own_by make nodes head bytes false is h = absurd cc
 
-  own_told : (make : List Node → Made) (nodes : List Node) (head : given.Head) (bytes : List ℕ) → made_own make (nodes_in nodes head) ≡ Ok bytes → OwnTold make nodes head bytes
+  own_told : (make : List Node → Made) (nodes : List Node) (head : given.Head) (bytes : List ℕ)
+      → made_own make (nodes_in nodes head) ≡ Ok bytes → OwnTold make nodes head bytes
   own_told make nodes head bytes h = own_by make nodes head bytes (nat_le (head.first + head.nodes) (length nodes)) refl h
 
   -- ---- payloads
@@ -169,7 +208,8 @@ module _ (pool : List ℕ) (fits : IsBytes pool) where
     fields : TellsFields pool nodes head.first head.nodes (Meth head.channel (method head.class_id head.method_id items))
     spelled : SpellsPayload plain bytes (method head.class_id head.method_id items)
 
-  known_told : (nodes : List Node) (head : given.Head) (bytes : List ℕ) (found : Option (List Slot)) → slots_at head.class_id head.method_id ≡ found → made_known pool nodes head found ≡ Ok bytes → MethodTold nodes head bytes
+  known_told : (nodes : List Node) (head : given.Head) (bytes : List ℕ) (found : Option (List Slot))
+      → slots_at head.class_id head.method_id ≡ found → made_known pool nodes head found ≡ Ok bytes → MethodTold nodes head bytes
   unfolding fields_of
   known_told nodes head bytes None at h = absurd cc
   known_told nodes head bytes (Some slots) at h =
@@ -196,7 +236,9 @@ module _ (pool : List ℕ) (fits : IsBytes pool) where
           id_bytes = number_bytes bytes2 id;
           slot_bytes = parts.behind;
           known = at;
-          bytes_are = parts.bytes_are ∙ ap (λ bs. bs ++ parts.behind) (ok_is parts.first_is) ∙ append_assoc (number_bytes bytes2 class) (number_bytes bytes2 id) parts.behind;
+          bytes_are =
+              parts.bytes_are ∙ ap (λ bs. bs ++ parts.behind) (ok_is parts.first_is)
+              ∙ append_assoc (number_bytes bytes2 class) (number_bytes bytes2 id) parts.behind;
           class_is = record { fits = table.class_fits; bytes_are = refl };
           id_is = record { fits = table.id_fits; bytes_are = refl };
           slots_are = told.spelled;
@@ -211,10 +253,13 @@ module _ (pool : List ℕ) (fits : IsBytes pool) where
     options : List (Option Item)
     no_method : head.method_id ≡ 0
     number : length options ≡ length properties
-    fields : TellsFields pool nodes head.first head.nodes (Head head.channel (header_of_parts (number_item head.class_id ∷ number_item head.body_size ∷ []) options))
+    fields : TellsFields pool nodes head.first head.nodes
+        (Head head.channel (header_of_parts (number_item head.class_id ∷ number_item head.body_size ∷ []) options))
     spelled : SpellsContentHeader plain bytes (header_of_parts (number_item head.class_id ∷ number_item head.body_size ∷ []) options)
 
-  pub front_spelled : (level : Level) (class size : ℕ) → class < 2 ^ 16 → size < 2 ^ 64 → SpellsSlots level header_slots (number_bytes bytes2 class ++ (number_bytes bytes2 0 ++ number_bytes bytes8 size)) (number_item class ∷ number_item size ∷ [])
+  pub front_spelled : (level : Level) (class size : ℕ) → class < 2 ^ 16 → size < 2 ^ 64
+      → SpellsSlots level header_slots (number_bytes bytes2 class ++ (number_bytes bytes2 0 ++ number_bytes bytes8 size))
+      (number_item class ∷ number_item size ∷ [])
   unfolding header_slots
   front_spelled level class size class_fits size_fits = record {
     front = number_bytes bytes2 class;
@@ -229,7 +274,13 @@ module _ (pool : List ℕ) (fits : IsBytes pool) where
       one = [];
       two = number_item size ∷ [];
       bytes_are = refl;
-      first_is = record { dropped = number_item 0 ∷ []; spelled = record { thing = 0; spelled = record { fits = omega arith; bytes_are = refl }; made = refl }; none = refl; unused = from_tidy level refl };
+      first_is =
+          record {
+            dropped = number_item 0 ∷ [];
+            spelled = record { thing = 0; spelled = record { fits = omega arith; bytes_are = refl }; made = refl };
+            none = refl;
+            unused = from_tidy level refl;
+          };
       second_is = record {
         front = number_bytes bytes8 size;
         behind = [];
@@ -245,7 +296,8 @@ module _ (pool : List ℕ) (fits : IsBytes pool) where
     joined = refl;
   }
 
-  header_told : (nodes : List Node) (head : given.Head) (bytes : List ℕ) → head.class_id < 2 ^ 16 → head.body_size < 2 ^ 64 → made_header pool nodes head ≡ Ok bytes → HeaderTold nodes head bytes
+  header_told : (nodes : List Node) (head : given.Head) (bytes : List ℕ) → head.class_id < 2 ^ 16
+      → head.body_size < 2 ^ 64 → made_header pool nodes head ≡ Ok bytes → HeaderTold nodes head bytes
   unfolding made_header fields_of
   header_told nodes head bytes class_fits size_fits h =
       let make : List Node → Made = λ own. after (Ok (header_front head)) (made_properties pool (head.first + head.nodes) own) in
@@ -282,10 +334,16 @@ module _ (pool : List ℕ) (fits : IsBytes pool) where
   body_told : (head : given.Head) (bytes : List ℕ) → made_body pool head ≡ Ok bytes → BodyTold head bytes
   unfolding made_body
   body_told head bytes h =
-      let both = holds (has_no_ids head && (head.nodes == 0)) (made_span (λ content. Ok content) 0 (span_in pool head.start head.length)) (refusal 0 whys.BadArgument) bytes h in
+      let both =
+      holds (has_no_ids head && (head.nodes == 0))
+      (made_span (λ content. Ok content) 0 (span_in pool head.start head.length)) (refusal 0 whys.BadArgument) bytes h in
       let each = both_true (has_no_ids head) (head.nodes == 0) both.0 in
       let found = span_ok (λ content. Ok content) 0 pool head.start head.length bytes both.1 in
-      record { free = no_ids head each.0; none = grind (arith, nat_tests, each.1); span = subst (λ bs. IsSpan pool head.start head.length bs) (sym (ok_is found.is)) found.span }
+      record {
+        free = no_ids head each.0;
+        none = grind (arith, nat_tests, each.1);
+        span = subst (λ bs. IsSpan pool head.start head.length bs) (sym (ok_is found.is)) found.span;
+      }
 
   beat_told : (head : given.Head) (bytes : List ℕ) → made_beat head ≡ Ok bytes → HasNoIds head × (head.nodes ≡ 0) × (bytes ≡ [])
   unfolding made_beat
@@ -310,10 +368,17 @@ module _ (pool : List ℕ) (fits : IsBytes pool) where
       octet_small : (n : ℕ) → n < 2 ^ 8 → n % 256 ≡ n
       octet_small n few = omega (arith, few)
 
-  octet_told : (slots : List Slot) (bytes : List ℕ) (items : List Item) → SpellsSlots plain (kept_slot (number_form bytes1) ∷ slots) bytes items → (n : ℕ) × (rest : List ℕ) × (others : List Item) × (bytes ≡ n ∷ rest) × (items ≡ number_item n ∷ others) × SpellsSlots plain slots rest others
+  octet_told : (slots : List Slot) (bytes : List ℕ) (items : List Item) → SpellsSlots plain (kept_slot (number_form bytes1) ∷ slots) bytes items
+      → (n : ℕ) × (rest : List ℕ) × (others : List Item) × (bytes ≡ n ∷ rest) × (items ≡ number_item n ∷ others) × SpellsSlots plain slots rest others
   octet_told slots bytes items h =
-      let n = h.first_is.thing in
-      (n, h.behind, h.two, h.bytes_are ∙ ap (λ bs. bs ++ h.behind) (octet_is n h.front h.first_is.spelled), h.joined ∙ ap (λ xs. xs ++ h.two) h.first_is.made, h.second_is)
+      let n = h.first_is.thing in (
+        n,
+        h.behind,
+        h.two,
+        h.bytes_are ∙ ap (λ bs. bs ++ h.behind) (octet_is n h.front h.first_is.spelled),
+        h.joined ∙ ap (λ xs. xs ++ h.two) h.first_is.made,
+        h.second_is,
+      )
 
   three_told : (bytes : List ℕ) (items : List Item) → SpellsSlots plain version_slots bytes items → ThreeOctets items bytes
   three_told bytes items h =
@@ -324,7 +389,8 @@ module _ (pool : List ℕ) (fits : IsBytes pool) where
         major = one.0;
         minor = two.0;
         revision = three.0;
-        items_are = one.4 ∙ ap (λ xs. number_item one.0 ∷ xs) (two.4 ∙ ap (λ xs. number_item two.0 ∷ xs) (three.4 ∙ ap (λ xs. number_item three.0 ∷ xs) three.5.1));
+        items_are =
+            one.4 ∙ ap (λ xs. number_item one.0 ∷ xs) (two.4 ∙ ap (λ xs. number_item two.0 ∷ xs) (three.4 ∙ ap (λ xs. number_item three.0 ∷ xs) three.5.1));
         bytes_are = one.3 ∙ ap (λ bs. one.0 ∷ bs) (two.3 ∙ ap (λ bs. two.0 ∷ bs) (three.3 ∙ ap (λ bs. three.0 ∷ bs) three.5.0));
       }
 
@@ -354,7 +420,10 @@ module _ (pool : List ℕ) (fits : IsBytes pool) where
         revision = three.revision;
         no_channel = grind (arith, nat_tests, each.1);
         free = no_ids head each.0;
-        fields = record { within = own.within; fields = subst (λ xs. AreNodes (TellsField pool) (fields_from 0 (kinds_in version_slots) xs) nodes_own) three.items_are told.means };
+        fields = record {
+          within = own.within;
+          fields = subst (λ xs. AreNodes (TellsField pool) (fields_from 0 (kinds_in version_slots) xs) nodes_own) three.items_are told.means;
+        };
         bytes_are = parts.bytes_are ∙ ap₂ (λ a b. a ++ b) (ok_is parts.first_is) three.bytes_are;
       }
 
@@ -391,10 +460,12 @@ module _ (pool : List ℕ) (fits : IsBytes pool) where
   head_held : (head : given.Head) → is_held head ≡ true → Held head
   head_held head h = record { channel = grind (arith, nat_tests, h); class = grind (arith, nat_tests, h); size = grind (arith, nat_tests, h) }
 
-  typed_as : (type : ℕ) (head : given.Head) (bytes payload : List ℕ) → head.frame_type ≡ type → IsFramed bytes head.frame_type head.channel payload → IsFramed bytes type head.channel payload
+  typed_as : (type : ℕ) (head : given.Head) (bytes payload : List ℕ) → head.frame_type ≡ type
+      → IsFramed bytes head.frame_type head.channel payload → IsFramed bytes type head.channel payload
   typed_as type head bytes payload is h = subst (λ t. IsFramed bytes t head.channel payload) is h
 
-  module _ (nodes : List Node) (head : given.Head) (m : ℕ) (bytes payload : List ℕ) (held : Held head) (around : IsFramed bytes head.frame_type head.channel payload) (within : IsWithin (Some m) bytes) where
+  module _ (nodes : List Node) (head : given.Head) (m : ℕ) (bytes payload : List ℕ) (held : Held head)
+      (around : IsFramed bytes head.frame_type head.channel payload) (within : IsWithin (Some m) bytes) where
     method_frame : head.frame_type ≡ method_byte → made_method pool nodes head ≡ Ok payload → Frames nodes head m bytes
     method_frame type h =
         let told = method_told nodes head payload h in
@@ -416,7 +487,11 @@ module _ (pool : List ℕ) (fits : IsBytes pool) where
     body_frame : head.frame_type ≡ body_byte → made_body pool head ≡ Ok payload → Frames nodes head m bytes
     body_frame type h =
         let told = body_told head payload h in
-        record { thing = Body head.channel payload; means = (type, refl, told.free, told.none, told.span); spelled = (typed_as body_byte head bytes payload type around, within) }
+        record {
+          thing = Body head.channel payload;
+          means = (type, refl, told.free, told.none, told.span);
+          spelled = (typed_as body_byte head bytes payload type around, within);
+        }
 
     beat_frame : head.frame_type ≡ heartbeat_byte → made_beat head ≡ Ok payload → Frames nodes head m bytes
     beat_frame type h = by_channel head.channel refl
@@ -424,30 +499,44 @@ module _ (pool : List ℕ) (fits : IsBytes pool) where
         by_channel : (channel : ℕ) → head.channel ≡ channel → Frames nodes head m bytes
         by_channel zero is =
             let told = beat_told head payload h in
-            let framed_is : IsFramed bytes heartbeat_byte 0 payload = subst (λ c. IsFramed bytes heartbeat_byte c payload) is (typed_as heartbeat_byte head bytes payload type around) in
+            let framed_is : IsFramed bytes heartbeat_byte 0 payload =
+            subst (λ c. IsFramed bytes heartbeat_byte c payload) is (typed_as heartbeat_byte head bytes payload type around) in
             record { thing = Beat; means = (type, is, told.0, told.1); spelled = (record { payload = payload; is_framed = framed_is; at_level = tt }, within) }
         by_channel (suc k) is =
             let told = beat_told head payload h in
-            let framed_is : IsFramed bytes heartbeat_byte (suc k) payload = subst (λ c. IsFramed bytes heartbeat_byte c payload) is (typed_as heartbeat_byte head bytes payload type around) in
-            record { thing = BadBeat (suc k); means = (type, is, omega arith, told.0, told.1); spelled = ((omega arith, record { payload = payload; is_framed = framed_is; at_level = tt }), within) }
+            let framed_is : IsFramed bytes heartbeat_byte (suc k) payload =
+            subst (λ c. IsFramed bytes heartbeat_byte c payload) is (typed_as heartbeat_byte head bytes payload type around) in
+            record {
+              thing = BadBeat (suc k);
+              means = (type, is, omega arith, told.0, told.1);
+              spelled = ((omega arith, record { payload = payload; is_framed = framed_is; at_level = tt }), within);
+            }
 
     payload_frame : made_payload pool nodes head ≡ Ok payload → Frames nodes head m bytes
     unfolding made_payload
-    payload_frame h = by_type (head.frame_type == method_byte) (head.frame_type == header_byte) (head.frame_type == body_byte) (head.frame_type == heartbeat_byte) refl refl refl refl h
+    payload_frame h =
+        by_type (head.frame_type == method_byte) (head.frame_type == header_byte)
+        (head.frame_type == body_byte) (head.frame_type == heartbeat_byte) refl refl refl refl h
       where
-        by_type : (a b c d : Bool) → (head.frame_type == method_byte) ≡ a → (head.frame_type == header_byte) ≡ b → (head.frame_type == body_byte) ≡ c → (head.frame_type == heartbeat_byte) ≡ d
-            → (if a then made_method pool nodes head else (if b then made_header pool nodes head else (if c then made_body pool head else (if d then made_beat head else misfit 0)))) ≡ Ok payload → Frames nodes head m bytes
+        by_type : (a b c d : Bool) → (head.frame_type == method_byte) ≡ a → (head.frame_type == header_byte) ≡ b
+            → (head.frame_type == body_byte) ≡ c → (head.frame_type == heartbeat_byte) ≡ d
+            → (if a then made_method pool nodes head
+            else (if b then made_header pool nodes head else (if c then made_body pool head else (if d then made_beat head else misfit 0))))
+            ≡ Ok payload
+            → Frames nodes head m bytes
         by_type true b c d e1 e2 e3 e4 h = method_frame (grind (arith, nat_tests, e1)) h
         by_type false true c d e1 e2 e3 e4 h = header_frame (grind (arith, nat_tests, e2)) h
         by_type false false true d e1 e2 e3 e4 h = body_frame (grind (arith, nat_tests, e3)) h
         by_type false false false true e1 e2 e3 e4 h = beat_frame (grind (arith, nat_tests, e4)) h
         by_type false false false false e1 e2 e3 e4 h = absurd cc
 
-  typed_told : (nodes : List Node) (head : given.Head) (m : ℕ) (bytes : List ℕ) → m < 2 ^ 32 → Held head → made_typed pool nodes m head ≡ Ok bytes → Frames nodes head m bytes
+  typed_told : (nodes : List Node) (head : given.Head) (m : ℕ) (bytes : List ℕ) → m < 2 ^ 32
+      → Held head → made_typed pool nodes m head ≡ Ok bytes → Frames nodes head m bytes
   unfolding made_typed
   typed_told nodes head m bytes few held h = by_type (head.frame_type == protocol_byte) refl h
     where
-      by_type : (a : Bool) → (head.frame_type == protocol_byte) ≡ a → (if a then made_version pool nodes head else made_around m head (made_payload pool nodes head)) ≡ Ok bytes → Frames nodes head m bytes
+      by_type : (a : Bool) → (head.frame_type == protocol_byte) ≡ a
+          → (if a then made_version pool nodes head else made_around m head (made_payload pool nodes head)) ≡ Ok bytes → Frames nodes head m bytes
       by_type true is h =
           let told = version_told nodes head bytes h in
           record {
@@ -459,7 +548,8 @@ module _ (pool : List ℕ) (fits : IsBytes pool) where
           let around = around_told m head (made_payload pool nodes head) bytes h in
           payload_frame nodes head m bytes around.payload held (around.framed_is held.channel few) around.within around.is
 
-  pub frame_told : (nodes : List Node) (m : ℕ) (head : given.Head) (bytes : List ℕ) → m < 2 ^ 32 → made_frame pool nodes m head ≡ Ok bytes → Told (λ frame. TellsFrame pool nodes head frame) (λ frame. Spells plain bytes frame × IsWithin (Some m) bytes)
+  pub frame_told : (nodes : List Node) (m : ℕ) (head : given.Head) (bytes : List ℕ) → m < 2 ^ 32 → made_frame pool nodes m head ≡ Ok bytes
+      → Told (λ frame. TellsFrame pool nodes head frame) (λ frame. Spells plain bytes frame × IsWithin (Some m) bytes)
   unfolding made_frame
   frame_told nodes m head bytes few h =
       let both = holds (is_held head) (made_typed pool nodes m head) (refusal 0 whys.BadArgument) bytes h in
@@ -470,11 +560,16 @@ module _ (pool : List ℕ) (fits : IsBytes pool) where
   ok_same a b h = cc
 
   -- the frames that heads and nodes mean, encoded one after another, each within the limit
-  pub frames_told : (nodes : List Node) (m : ℕ) → m < 2 ^ 32 → (k : ℕ) (heads : List given.Head) (bytes : List ℕ) → made_frames pool nodes m k heads ≡ Ok bytes → Told (λ frames. TellFrames pool nodes heads frames) (λ frames. SpellsFrames plain (Some m) bytes frames)
+  pub frames_told : (nodes : List Node) (m : ℕ) → m < 2 ^ 32 → (k : ℕ) (heads : List given.Head) (bytes : List ℕ)
+      → made_frames pool nodes m k heads ≡ Ok bytes → Told (λ frames. TellFrames pool nodes heads frames) (λ frames. SpellsFrames plain (Some m) bytes frames)
   unfolding made_frames
   frames_told nodes m few k [] bytes h = record { thing = []; means = tt; spelled = ok_same [] bytes h }
   frames_told nodes m few k (head ∷ heads) bytes h =
       let parts = after_ok (at_head k (made_frame pool nodes m head)) (made_frames pool nodes m (k + 1) heads) bytes h in
       let first = frame_told nodes m head parts.front few (at_ok k (made_frame pool nodes m head) parts.front parts.first_is) in
       let rest = frames_told nodes m few (k + 1) heads parts.behind parts.second_is in
-      record { thing = first.thing ∷ rest.thing; means = (first.means, rest.means); spelled = (parts.front, parts.behind, parts.bytes_are, first.spelled.0, first.spelled.1, rest.spelled) }
+      record {
+        thing = first.thing ∷ rest.thing;
+        means = (first.means, rest.means);
+        spelled = (parts.front, parts.behind, parts.bytes_are, first.spelled.0, first.spelled.1, rest.spelled);
+      }

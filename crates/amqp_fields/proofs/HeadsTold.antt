@@ -1,5 +1,6 @@
 -- The heads that reading gives mean the frames that were read, where their spans are taken out of what was read.
-use Rattle.std.proofs.Common.{◌≡◌, ℕ, suc, ◌+◌, ◌<◌, ◌≤◌, ◌^◌, Bool, true, List, [], ◌∷◌, ◌++◌, length, take, drop, append_assoc, append-nil, Option, Some, refl, sym, ap, subst, ◌∙◌, arith}
+use Rattle.std.proofs.Common.{◌≡◌, ℕ, suc, ◌+◌, ◌<◌, ◌≤◌, ◌^◌, Bool, true, List, [], ◌∷◌, ◌++◌, length, take, drop, append_assoc, append-nil, Option, Some}
+use Rattle.std.proofs.Common.{refl, sym, ap, subst, ◌∙◌, arith}
 use Rattle.std.proofs.lemmas.Bool.Decides.{nat_tests}
 use Rattle.std.proofs.lemmas.List.{drop-drop, drop_at, length-append, take_at}
 use Rattle.amqp_types.specs.Levels.{plain}
@@ -27,6 +28,7 @@ use Rattle.amqp_fields.specs.Heads.{SayFrames, SaysFrame, head_of}
 use Rattle.amqp_fields.specs.MadeFrames.{is_held}
 use Rattle.amqp_fields.specs.Meaning.{AreNodes, AreNodesOf, IsSpan, MeansField, fields_of, kinds_in, kinds_of}
 use Rattle.amqp_fields.specs.Meant.{IsMethod, TellFrames, TellsField, TellsFields, TellsFrame}
+use Rattle.amqp_fields.proofs.Answering.{listed_mean}
 use Rattle.amqp_fields.proofs.FramesGiven.{verdict_whole}
 use Rattle.amqp_fields.proofs.ReadMeant.{form_suits, read_meant}
 
@@ -42,7 +44,8 @@ slots_number (reserved_slot form constant ∷ slots) bytes given h =
     let none : given ≡ h.two = h.joined ∙ ap (λ xs. xs ++ h.two) h.first_is.none in
     ap length none ∙ slots_number slots h.behind h.two h.second_is
 
-set_number : (mask : ℕ) (ps : List Property) (bytes : List ℕ) (options : List (Option Item)) → SpellsSet plain mask ps bytes options → length options ≡ length ps
+set_number : (mask : ℕ) (ps : List Property) (bytes : List ℕ) (options : List (Option Item))
+    → SpellsSet plain mask ps bytes options → length options ≡ length ps
 set_number mask [] bytes options h = ap length h.1
 set_number mask (p ∷ ps) bytes options h = ap length h.joined ∙ ap suc (set_number mask ps h.behind h.two h.second_is)
 
@@ -51,7 +54,8 @@ set_number mask (p ∷ ps) bytes options h = ap length h.joined ∙ ap suc (set_
 took_same : (a b : Raw) (n k : ℕ) → took a n ≡ took b k → a ≡ b
 took_same a b n k h = cc
 
-outer_version : (m : ℕ) (major minor revision : ℕ) → outer (Some m) (proto major minor revision) ≡ took (raw_as kinds.ProtocolHeader 0 (major ∷ minor ∷ revision ∷ [])) 8
+outer_version : (m : ℕ) (major minor revision : ℕ)
+    → outer (Some m) (proto major minor revision) ≡ took (raw_as kinds.ProtocolHeader 0 (major ∷ minor ∷ revision ∷ [])) 8
 unfolding outer behind_type judge_version
 outer_version m major minor revision = refl
 
@@ -63,45 +67,60 @@ module _ (pool : List ℕ) (nodes : List Node) (start first count : ℕ) where
   HeadOf raw frame = head_of raw (outline_of frame) start first count
 
   -- the head of a frame that is encoded so
-  typed_told : (m : ℕ) (bytes : List ℕ) (raw : Raw) (n : ℕ) (frame : Frame) → Spells plain bytes frame → IsWithin (Some m) bytes → outer (Some m) bytes ≡ took raw n → IsSpan pool start (length raw.payload) raw.payload → (fields_of frame ≡ [] → count ≡ 0)
+  typed_told : (m : ℕ) (bytes : List ℕ) (raw : Raw) (n : ℕ) (frame : Frame) → Spells plain bytes frame → IsWithin (Some m) bytes
+      → outer (Some m) bytes ≡ took raw n → IsSpan pool start (length raw.payload) raw.payload → (fields_of frame ≡ [] → count ≡ 0)
       → TellsFields pool nodes first count frame → TellsFrame pool nodes (HeadOf raw frame) frame
   unfolding fields_of
   typed_told m bytes raw n (Proto major minor revision) s within found span few fields =
       let frame = Proto major minor revision in
-      let is : raw ≡ raw_as kinds.ProtocolHeader 0 (major ∷ minor ∷ revision ∷ []) = took_same raw _ n 8 (sym found ∙ ap (outer (Some m)) s ∙ outer_version m major minor revision) in
+      let is : raw ≡ raw_as kinds.ProtocolHeader 0 (major ∷ minor ∷ revision ∷ []) =
+      took_same raw _ n 8 (sym found ∙ ap (outer (Some m)) s ∙ outer_version m major minor revision) in
       let head = HeadOf (raw_as kinds.ProtocolHeader 0 (major ∷ minor ∷ revision ∷ [])) frame in
-      subst (λ r. TellsFrame pool nodes (HeadOf r frame) frame) (sym is) (held_by head (omega arith) (omega arith) (omega arith) (omega arith), (refl, refl, (refl, refl, refl), fields))
+      subst (λ r. TellsFrame pool nodes (HeadOf r frame) frame) (sym is)
+      (held_by head (omega arith) (omega arith) (omega arith) (omega arith), (refl, refl, (refl, refl, refl), fields))
   typed_told m bytes raw n (Meth channel meth) s within found span few fields =
       let frame = Meth channel meth in
-      let is : raw ≡ raw_as kinds.Method channel s.payload = took_same raw _ n (length bytes) (sym found ∙ outer-method (Some m) bytes channel s.payload s.is_framed within) in
+      let is : raw ≡ raw_as kinds.Method channel s.payload =
+      took_same raw _ n (length bytes) (sym found ∙ outer-method (Some m) bytes channel s.payload s.is_framed within) in
       let head = HeadOf (raw_as kinds.Method channel s.payload) frame in
       let payload = s.spelled in
-      let method : IsMethod meth = record { slots = payload.slots; known = payload.known; number = slots_number payload.slots payload.slot_bytes meth.items payload.slots_are } in
-      subst (λ r. TellsFrame pool nodes (HeadOf r frame) frame) (sym is) (held_by head s.is_framed.channel_fits payload.class_is.fits payload.id_is.fits (omega arith), (refl, refl, refl, refl, refl, method, fields))
+      let method : IsMethod meth =
+      record { slots = payload.slots; known = payload.known; number = slots_number payload.slots payload.slot_bytes meth.items payload.slots_are } in
+      subst (λ r. TellsFrame pool nodes (HeadOf r frame) frame) (sym is)
+      (held_by head s.is_framed.channel_fits payload.class_is.fits payload.id_is.fits (omega arith), (refl, refl, refl, refl, refl, method, fields))
   typed_told m bytes raw n (Head channel header) s within found span few fields =
       let frame = Head channel header in
-      let is : raw ≡ raw_as kinds.Header channel s.payload = took_same raw _ n (length bytes) (sym found ∙ outer-header (Some m) bytes channel s.payload s.is_framed within) in
+      let is : raw ≡ raw_as kinds.Header channel s.payload =
+      took_same raw _ n (length bytes) (sym found ∙ outer-header (Some m) bytes channel s.payload s.is_framed within) in
       let head = HeadOf (raw_as kinds.Header channel s.payload) frame in
       let parts = header_front s.spelled in
       let class : header.class_id < 2 ^ 16 = subst (λ x. x.class_id < 2 ^ 16) (sym parts.header_is) parts.class_fits in
       let size : header.body_size < 2 ^ 64 = subst (λ x. x.body_size < 2 ^ 64) (sym parts.header_is) parts.size_fits in
-      let number : length header.options ≡ length properties = ap (λ x. length x.options) parts.header_is ∙ set_number s.spelled.second_is.mask properties s.spelled.second_is.behind s.spelled.two s.spelled.second_is.set in
-      subst (λ r. TellsFrame pool nodes (HeadOf r frame) frame) (sym is) (held_by head s.is_framed.channel_fits class (omega arith) size, (refl, refl, refl, refl, refl, number, fields))
+      let number : length header.options ≡ length properties =
+      ap (λ x. length x.options) parts.header_is
+      ∙ set_number s.spelled.second_is.mask properties s.spelled.second_is.behind s.spelled.two s.spelled.second_is.set in
+      subst (λ r. TellsFrame pool nodes (HeadOf r frame) frame) (sym is)
+      (held_by head s.is_framed.channel_fits class (omega arith) size, (refl, refl, refl, refl, refl, number, fields))
   typed_told m bytes raw n (Body channel content) s within found span few fields =
       let frame = Body channel content in
       let is : raw ≡ raw_as kinds.Body channel content = took_same raw _ n (length bytes) (sym found ∙ outer-body (Some m) bytes channel content s within) in
       let head = HeadOf (raw_as kinds.Body channel content) frame in
       let stands : IsSpan pool start (length content) content = subst (λ (r : Raw). IsSpan pool start (length r.payload) r.payload) is span in
-      subst (λ r. TellsFrame pool nodes (HeadOf r frame) frame) (sym is) (held_by head s.channel_fits (omega arith) (omega arith) (omega arith), (refl, refl, (refl, refl, refl), few refl, stands))
+      subst (λ r. TellsFrame pool nodes (HeadOf r frame) frame) (sym is)
+      (held_by head s.channel_fits (omega arith) (omega arith) (omega arith), (refl, refl, (refl, refl, refl), few refl, stands))
   typed_told m bytes raw n Beat s within found span few fields =
-      let is : raw ≡ raw_as kinds.Heartbeat 0 s.payload = took_same raw _ n (length bytes) (sym found ∙ outer-beat (Some m) bytes 0 s.payload s.is_framed within) in
+      let is : raw ≡ raw_as kinds.Heartbeat 0 s.payload =
+      took_same raw _ n (length bytes) (sym found ∙ outer-beat (Some m) bytes 0 s.payload s.is_framed within) in
       let head = HeadOf (raw_as kinds.Heartbeat 0 s.payload) Beat in
-      subst (λ r. TellsFrame pool nodes (HeadOf r Beat) Beat) (sym is) (held_by head (omega arith) (omega arith) (omega arith) (omega arith), (refl, refl, (refl, refl, refl), few refl))
+      subst (λ r. TellsFrame pool nodes (HeadOf r Beat) Beat) (sym is)
+      (held_by head (omega arith) (omega arith) (omega arith) (omega arith), (refl, refl, (refl, refl, refl), few refl))
   typed_told m bytes raw n (BadBeat channel) s within found span few fields =
       let frame = BadBeat channel in
-      let is : raw ≡ raw_as kinds.Heartbeat channel s.1.payload = took_same raw _ n (length bytes) (sym found ∙ outer-beat (Some m) bytes channel s.1.payload s.1.is_framed within) in
+      let is : raw ≡ raw_as kinds.Heartbeat channel s.1.payload =
+      took_same raw _ n (length bytes) (sym found ∙ outer-beat (Some m) bytes channel s.1.payload s.1.is_framed within) in
       let head = HeadOf (raw_as kinds.Heartbeat channel s.1.payload) frame in
-      subst (λ r. TellsFrame pool nodes (HeadOf r frame) frame) (sym is) (held_by head s.1.is_framed.channel_fits (omega arith) (omega arith) (omega arith), (refl, refl, s.0, (refl, refl, refl), few refl))
+      subst (λ r. TellsFrame pool nodes (HeadOf r frame) frame) (sym is)
+      (held_by head s.1.is_framed.channel_fits (omega arith) (omega arith) (omega arith), (refl, refl, s.0, (refl, refl, refl), few refl))
 
 -- ---- frames one after another
 
@@ -115,32 +134,57 @@ pub record HasNodes (deep : Bool) (bytes : List ℕ) (frame : Frame) (own : List
 -- frames, and their nodes
 abbrev pub HaveNodes : Bool → List ℕ → List Frame → List Node → Type 0
 HaveNodes deep bytes [] own = own ≡ []
-HaveNodes deep bytes (frame ∷ frames) own = (first : List Node) × (rest : List Node) × (own ≡ first ++ rest) × HasNodes deep bytes frame first × HaveNodes deep bytes frames rest
+HaveNodes deep bytes (frame ∷ frames) own =
+    (first : List Node) × (rest : List Node) × (own ≡ first ++ rest) × HasNodes deep bytes frame first × HaveNodes deep bytes frames rest
 
 module _ (m : ℕ) (deep : Bool) (bytes : List ℕ) (fits : IsBytes bytes) where
-  frame_spelled : (at first size : ℕ) (head : given.Head) (own : List Node) → (says : SaysFrame m deep bytes at first head own size) → Spells plain (take size (drop at bytes)) says.frame × IsWithin (Some m) (take size (drop at bytes))
-  frame_spelled at first size head own says = verdict-spells plain (Some m) (drop at bytes) says.frame size (IsBytes-drop at bytes fits) (verdict_whole m (drop at bytes) says.raw size says.frame says.found says.is)
+  frame_spelled : (at first size : ℕ) (head : given.Head) (own : List Node) → (says : SaysFrame m deep bytes at first head own size)
+      → Spells plain (take size (drop at bytes)) says.frame × IsWithin (Some m) (take size (drop at bytes))
+  frame_spelled at first size head own says =
+      verdict-spells plain (Some m) (drop at bytes) says.frame size (IsBytes-drop at bytes fits)
+      (verdict_whole m (drop at bytes) says.raw size says.frame says.found says.is)
 
-  frame_nodes : (at first size : ℕ) (head : given.Head) (own : List Node) → (says : SaysFrame m deep bytes at first head own size) → HasNodes deep bytes says.frame own
-  frame_nodes at first size head own says = record { encoded = take size (drop at bytes); fits = IsBytes-take size (drop at bytes) (IsBytes-drop at bytes fits); spelled = (frame_spelled at first size head own says).0; nodes_are = says.nodes_are }
+  -- the nodes of a head are those of its frame
+  own_mean : (at first size : ℕ) (head : given.Head) (own : List Node)
+      → (says : SaysFrame m deep bytes at first head own size) → AreNodesOf deep bytes says.frame own
+  own_mean at first size head own says =
+      let start = at + payload_place says.raw.kind in
+      let span : IsSpan bytes start (length says.raw.payload) says.raw.payload =
+      subst (λ (h : given.Head). IsSpan bytes h.start h.length says.raw.payload) says.head_is says.payload_is in
+      subst (AreNodesOf deep bytes says.frame) (sym says.nodes_are)
+      (listed_mean deep bytes says.raw.payload start says.raw.kind says.raw.channel says.frame span says.is)
+
+  frame_nodes : (at first size : ℕ) (head : given.Head) (own : List Node)
+      → (says : SaysFrame m deep bytes at first head own size) → HasNodes deep bytes says.frame own
+  frame_nodes at first size head own says = record {
+    encoded = take size (drop at bytes);
+    fits = IsBytes-take size (drop at bytes) (IsBytes-drop at bytes fits);
+    spelled = (frame_spelled at first size head own says).0;
+    nodes_are = own_mean at first size head own says;
+  }
 
   -- a frame whose nodes stand among others
-  frame_told : (at first size : ℕ) (head : given.Head) (nodes before own more : List Node) → nodes ≡ before ++ (own ++ more) → length before ≡ first → (says : SaysFrame m deep bytes at first head own size) → TellsFrame bytes nodes head says.frame
+  frame_told : (at first size : ℕ) (head : given.Head) (nodes before own more : List Node) → nodes ≡ before ++ (own ++ more)
+      → length before ≡ first → (says : SaysFrame m deep bytes at first head own size) → TellsFrame bytes nodes head says.frame
   frame_told at first size head nodes before own more parts place says =
       let frame = says.frame in
       let left = drop at bytes in
       let spelled = frame_spelled at first size head own says in
       let has = frame_nodes at first size head own says in
-      let front_is : outer (Some m) (take size left) ≡ took says.raw size = ap (outer (Some m)) (sym (append-nil (take size left))) ∙ outer-exact (Some m) left [] says.raw size says.found in
+      let front_is : outer (Some m) (take size left) ≡ took says.raw size =
+      ap (outer (Some m)) (sym (append-nil (take size left))) ∙ outer-exact (Some m) left [] says.raw size says.found in
       let behind : drop first nodes ≡ own ++ more = ap (drop first) parts ∙ drop_at before (own ++ more) first place in
       let taken : take (length own) (drop first nodes) ≡ own = ap (take (length own)) behind ∙ take_at own more (length own) refl in
       let within : first + length own ≤ length nodes = omega (arith, ap length parts, length-append before (own ++ more), length-append own more, place) in
-      let means = read_meant deep bytes has.encoded frame own fits has.fits has.spelled says.nodes_are in
-      let fields : TellsFields bytes nodes first (length own) frame = record { within = within; fields = subst (λ ns. AreNodes (TellsField bytes) (fields_of frame) ns) (sym taken) means } in
+      let means = read_meant deep bytes has.encoded frame own fits has.fits has.spelled has.nodes_are in
+      let fields : TellsFields bytes nodes first (length own) frame =
+      record { within = within; fields = subst (λ ns. AreNodes (TellsField bytes) (fields_of frame) ns) (sym taken) means } in
       let begin = at + payload_place says.raw.kind in
-      let span : IsSpan bytes begin (length says.raw.payload) says.raw.payload = subst (λ (h : given.Head). IsSpan bytes h.start h.length says.raw.payload) says.head_is says.payload_is in
-      let few : fields_of frame ≡ [] → length own ≡ 0 = λ none. ap length (subst (λ fs. AreNodes (MeansField deep bytes) fs own) none says.nodes_are) in
-      subst (λ h. TellsFrame bytes nodes h frame) (sym says.head_is) (typed_told bytes nodes begin first (length own) m (take size left) says.raw size frame spelled.0 spelled.1 front_is span few fields)
+      let span : IsSpan bytes begin (length says.raw.payload) says.raw.payload =
+      subst (λ (h : given.Head). IsSpan bytes h.start h.length says.raw.payload) says.head_is says.payload_is in
+      let few : fields_of frame ≡ [] → length own ≡ 0 = λ none. ap length (subst (λ fs. AreNodes (MeansField deep bytes) fs own) none has.nodes_are) in
+      subst (λ h. TellsFrame bytes nodes h frame) (sym says.head_is)
+      (typed_told bytes nodes begin first (length own) m (take size left) says.raw size frame spelled.0 spelled.1 front_is span few fields)
 
   -- the frames from a place on, which are in front of what is left there, and which the heads mean
   pub record ToldFrom (nodes : List Node) (at used : ℕ) (heads : List given.Head) (own : List Node) : Type 0 where
@@ -151,14 +195,25 @@ module _ (m : ℕ) (deep : Bool) (bytes : List ℕ) (fits : IsBytes bytes) where
     pub told : TellFrames bytes nodes heads frames
     pub nodes_are : HaveNodes deep bytes frames own
 
-  pub heads_told : (nodes : List Node) (at first used : ℕ) (heads : List given.Head) (before own more : List Node) → nodes ≡ before ++ (own ++ more) → length before ≡ first → SayFrames m deep bytes at first heads own used → ToldFrom nodes at used heads own
+  -- heads that say the frames from a place on mean these frames
+  pub heads_told : (nodes : List Node) (at first used : ℕ) (heads : List given.Head) (before own more : List Node)
+      → nodes ≡ before ++ (own ++ more) → length before ≡ first → SayFrames m deep bytes at first heads own used → ToldFrom nodes at used heads own
   heads_told nodes at first used [] before own more parts there says =
-      record { frames = []; count_is = refl; sequence = ap (λ a. front plain (Some m) (drop a bytes)) says.1; after = ap (λ a. place plain (Some m) (drop a bytes)) says.1; told = tt; nodes_are = says.0 }
+      record {
+        frames = [];
+        count_is = refl;
+        sequence = ap (λ a. front plain (Some m) (drop a bytes)) says.1;
+        after = ap (λ a. place plain (Some m) (drop a bytes)) says.1;
+        told = tt;
+        nodes_are = says.0;
+      }
   heads_told nodes at first used (head ∷ heads) before own more parts there says =
       let one = says.says in
       let next = ap (λ ns. before ++ (ns ++ more)) says.nodes_are in
       let each : nodes ≡ before ++ (says.own ++ (says.others ++ more)) = parts ∙ next ∙ ap (λ ns. before ++ ns) (append_assoc says.own says.others more) in
-      let rest = heads_told nodes (at + says.size) (first + length says.own) used heads (before ++ says.own) says.others more (each ∙ sym (append_assoc before says.own (says.others ++ more))) (length-append before says.own ∙ ap (λ k. k + length says.own) there) says.rest in
+      let rest =
+      heads_told nodes (at + says.size) (first + length says.own) used heads (before ++ says.own) says.others more
+      (each ∙ sym (append_assoc before says.own (says.others ++ more))) (length-append before says.own ∙ ap (λ k. k + length says.own) there) says.rest in
       let goes = front-got plain (Some m) (drop at bytes) one.frame says.size (verdict_whole m (drop at bytes) one.raw says.size one.frame one.found one.is) in
       let onward : drop says.size (drop at bytes) ≡ drop (at + says.size) bytes = drop-drop says.size at bytes in
       record {

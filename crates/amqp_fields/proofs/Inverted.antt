@@ -1,5 +1,6 @@
 -- What was made of parts that were made.
-use Rattle.std.proofs.Common.{◌≡◌, ℕ, ◌+◌, ◌<◌, ◌%◌, Bool, true, false, List, [], ◌∷◌, ◌++◌, length, take, drop, Some, None, Result, Ok, Err, refl, ap, ◌∙◌, arith, nat_lt, nat_le, if◌then◌else◌}
+use Rattle.std.proofs.Common.{◌≡◌, ℕ, ◌+◌, ◌<◌, ◌%◌, Bool, true, false, List, [], ◌∷◌, ◌++◌, length, take, drop, Some, None, Result, Ok, Err, refl, ap, ◌∙◌}
+use Rattle.std.proofs.Common.{arith, nat_lt, nat_le, if◌then◌else◌}
 use Rattle.std.proofs.lemmas.Bool.Decides.{nat_tests}
 use Rattle.std.proofs.lemmas.Str.{IsUtf8-from_is_utf8}
 use Rattle.std.specs.Str.{is_utf8}
@@ -28,11 +29,13 @@ after_ok (Err bad) second bytes h = absurd cc
 pub ok_is : {a b : List ℕ} → (◌≡◌ {A = Made} (Ok a) (Ok b)) → b ≡ a
 ok_is h = cc
 
-pub holds : {A : Type 0} (test : Bool) (made : Result A Refusal) (bad : Refusal) (bytes : A) → (if test then made else Err bad) ≡ Ok bytes → (test ≡ true) × (made ≡ Ok bytes)
+pub holds : {A : Type 0} (test : Bool) (made : Result A Refusal) (bad : Refusal) (bytes : A)
+    → (if test then made else Err bad) ≡ Ok bytes → (test ≡ true) × (made ≡ Ok bytes)
 holds true made bad bytes h = (refl, h)
 holds false made bad bytes h = absurd cc
 
-pub fails : {A : Type 0} (test : Bool) (made : Result A Refusal) (bad : Refusal) (bytes : A) → (if test then Err bad else made) ≡ Ok bytes → (test ≡ false) × (made ≡ Ok bytes)
+pub fails : {A : Type 0} (test : Bool) (made : Result A Refusal) (bad : Refusal) (bytes : A)
+    → (if test then Err bad else made) ≡ Ok bytes → (test ≡ false) × (made ≡ Ok bytes)
 fails true made bad bytes h = absurd cc
 fails false made bad bytes h = (refl, h)
 
@@ -75,17 +78,22 @@ pub record SpanMade (make : List ℕ → Made) (pool : List ℕ) (start count : 
   pub span : IsSpan pool start count content
   pub is : make content ≡ Ok bytes
 
-span_by : (make : List ℕ → Made) (node : ℕ) (pool : List ℕ) (start count : ℕ) (bytes : List ℕ) (test : Bool) → nat_le (start + count) (length pool) ≡ test → made_span make node (if test then Some (take count (drop start pool)) else None) ≡ Ok bytes → SpanMade make pool start count bytes
-span_by make node pool start count bytes true is h = record { content = take count (drop start pool); span = record { within = grind (arith, nat_tests, is); bytes_are = refl }; is = h }
+span_by : (make : List ℕ → Made) (node : ℕ) (pool : List ℕ) (start count : ℕ) (bytes : List ℕ) (test : Bool) → nat_le (start + count) (length pool) ≡ test
+    → made_span make node (if test then Some (take count (drop start pool)) else None) ≡ Ok bytes → SpanMade make pool start count bytes
+span_by make node pool start count bytes true is h =
+    record { content = take count (drop start pool); span = record { within = grind (arith, nat_tests, is); bytes_are = refl }; is = h }
 span_by make node pool start count bytes false is h = absurd cc
 
-pub span_ok : (make : List ℕ → Made) (node : ℕ) (pool : List ℕ) (start count : ℕ) (bytes : List ℕ) → made_span make node (span_in pool start count) ≡ Ok bytes → SpanMade make pool start count bytes
+pub span_ok : (make : List ℕ → Made) (node : ℕ) (pool : List ℕ) (start count : ℕ) (bytes : List ℕ)
+    → made_span make node (span_in pool start count) ≡ Ok bytes → SpanMade make pool start count bytes
 span_ok make node pool start count bytes h = span_by make node pool start count bytes (nat_le (start + count) (length pool)) refl h
 
-pub given_ok : {A : Type 0} (node : ℕ) (content : List ℕ) (read : Result (List A) Fault) (bytes : List ℕ) → made_given node content read ≡ Ok bytes → (things : List A) × (read ≡ Ok things) × SpellsLongString bytes content
+pub given_ok : {A : Type 0} (node : ℕ) (content : List ℕ) (read : Result (List A) Fault) (bytes : List ℕ)
+    → made_given node content read ≡ Ok bytes → (things : List A) × (read ≡ Ok things) × SpellsLongString bytes content
 given_ok node content (Ok things) bytes h = (things, refl, long_ok node content bytes h)
 given_ok node content (Err bad) bytes h = absurd cc
 
-pub closed_ok : (node : ℕ) (made : Made) (bytes : List ℕ) → closed node made ≡ Ok bytes → (content : List ℕ) × (made ≡ Ok content) × SpellsLongString bytes content
+pub closed_ok : (node : ℕ) (made : Made) (bytes : List ℕ) → closed node made ≡ Ok bytes
+    → (content : List ℕ) × (made ≡ Ok content) × SpellsLongString bytes content
 closed_ok node (Ok content) bytes h = (content, refl, long_ok node content bytes h)
 closed_ok node (Err bad) bytes h = absurd cc

@@ -13,7 +13,7 @@ pub mod FramesGiven
 pub mod Counted
 pub mod SlotSteps
 pub mod TopBits
-pub mod Within
+pub mod SpansLie
 pub mod Filling
 pub mod ContentsFound
 pub mod EqualNodes
@@ -36,10 +36,10 @@ pub mod GivenContent
 pub mod Suited
 pub mod SuitedFields
 pub mod SuitedFrames
+pub mod CanonicalMade
 pub mod Encoding
 pub mod ReadMeant
 pub mod OneSequence
-pub mod CanonicalMade
 pub mod HeadsTold
 pub mod SameNodes
 pub mod WrittenAgain

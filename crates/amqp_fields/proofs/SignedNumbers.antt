@@ -16,7 +16,8 @@ low_bits bytes2 n few = ap (cast_unsigned w64) (to_z_pos w16 n few)
 low_bits bytes4 n few = ap (cast_unsigned w64) (to_z_pos w32 n few)
 low_bits bytes8 n few = ap (cast_unsigned w64) (to_z_pos w64 n few)
 
-high_bits : (width : NumberWidth) (k : ℕ) → k < half_limit width → cast_unsigned w64 (cast_signed (width_of width) (number_limit width - suc k)) ≡ 2 ^ 64 - suc k
+high_bits : (width : NumberWidth) (k : ℕ) → k < half_limit width
+    → cast_unsigned w64 (cast_signed (width_of width) (number_limit width - suc k)) ≡ 2 ^ 64 - suc k
 high_bits bytes1 k below = ap (cast_unsigned w64) (to_z-neg w8 k below)
 high_bits bytes2 k below = ap (cast_unsigned w64) (to_z-neg w16 k below)
 high_bits bytes4 k below = ap (cast_unsigned w64) (to_z-neg w32 k below)
@@ -42,7 +43,8 @@ halves bytes8 = (omega arith, omega arith)
 
 -- ---- both ways
 
-pub signed_back : (width : NumberWidth) (n : ℕ) → (n < half_limit width) ⊎ ((2 ^ 64 - half_limit width ≤ n) × (n < 2 ^ 64)) → n ≡ cast_unsigned w64 (cast_signed (width_of width) (n % number_limit width))
+pub signed_back : (width : NumberWidth) (n : ℕ) → (n < half_limit width) ⊎ ((2 ^ 64 - half_limit width ≤ n) × (n < 2 ^ 64))
+    → n ≡ cast_unsigned w64 (cast_signed (width_of width) (n % number_limit width))
 signed_back width n (inl few) = sym (ap (λ k. cast_unsigned w64 (cast_signed (width_of width) k)) (low_rest width n few) ∙ low_bits width n few)
 signed_back width n (inr most) =
     let k = 2 ^ 64 - 1 - n in
@@ -52,7 +54,8 @@ signed_back width n (inr most) =
     let rest : n % number_limit width ≡ number_limit width - suc k = ap (λ m. m % number_limit width) (sym back) ∙ high_rest width k below in
     sym (ap (λ m. cast_unsigned w64 (cast_signed (width_of width) m)) rest ∙ high_bits width k below ∙ back)
 
-pub signed_bits : (width : NumberWidth) (bits number : ℕ) → bits < number_limit width → number ≡ cast_unsigned w64 (cast_signed (width_of width) bits) → (is_signed width number ≡ true) × (number % number_limit width ≡ bits)
+pub signed_bits : (width : NumberWidth) (bits number : ℕ) → bits < number_limit width
+    → number ≡ cast_unsigned w64 (cast_signed (width_of width) bits) → (is_signed width number ≡ true) × (number % number_limit width ≡ bits)
 signed_bits width bits number few is = elim (cases_lt bits (half_limit width)) [
   | inl low ↦ (
       let same : number ≡ bits = is ∙ low_bits width bits low in

@@ -2,14 +2,13 @@
 use Rattle.std.proofs.Common.{◌≡◌, ℕ, zero, suc, ◌+◌, ◌-◌, ◌<◌, ◌≤◌, ◌^◌, nat_lt, List, [], ◌∷◌, length, take, drop, refl, sym, ap, subst, ◌∙◌, arith}
 use Rattle.std.proofs.lemmas.Bool.Decides.{nat_tests}
 use Rattle.std.proofs.lemmas.List.{length-drop, length-take, length-take-le, drop-drop, drop-take, take-take, take_rest}
-use Rattle.amqp_types.proofs.Bytes.{IsBytes-drop, IsBytes-take}
 use Rattle.amqp_types.proofs.Took.{bind_took, guard_took, value_took, count_took}
-use Rattle.amqp_types.specs.Judging.{IsBytes, took}
+use Rattle.amqp_types.specs.Judging.{took}
 use Rattle.amqp_types.specs.Numbers.{NumberWidth, bytes4, byte_count, judge_number}
 use Rattle.amqp_types.specs.Strings.{judge_short_string, judge_long_string}
 use Rattle.amqp_canonical.specs.Writes.{key_in}
 use Rattle.amqp_canonical.proofs.ReadParts.{text_parts}
-use Rattle.amqp_fields.specs.Nodes.{cut, cut_byte}
+use Rattle.amqp_fields.specs.Nodes.{cut_byte}
 use Rattle.amqp_fields.specs.Meaning.{IsSpan}
 
 -- the bytes stand in the payload, and end at a place
@@ -17,28 +16,31 @@ pub record Stands (payload : List ℕ) (end : ℕ) (bytes : List ℕ) : Type 0 w
   pub within : end ≤ length payload
   pub fits : length bytes ≤ end
   pub is : take (length bytes) (drop (end - length bytes) payload) ≡ bytes
-  pub all : IsBytes payload
 
 -- a payload stands in itself
-pub itself : (payload : List ℕ) → IsBytes payload → Stands payload (length payload) payload
-itself payload all = record { all = all; within = omega arith; fits = omega arith; is = ap (λ k. take (length payload) (drop k payload)) {x = length payload - length payload} {y = 0} (omega arith) ∙ ap (λ k. take k payload) {x = length payload} {y = length payload - 0} (omega arith) ∙ take_rest payload 0 }
-
--- what stands among bytes are bytes
-pub stands_bytes : (payload bytes : List ℕ) (end : ℕ) → Stands payload end bytes → IsBytes bytes
-stands_bytes payload bytes end h = subst IsBytes h.is (IsBytes-take (length bytes) (drop (end - length bytes) payload) (IsBytes-drop (end - length bytes) payload h.all))
+pub itself : (payload : List ℕ) → Stands payload (length payload) payload
+itself payload =
+    record {
+      within = omega arith;
+      fits = omega arith;
+      is =
+          ap (λ k. take (length payload) (drop k payload)) {x = length payload - length payload} {y = 0} (omega arith)
+          ∙ ap (λ k. take k payload) {x = length payload} {y = length payload - 0} (omega arith) ∙ take_rest payload 0;
+    }
 
 -- so many bytes, after so many others
-pub stands_part : (payload bytes : List ℕ) (end k n : ℕ) → Stands payload end bytes → k + n ≤ length bytes → Stands payload (end - length (drop (k + n) bytes)) (take n (drop k bytes))
+pub stands_part : (payload bytes : List ℕ) (end k n : ℕ) → Stands payload end bytes
+    → k + n ≤ length bytes → Stands payload (end - length (drop (k + n) bytes)) (take n (drop k bytes))
 stands_part payload bytes end k n h few =
     let rest : length (drop (k + n) bytes) ≡ length bytes - (k + n) = length-drop (k + n) bytes in
     let size : length (take n (drop k bytes)) ≡ n = length-take-le n (drop k bytes) (omega (arith, length-drop k bytes, few)) in
     let start = end - length bytes in
     let m = length bytes - k in
     let whole : drop k bytes ≡ take m (drop (start + k) payload) =
-    ap (drop k) (sym h.is ∙ ap (λ l. take l (drop start payload)) {x = length bytes} {y = k + m} (omega (arith, few))) ∙ drop-take k m (drop start payload) ∙ ap (take m) (drop-drop k start payload) in
+    ap (drop k) (sym h.is ∙ ap (λ l. take l (drop start payload)) {x = length bytes} {y = k + m} (omega (arith, few)))
+    ∙ drop-take k m (drop start payload) ∙ ap (take m) (drop-drop k start payload) in
     let place : end - length (drop (k + n) bytes) - length (take n (drop k bytes)) ≡ start + k = omega (arith, rest, size, few, h.fits) in
     record {
-      all = h.all;
       within = omega (arith, h.within);
       fits = omega (arith, rest, size, few, h.fits);
       is = ap (λ l. take l (drop (end - length (drop (k + n) bytes) - length (take n (drop k bytes))) payload)) size ∙ ap (λ s. take n (drop s payload)) place
@@ -55,29 +57,13 @@ stands_drop payload bytes end k h few =
 
 -- ---- as spans
 
-pub cut_below : (n : ℕ) → n < 2 ^ 32 → cut n ≡ n
-cut_below n h = grind (arith, nat_tests)
+-- bytes that stand in the payload are a span of it
+pub span_of : (payload bytes : List ℕ) (end : ℕ) → Stands payload end bytes → IsSpan payload (end - length bytes) (length bytes) bytes
+span_of payload bytes end h = record { within = omega (arith, h.within, h.fits); bytes_are = h.is }
 
-pub span_of : (payload bytes : List ℕ) (end : ℕ) → length payload < 2 ^ 32 → Stands payload end bytes → IsSpan payload (cut (end - length bytes)) (cut (length bytes)) bytes
-span_of payload bytes end few h =
-    let start : cut (end - length bytes) ≡ end - length bytes = cut_below (end - length bytes) (omega (arith, few, h.within)) in
-    let count : cut (length bytes) ≡ length bytes = cut_below (length bytes) (omega (arith, few, h.within, h.fits)) in
-    record {
-      within = omega (arith, start, count, h.within, h.fits);
-      bytes_are = ap (λ k. take k (drop (cut (end - length bytes)) payload)) count ∙ ap (λ s. take (length bytes) (drop s payload)) start ∙ h.is;
-    }
-
+-- a place that a byte holds is not cut
 pub byte_below : (n : ℕ) → n < 256 → cut_byte n ≡ n
 byte_below n h = grind (arith, nat_tests)
-
-pub key_span_of : (payload bytes : List ℕ) (end : ℕ) → length payload < 2 ^ 32 → length bytes < 256 → Stands payload end bytes → IsSpan payload (cut (end - length bytes)) (cut_byte (length bytes)) bytes
-key_span_of payload bytes end few short h =
-    let start : cut (end - length bytes) ≡ end - length bytes = cut_below (end - length bytes) (omega (arith, few, h.within)) in
-    let count : cut_byte (length bytes) ≡ length bytes = byte_below (length bytes) short in
-    record {
-      within = omega (arith, start, count, h.within, h.fits);
-      bytes_are = ap (λ k. take k (drop (cut (end - length bytes)) payload)) count ∙ ap (λ s. take (length bytes) (drop s payload)) start ∙ h.is;
-    }
 
 -- ---- what strings are that were read
 
@@ -87,18 +73,22 @@ pub record IsPart (bytes content : List ℕ) (front used : ℕ) : Type 0 where
   pub within : used ≤ length bytes
   pub is : content ≡ take (length content) (drop front bytes)
 
-pub part_stands : (payload bytes content : List ℕ) (end front used : ℕ) → Stands payload end bytes → IsPart bytes content front used → Stands payload (end - length (drop used bytes)) content
+-- the content behind a length stands where the bytes after it begin
+pub part_stands : (payload bytes content : List ℕ) (end front used : ℕ) → Stands payload end bytes
+    → IsPart bytes content front used → Stands payload (end - length (drop used bytes)) content
 part_stands payload bytes content end front used h part =
     let stands = stands_part payload bytes end front (length content) h (omega (arith, part.used_is, part.within)) in
     let P : ℕ → Type 0 = λ u. Stands payload (end - length (drop u bytes)) (take (length content) (drop front bytes)) in
     subst (Stands payload (end - length (drop used bytes))) (sym part.is) (subst P (sym part.used_is) stands)
 
+-- a number takes as many bytes as its width
 pub number_took : (width : NumberWidth) (bytes : List ℕ) (x n : ℕ) → judge_number width bytes ≡ took x n → (n ≡ byte_count width) × (n ≤ length bytes)
 number_took width bytes x n h =
     let one = guard_took (nat_lt (length bytes) (byte_count width)) _ x n h in
     let size = count_took _ x (byte_count width) n one.1 in
     (sym size, let e = one.0 in grind (arith, nat_tests))
 
+-- a long string stands behind a length of 4 bytes
 pub long_part : (bytes content : List ℕ) (used : ℕ) → judge_long_string bytes ≡ took content used → IsPart bytes content 4 used
 unfolding judge_long_string
 long_part bytes content used h =
@@ -124,6 +114,7 @@ front_of (n ∷ bytes) k is few = sym (ap (λ j. take j bytes) is ∙ take_lengt
     take_length (suc n) [] = refl
     take_length (suc n) (x ∷ xs) = ap (λ (ys : List ℕ). x ∷ ys) (take_length n xs)
 
+-- a short string stands behind a length of 1 byte
 pub short_part : (bytes text : List ℕ) (used : ℕ) → judge_short_string bytes ≡ took text used → IsPart bytes text 1 used
 short_part bytes text used h =
     let parts = text_parts bytes text used h in
@@ -133,13 +124,3 @@ short_part bytes text used h =
       within = omega (arith, parts.1, parts.3);
       is = parts.0 ∙ front_of bytes (length text) size (omega (arith, size, parts.3));
     }
-
-key_length : (bytes : List ℕ) → IsBytes bytes → length (key_in bytes) < 256
-key_length [] fits = omega arith
-key_length (n ∷ bytes) fits = let byte : n < 256 = fits 0 in omega (arith, length-take n bytes, byte)
-
--- the length of a short string is a byte
-pub short_text : (payload bytes text : List ℕ) (end n : ℕ) → Stands payload end bytes → judge_short_string bytes ≡ took text n → length text < 256
-short_text payload bytes text end n h is =
-    let parts = text_parts bytes text n is in
-    omega (arith, key_length bytes (stands_bytes payload bytes end h), ap length parts.0)

@@ -1,5 +1,6 @@
 -- What strings are listed as: by what stands at the front of the bytes.
-use Rattle.std.proofs.Common.{◌≡◌, ℕ, ◌+◌, ◌-◌, ◌≤◌, ◌<◌, Bool, true, false, cond, List, [], ◌∷◌, length, get_or, take, drop, refl, sym, ap, subst, ◌∙◌, one-add, arith}
+use Rattle.std.proofs.Common.{◌≡◌, ℕ, ◌+◌, ◌-◌, ◌≤◌, ◌<◌, Bool, true, false, cond, List, [], ◌∷◌, length, get_or, take, drop, refl, sym}
+use Rattle.std.proofs.Common.{ap, subst, ◌∙◌, one-add, arith}
 use Rattle.std.specs.Prelude.{nat_lt}
 use Rattle.std.specs.Str.{is_utf8}
 use Rattle.std.proofs.lemmas.Bool.Decides.{nat_tests}
@@ -36,6 +37,7 @@ key_took n bytes key used h =
       rest_is = ap (λ k. drop k (n ∷ bytes)) (sym count ∙ one-add n);
     }
 
+-- a short string that is read is the key in front
 pub is_key : (i key : List ℕ) (used : ℕ) → judge_short_string i ≡ took key used → IsKey i key used
 unfolding judge_short_string
 is_key [] key used h = absurd cc
@@ -47,11 +49,13 @@ guarded : {A : Type 0} (short : Bool) (j : Judged A) → short ≡ true → IsRe
 guarded true j h read = read
 guarded false j h read = absurd cc
 
+-- where there is no byte, no short string is read
 pub no_length : (i : List ℕ) → length i < 1 → IsRead (judge_short_string i) → ⊥
 unfolding judge_short_string
 no_length [] few read = read
 no_length (n ∷ bytes) few read = absurd (omega arith)
 
+-- where its bytes are not all there, no short string is read
 pub too_short : (i : List ℕ) → 1 ≤ length i → length (drop 1 i) < get_or i 0 0 → IsRead (judge_short_string i) → ⊥
 unfolding judge_short_string
 too_short [] some far read = read
@@ -59,35 +63,46 @@ too_short (n ∷ bytes) some far read = guarded (nat_lt (length bytes) n) _ (gri
 
 -- ---- what is listed
 
-pub short_listed : (end : ℕ) (label node : Node) (i text rest : List ℕ) (at count more : ℕ) (old new : List Node) → text ≡ key_in i → rest ≡ after_key i → at ≡ end - length rest → node ≡ spanned label at text
-    → Grows (listing old count) (listing new more) (node ∷ []) → Lists (listed_span judge_short_string end label i) old count new (record { used = 1 + length text; count = more })
+-- a short string is listed by its span
+pub short_listed : (end : ℕ) (label node : Node) (i text rest : List ℕ) (at count more : ℕ) (old new : List Node)
+    → text ≡ key_in i → rest ≡ after_key i → at ≡ end - length rest → node ≡ spanned label at text
+    → Grows (listing old count) (listing new more) (node ∷ [])
+    → Lists (listed_span judge_short_string end label i) old count new (record { used = 1 + length text; count = more })
 unfolding listed_span
 short_listed end label node i text rest at count more old new is after place one h = by_key (judge_short_string i) (is_key i)
   where
-    by_key : (j : Judged (List ℕ)) → ((key : List ℕ) (n : ℕ) → j ≡ took key n → IsKey i key n) → Lists (j >>= λ x. took (spanned label (end_before end (drop x.1 i)) x.0 ∷ []) x.1) old count new (record { used = 1 + length text; count = more })
+    by_key : (j : Judged (List ℕ)) → ((key : List ℕ) (n : ℕ) → j ≡ took key n → IsKey i key n)
+        → Lists (j >>= λ x. took (spanned label (end_before end (drop x.1 i)) x.0 ∷ []) x.1) old count new (record { used = 1 + length text; count = more })
     by_key past each = tt
     by_key (fault bad) each = tt
     by_key (took key n) each =
         let k = each key n refl in
         let same : text ≡ key = is ∙ sym k.key_is in
         let behind : rest ≡ drop n i = after ∙ sym k.rest_is in
-        let it : node ≡ spanned label (end_before end (drop n i)) key = one ∙ ap (λ e. spanned label e text) (place ∙ ap (λ (xs : List ℕ). end - length xs) behind) ∙ ap (spanned label (end_before end (drop n i))) same in
+        let it : node ≡ spanned label (end_before end (drop n i)) key =
+        one ∙ ap (λ e. spanned label e text) (place ∙ ap (λ (xs : List ℕ). end - length xs) behind) ∙ ap (spanned label (end_before end (drop n i))) same in
         (omega (arith, k.used_is, ap length same), subst (λ (x : Node). Grows (listing old count) (listing new more) (x ∷ [])) it h)
 
+-- a long string takes 4 bytes more than it has
 pub long_size : (i content : List ℕ) (used : ℕ) → judge_long_string i ≡ took content used → used ≡ 4 + length content
 long_size i content used h = let part = long_part i content used h in part.used_is
 
-pub long_listed : (end : ℕ) (label node : Node) (i content : List ℕ) (used count more : ℕ) (old new : List Node) → judge_long_string i ≡ took content used → node ≡ spanned label (end - (length i - (4 + length content))) content
-    → Grows (listing old count) (listing new more) (node ∷ []) → Lists (listed_span judge_long_string end label i) old count new (record { used = used; count = more })
+-- a long string is listed by its span
+pub long_listed : (end : ℕ) (label node : Node) (i content : List ℕ) (used count more : ℕ) (old new : List Node)
+    → judge_long_string i ≡ took content used → node ≡ spanned label (end - (length i - (4 + length content))) content
+    → Grows (listing old count) (listing new more) (node ∷ [])
+    → Lists (listed_span judge_long_string end label i) old count new (record { used = used; count = more })
 unfolding listed_span
 long_listed end label node i content used count more old new is one h =
-    let P : Judged (List ℕ) → Type 0 = λ j. Lists (j >>= λ x. took (spanned label (end_before end (drop x.1 i)) x.0 ∷ []) x.1) old count new (record { used = used; count = more }) in
+    let P : Judged (List ℕ) → Type 0 =
+    λ j. Lists (j >>= λ x. took (spanned label (end_before end (drop x.1 i)) x.0 ∷ []) x.1) old count new (record { used = used; count = more }) in
     let place : end - (length i - (4 + length content)) ≡ end_before end (drop used i) = omega (arith, long_size i content used is, length-drop used i) in
     let it : node ≡ spanned label (end_before end (drop used i)) content = one ∙ ap (λ e. spanned label e content) place in
     subst P (sym is) (refl, subst (λ (x : Node). Grows (listing old count) (listing new more) (x ∷ [])) it h)
 
 -- where nothing was read, nothing needs to be listed
-pub unlisted : (judge : Judge (List ℕ)) (end : ℕ) (label : Node) (i : List ℕ) (old new : List Node) (count : ℕ) (step : Step) → (IsRead (judge i) → ⊥) → Lists (listed_span judge end label i) old count new step
+pub unlisted : (judge : Judge (List ℕ)) (end : ℕ) (label : Node) (i : List ℕ) (old new : List Node) (count : ℕ) (step : Step)
+    → (IsRead (judge i) → ⊥) → Lists (listed_span judge end label i) old count new step
 unfolding listed_span
 unlisted judge end label i old new count step h = by_cases (judge i) h
   where

@@ -1,8 +1,9 @@
--- Frames that are meant are made, unless a length is too great.
-use Rattle.std.proofs.Common.{◌≡◌, ℕ, suc, ◌+◌, ◌<◌, ◌≤◌, ◌^◌, ◌%◌, ◌==◌, ◌&&◌, Bool, true, false, List, [], ◌∷◌, ◌++◌, length, map, take, drop, Option, Some, None, unwrap_or, Result, Ok, Err, refl, sym, ap, ap₂, subst, ◌∙◌, append_assoc, arith, nat_lt, nat_le, if◌then◌else◌}
+-- Frames that are meant are made, or the first of them is refused whose payload or a content in it is too long.
+use Rattle.std.proofs.Common.{◌≡◌, ℕ, suc, ◌+◌, ◌<◌, ◌≤◌, ◌^◌, ◌%◌, ◌==◌, ◌&&◌, Bool, true, false, List, [], ◌∷◌, ◌++◌, length, map, take, drop, Option, Some}
+use Rattle.std.proofs.Common.{None, unwrap_or, Result, Ok, Err, refl, sym, ap, ap₂, subst, ◌∙◌, append_assoc, arith, inl, inr, nat_lt, nat_le, if◌then◌else◌}
 use Rattle.std.specs.Prelude.{is_some}
 use Rattle.std.proofs.lemmas.Bool.Decides.{nat_tests}
-use Rattle.amqp_types.specs.Levels.{Level}
+use Rattle.amqp_types.specs.Levels.{Level, plain}
 use Rattle.amqp_types.specs.Judging.{IsBytes}
 use Rattle.amqp_types.specs.Numbers.{bytes1, bytes2, number_bytes}
 use Rattle.amqp_types.specs.Flags.{flag_at}
@@ -23,13 +24,17 @@ use Rattle.amqp_wire.specs.Spelling.{IsFramed, IsWithin, Spells, SpellsFrames, f
 use Rattle.amqp_wire.proofs.Sizes.{framed_length}
 use Rattle.amqp_fields.specs.declared.head.Head as given
 use Rattle.amqp_fields.specs.declared.node.Node.{Node}
+use Rattle.amqp_fields.specs.declared.refusals.Refusal.{Refusal}
 use Rattle.amqp_fields.specs.declared.refusals.WriteError.{WriteError}
+use Rattle.amqp_fields.specs.declared.refusals.WriteError.TheVariants as failures
+use Rattle.amqp_fields.specs.declared.refusals.WriteRefusal.{WriteRefusal}
 use Rattle.amqp_fields.specs.declared.refusals.WriteRefusal.TheVariants as whys
 use Rattle.amqp_fields.specs.Listed.{next_place, version_slots}
-use Rattle.amqp_fields.specs.Made.{Made, after, made_span, misfit, refuse, span_in}
+use Rattle.amqp_fields.specs.Made.{Made, after, made_span, misfit, refusal, refuse, span_in}
 use Rattle.amqp_fields.specs.MadeFields.{group_size, is_next, made_field, made_none, made_properties, made_set, made_slots, set_at}
-use Rattle.amqp_fields.specs.MadeFrames.{at_head, has_no_ids, header_front, is_held, made_around, made_beat, made_body, made_frame, made_frames, made_header, made_known, made_method, made_own, made_payload, made_typed, made_version, nodes_in}
-use Rattle.amqp_fields.specs.Making.{RefusesLength, Suits}
+use Rattle.amqp_fields.specs.MadeFrames.{at_head, has_no_ids, header_front, is_held, made_around, made_beat, made_body, made_frame, made_frames, made_header}
+use Rattle.amqp_fields.specs.MadeFrames.{made_known, made_method, made_own, made_payload, made_typed, made_version, nodes_in}
+use Rattle.amqp_fields.specs.Making.{IsFirstRefused, RefusesFirst, RefusesHead, RefusesLong, SpellsPayloadOf, Suits}
 use Rattle.amqp_fields.specs.Meaning.{AreNodes, IsSpan, fields_from, fields_of, kinds_in, set_fields}
 use Rattle.amqp_fields.specs.Meant.{HasNoIds, IsMethod, TellFrames, TellsField, TellsFields, TellsFrame, TellsTyped}
 use Rattle.amqp_fields.proofs.AtLevel.{beat_at, from_tidy}
@@ -37,22 +42,25 @@ use Rattle.amqp_fields.proofs.FramesTold.{front_spelled}
 use Rattle.amqp_fields.proofs.Ordered.{InOrder, each_with, order_taken}
 use Rattle.amqp_fields.proofs.PayloadsFound.{few_fields, few_spare, fourteen}
 use Rattle.amqp_fields.proofs.Spans.{byte_below}
-use Rattle.amqp_fields.proofs.Suited.{Fits, after_fits, as_fits, fits_into, ok_fits, span_fits_in}
+use Rattle.amqp_fields.proofs.Suited.{Fits, IsLongBy, after_fits, as_fits, behind_long, fits_for, fits_into, ok_fits, span_fits_in}
 use Rattle.amqp_fields.proofs.SuitedFields.{IsOne, Means, field_fits, slots_fit}
 
 -- ---- properties
 
+-- none of these properties is flags
 abbrev pub AreOne : List Property → Type 0
 AreOne [] = Unit {0}
 AreOne (p ∷ ps) = IsOne p.form × AreOne ps
 
+-- none of all properties is
 pub all_one : AreOne properties
 unfolding properties later_properties
 all_one = (tt, (tt, (tt, (tt, (tt, (tt, (tt, (tt, (tt, (tt, (tt, (tt, (tt, (tt, tt))))))))))))))
 
 module _ (level : Level) (pool : List ℕ) (fits : IsBytes pool) where
   -- the nodes of properties from a place on are not at a place before it
-  later_place : (before place : ℕ) (ps : List Property) (options : List (Option Item)) (nodes : List Node) → before < place → AreNodes (Means level pool) (set_fields place ps options) nodes → is_next before nodes ≡ false
+  later_place : (before place : ℕ) (ps : List Property) (options : List (Option Item)) (nodes : List Node)
+      → before < place → AreNodes (Means level pool) (set_fields place ps options) nodes → is_next before nodes ≡ false
   later_place before place [] options nodes less h = ap (is_next before) h
   later_place before place (p ∷ ps) [] nodes less h = ap (is_next before) h
   later_place before place (p ∷ ps) (None ∷ options) nodes less h = later_place before (place + 1) ps options nodes (omega (arith, less)) h
@@ -62,30 +70,46 @@ module _ (level : Level) (pool : List ℕ) (fits : IsBytes pool) where
 
   record SetFits (end place : ℕ) (ps : List Property) (options : List (Option Item)) (nodes : List Node) : Type 0 where
     chosen : map is_some (set_at place ps nodes) ≡ map is_some options
-    made : (mask : ℕ) → set_flags mask ps ≡ map is_some options → Fits (made_set pool end place ps nodes) (λ bytes. SpellsSet level mask ps bytes options)
+    made : (mask : ℕ) → set_flags mask ps ≡ map is_some options → Fits (IsLongBy level pool end nodes) (made_set pool end place ps nodes)
+        (λ bytes. SpellsSet level mask ps bytes options)
 
-  none_fits : (end : ℕ) (nodes : List Node) {P : List ℕ → Type 0} → nodes ≡ [] → P [] → Fits (made_none end nodes) P
-  none_fits end nodes {P} none p = subst (λ ns. Fits (made_none end ns) P) (sym none) (ok_fits [] p)
+  none_fits : {Why : Refusal → Type 0} (end : ℕ) (nodes : List Node) {P : List ℕ → Type 0} → nodes ≡ [] → P [] → Fits Why (made_none end nodes) P
+  none_fits {Why} end nodes {P} none p = subst (λ ns. Fits Why (made_none end ns) P) (sym none) (ok_fits [] p)
 
-  past_eq : (end place : ℕ) (p : Property) (ps : List Property) (nodes : List Node) → place + 1 < 256 → is_next place nodes ≡ false → (set_at place (p ∷ ps) nodes ≡ None ∷ set_at (place + 1) ps nodes) × (made_set pool end place (p ∷ ps) nodes ≡ made_set pool end (place + 1) ps nodes)
+  past_eq : (end place : ℕ) (p : Property) (ps : List Property) (nodes : List Node) → place + 1 < 256 → is_next place nodes ≡ false
+      → (set_at place (p ∷ ps) nodes ≡ None ∷ set_at (place + 1) ps nodes) × (made_set pool end place (p ∷ ps) nodes ≡ made_set pool end (place + 1) ps nodes)
   unfolding made_set set_at
   past_eq end place p ps nodes room off =
       let next : next_place place 1 ≡ place + 1 = byte_below (place + 1) room in (
-        ap (λ test. if test then Some (number_item 0) ∷ set_at (next_place place 1) ps (drop (group_size nodes) nodes) else None ∷ set_at (next_place place 1) ps nodes) off ∙ ap (λ k. None ∷ set_at k ps nodes) next,
-        ap (λ test. if test then after (made_field pool end place p.form nodes) (made_set pool end (next_place place 1) ps (drop (group_size nodes) nodes)) else made_set pool end (next_place place 1) ps nodes) off ∙ ap (λ k. made_set pool end k ps nodes) next,
+        ap (λ test. if test then Some (number_item 0) ∷ set_at (next_place place 1) ps (drop (group_size nodes) nodes)
+            else None ∷ set_at (next_place place 1) ps nodes)
+            off
+            ∙ ap (λ k. None ∷ set_at k ps nodes) next,
+        ap (λ test. if test then after (made_field pool end place p.form nodes) (made_set pool end (next_place place 1) ps (drop (group_size nodes) nodes))
+            else made_set pool end (next_place place 1) ps nodes)
+            off
+            ∙ ap (λ k. made_set pool end k ps nodes) next,
       )
 
-  here_eq : (end place : ℕ) (p : Property) (ps : List Property) (nodes left : List Node) → place + 1 < 256 → is_next place nodes ≡ true → left ≡ drop (group_size nodes) nodes
-      → (set_at place (p ∷ ps) nodes ≡ Some (number_item 0) ∷ set_at (place + 1) ps left) × (made_set pool end place (p ∷ ps) nodes ≡ after (made_field pool end place p.form nodes) (made_set pool end (place + 1) ps left))
+  here_eq : (end place : ℕ) (p : Property) (ps : List Property) (nodes left : List Node)
+      → place + 1 < 256 → is_next place nodes ≡ true → left ≡ drop (group_size nodes) nodes
+      → (set_at place (p ∷ ps) nodes ≡ Some (number_item 0) ∷ set_at (place + 1) ps left)
+      × (made_set pool end place (p ∷ ps) nodes ≡ after (made_field pool end place p.form nodes) (made_set pool end (place + 1) ps left))
   unfolding made_set set_at
   here_eq end place p ps nodes left room on is =
       let next : next_place place 1 ≡ place + 1 = byte_below (place + 1) room in (
-        ap (λ test. if test then Some (number_item 0) ∷ set_at (next_place place 1) ps (drop (group_size nodes) nodes) else None ∷ set_at (next_place place 1) ps nodes) on ∙ ap₂ (λ k ns. Some (number_item 0) ∷ set_at k ps ns) next (sym is),
-        ap (λ test. if test then after (made_field pool end place p.form nodes) (made_set pool end (next_place place 1) ps (drop (group_size nodes) nodes)) else made_set pool end (next_place place 1) ps nodes) on
+        ap (λ test. if test then Some (number_item 0) ∷ set_at (next_place place 1) ps (drop (group_size nodes) nodes)
+            else None ∷ set_at (next_place place 1) ps nodes)
+            on
+            ∙ ap₂ (λ k ns. Some (number_item 0) ∷ set_at k ps ns) next (sym is),
+        ap (λ test. if test then after (made_field pool end place p.form nodes) (made_set pool end (next_place place 1) ps (drop (group_size nodes) nodes))
+            else made_set pool end (next_place place 1) ps nodes)
+            on
             ∙ ap₂ (λ k ns. after (made_field pool end place p.form nodes) (made_set pool end k ps ns)) next (sym is),
       )
 
-  set_fit : (end place : ℕ) (ps : List Property) (options : List (Option Item)) (nodes : List Node) → place + length ps < 256 → AreOne ps → length options ≡ length ps → AreNodes (Means level pool) (set_fields place ps options) nodes → SetFits end place ps options nodes
+  set_fit : (end place : ℕ) (ps : List Property) (options : List (Option Item)) (nodes : List Node) → place + length ps < 256 → AreOne ps
+      → length options ≡ length ps → AreNodes (Means level pool) (set_fields place ps options) nodes → SetFits end place ps options nodes
   unfolding made_set set_at
   set_fit end place [] [] nodes room one number h = record { chosen = refl; made = λ mask flags. none_fits end nodes h (refl, refl) }
   set_fit end place [] (option ∷ options) nodes room one number h = absurd (omega (arith, number))
@@ -100,11 +124,22 @@ module _ (level : Level) (pool : List ℕ) (fits : IsBytes pool) where
             let bit : flag_at mask p.bit ≡ false = cc in
             let others : set_flags mask ps ≡ map is_some options = cc in
             fits_into (made_set pool end place (p ∷ ps) nodes)
-            (λ bytes spelled. record { front = []; behind = bytes; one = None; two = options; bytes_are = refl; first_is = subst (λ present. SpellsOptional level present p.form [] None) (sym bit) (refl, refl); second_is = spelled; joined = refl })
+            (λ bytes spelled.
+            record {
+              front = [];
+              behind = bytes;
+              one = None;
+              two = options;
+              bytes_are = refl;
+              first_is = subst (λ present. SpellsOptional level present p.form [] None) (sym bit) (refl, refl);
+              second_is = spelled;
+              joined = refl;
+            })
             (as_fits (made_set pool end place (p ∷ ps) nodes) (made_set pool end (place + 1) ps nodes) past.1 (more.made mask others));
       }
   set_fit end place (p ∷ ps) (Some item ∷ options) nodes room one number h =
-      let found = field_fits level pool fits end place p.form item nodes (λ others. AreNodes (Means level pool) (set_fields (place + 1) ps options) others) one.0 h in
+      let found =
+      field_fits level pool fits end place p.form item nodes (λ others. AreNodes (Means level pool) (set_fields (place + 1) ps options) others) one.0 h in
       let first : (h.node.place == place) ≡ true = grind (arith, nat_tests, h.means.0.place_is) in
       let on : is_next place nodes ≡ true = ap (is_next place) h.nodes_are ∙ first in
       let here = here_eq end place p ps nodes h.others (omega (arith, room)) on found.1 in
@@ -122,40 +157,58 @@ module _ (level : Level) (pool : List ℕ) (fits : IsBytes pool) where
               one = Some item;
               two = options;
               bytes_are = refl;
-              first_is = subst (λ present. SpellsOptional level present p.form a (Some item)) (sym bit) (record { thing = item ∷ []; spelled = spelled; made = refl });
+              first_is =
+                  subst (λ present. SpellsOptional level present p.form a (Some item)) (sym bit) (record { thing = item ∷ []; spelled = spelled; made = refl });
               second_is = rest;
               joined = refl;
-            }) found.0 (more.made mask others));
+            }) found.0
+            (fits_for (made_set pool end (place + 1) ps h.others) (λ bad why. behind_long (h.node ∷ h.inside) h.nodes_are why) (more.made mask others)));
       }
 
   map_length : (options : List (Option Item)) → length (map is_some options) ≡ length options
   map_length [] = refl
   map_length (option ∷ options) = ap suc (map_length options)
 
-  properties_fit : (end : ℕ) (options : List (Option Item)) (nodes : List Node) → length options ≡ length properties → AreNodes (Means level pool) (set_fields 0 properties options) nodes → Fits (made_properties pool end nodes) (λ bytes. SpellsProperties level bytes options)
+  properties_fit : (end : ℕ) (options : List (Option Item)) (nodes : List Node)
+      → length options ≡ length properties → AreNodes (Means level pool) (set_fields 0 properties options) nodes
+      → Fits (IsLongBy level pool end nodes) (made_properties pool end nodes) (λ bytes. SpellsProperties level bytes options)
   unfolding made_properties
   properties_fit end options nodes number h =
       let set = set_fit end 0 properties options nodes (omega (arith, fourteen)) all_one number h in
       let mask = mask_of properties (set_at 0 properties nodes) in
       let count : length (map is_some options) ≡ 14 = map_length options ∙ number ∙ fourteen in
-      let is : IsMaskOf mask (map is_some options) = subst (λ m. IsMaskOf m (map is_some options)) (sym (mask_of-flags properties (set_at 0 properties nodes) ∙ ap (flags_mask properties) set.chosen)) (flags_mask_is (map is_some options) count) in
+      let is : IsMaskOf mask (map is_some options) =
+      subst (λ m. IsMaskOf m (map is_some options)) (sym (mask_of-flags properties (set_at 0 properties nodes) ∙ ap (flags_mask properties) set.chosen))
+      (flags_mask_is (map is_some options) count) in
       after_fits (Ok (number_bytes bytes2 mask)) (made_set pool end 0 properties nodes) {P = λ bytes. bytes ≡ number_bytes bytes2 mask}
-      (λ a b p q. record { mask = mask; behind = b; fits = is.fits; bytes_are = ap (λ bs. bs ++ b) p; set = q; unused = from_tidy level (is.second, is.lowest) }) (ok_fits (number_bytes bytes2 mask) refl) (set.made mask is.set)
+      (λ a b p q.
+      record { mask = mask; behind = b; fits = is.fits; bytes_are = ap (λ bs. bs ++ b) p; set = q; unused = from_tidy level (is.second, is.lowest) })
+      (ok_fits (number_bytes bytes2 mask) refl) (set.made mask is.set)
 
   -- ---- payloads
 
-  own_fits : (make : List Node → Made) (nodes : List Node) (head : given.Head) {P : List ℕ → Type 0} → head.first + head.nodes ≤ length nodes → Fits (make (take head.nodes (drop head.first nodes))) P → Fits (made_own make (nodes_in nodes head)) P
-  own_fits make nodes head {P} within h =
+  own_fits : {Why : Refusal → Type 0} (make : List Node → Made) (nodes : List Node) (head : given.Head) {P : List ℕ → Type 0}
+      → head.first + head.nodes ≤ length nodes
+      → Fits Why (make (take head.nodes (drop head.first nodes))) P → Fits Why (made_own make (nodes_in nodes head)) P
+  own_fits {Why} make nodes head {P} within h =
       let le : nat_le (head.first + head.nodes) (length nodes) ≡ true = grind (arith, nat_tests, within) in
-      subst (λ test. Fits (made_own make (if test then Some (take head.nodes (drop head.first nodes)) else None)) P) (sym le) h
+      subst (λ test. Fits Why (made_own make (if test then Some (take head.nodes (drop head.first nodes)) else None)) P) (sym le) h
 
-  test_fits : (test : Bool) (made other : Made) {P : List ℕ → Type 0} → test ≡ true → Fits made P → Fits (if test then made else other) P
-  test_fits test made other {P} is h = subst (λ t. Fits (if t then made else other) P) (sym is) h
+  test_fits : {Why : Refusal → Type 0} (test : Bool) (made other : Made) {P : List ℕ → Type 0}
+      → test ≡ true → Fits Why made P → Fits Why (if test then made else other) P
+  test_fits {Why} test made other {P} is h = subst (λ t. Fits Why (if t then made else other) P) (sym is) h
 
   free_ids : (head : given.Head) → HasNoIds head → has_no_ids head ≡ true
   free_ids head h = grind (arith, nat_tests, h.0, h.1, h.2)
 
-  method_fits : (nodes : List Node) (head : given.Head) (channel : ℕ) (m : Method) → InOrder level pool nodes → head.class_id ≡ m.class → head.method_id ≡ m.id → head.body_size ≡ 0 → IsMethod m → TellsFields pool nodes head.first head.nodes (Meth channel m) → Fits (made_method pool nodes head) (λ bytes. SpellsPayload level bytes m)
+  -- a content of one of the nodes of a head is too long
+  abbrev IsOwn : List Node → given.Head → Refusal → Type 0
+  IsOwn nodes head bad = IsLongBy level pool (head.first + head.nodes) (take head.nodes (drop head.first nodes)) bad
+
+  method_fits : (nodes : List Node) (head : given.Head) (channel : ℕ) (m : Method) → InOrder level pool nodes
+      → head.class_id ≡ m.class → head.method_id ≡ m.id → head.body_size ≡ 0 → IsMethod m
+      → TellsFields pool nodes head.first head.nodes (Meth channel m)
+      → Fits (IsOwn nodes head) (made_method pool nodes head) (λ bytes. SpellsPayload level bytes m)
   unfolding made_method fields_of
   method_fits nodes head channel m order class id free is h =
       let slots = is.slots in
@@ -164,12 +217,17 @@ module _ (level : Level) (pool : List ℕ) (fits : IsBytes pool) where
       let known : slots_at head.class_id head.method_id ≡ Some slots = ap₂ (λ a b. slots_at a b) class id ∙ is.known in
       let table = in_table m.class m.id slots is.known in
       let kinds : kinds_in (unwrap_or (slots_at m.class m.id) []) ≡ kinds_in slots = ap (λ o. kinds_in (unwrap_or o [])) is.known in
-      let means = each_with level pool (TellsField pool) (fields_from 0 (kinds_in slots) m.items) own (order_taken level pool nodes head.first head.nodes order) (subst (λ ks. AreNodes (TellsField pool) (fields_from 0 ks m.items) own) kinds h.fields) in
+      let means =
+      each_with level pool (TellsField pool) (fields_from 0 (kinds_in slots) m.items) own (order_taken level pool nodes head.first head.nodes order)
+      (subst (λ ks. AreNodes (TellsField pool) (fields_from 0 ks m.items) own) kinds h.fields) in
       let few = few_fields m.class m.id slots is.known in
-      let slots_made = slots_fit level pool fits (head.first + head.nodes) 0 slots m.items own (omega (arith, few)) (few_spare m.class m.id slots is.known) table.least is.number means in
+      let slots_made =
+      slots_fit level pool fits (head.first + head.nodes) 0 slots m.items own
+      (omega (arith, few)) (few_spare m.class m.id slots is.known) table.least is.number means in
       let free_is : (head.body_size == 0) ≡ true = grind (arith, nat_tests, free) in
       let make : List Node → Made = λ own. after (Ok ids) (made_slots pool (head.first + head.nodes) 0 slots own) in
-      as_fits (made_known pool nodes head (slots_at head.class_id head.method_id)) (made_known pool nodes head (Some slots)) (ap (made_known pool nodes head) known)
+      as_fits (made_known pool nodes head (slots_at head.class_id head.method_id))
+      (made_known pool nodes head (Some slots)) (ap (made_known pool nodes head) known)
       (test_fits (head.body_size == 0) (made_own make (nodes_in nodes head)) (misfit 0) free_is
       (own_fits make nodes head h.within
       (after_fits (Ok ids) (made_slots pool (head.first + head.nodes) 0 slots own) {P = λ bytes. bytes ≡ ids}
@@ -179,21 +237,28 @@ module _ (level : Level) (pool : List ℕ) (fits : IsBytes pool) where
         id_bytes = number_bytes bytes2 m.id;
         slot_bytes = b;
         known = is.known;
-        bytes_are = ap (λ bs. bs ++ b) (p ∙ ap₂ (λ x y. number_bytes bytes2 x ++ number_bytes bytes2 y) class id) ∙ append_assoc (number_bytes bytes2 m.class) (number_bytes bytes2 m.id) b;
+        bytes_are =
+            ap (λ bs. bs ++ b) (p ∙ ap₂ (λ x y. number_bytes bytes2 x ++ number_bytes bytes2 y) class id)
+            ∙ append_assoc (number_bytes bytes2 m.class) (number_bytes bytes2 m.id) b;
         class_is = record { fits = table.class_fits; bytes_are = refl };
         id_is = record { fits = table.id_fits; bytes_are = refl };
         slots_are = q;
       }) (ok_fits ids refl) slots_made)))
 
-  header_fits : (nodes : List Node) (head : given.Head) (channel : ℕ) (header : ContentHeader) → InOrder level pool nodes → head.class_id < 2 ^ 16 → head.body_size < 2 ^ 64 → head.class_id ≡ header.class_id → head.method_id ≡ 0 → head.body_size ≡ header.body_size → length header.options ≡ length properties
-      → TellsFields pool nodes head.first head.nodes (Head channel header) → Fits (made_header pool nodes head) (λ bytes. SpellsContentHeader level bytes header)
+  header_fits : (nodes : List Node) (head : given.Head) (channel : ℕ) (header : ContentHeader)
+      → InOrder level pool nodes → head.class_id < 2 ^ 16 → head.body_size < 2 ^ 64 → head.class_id ≡ header.class_id
+      → head.method_id ≡ 0 → head.body_size ≡ header.body_size → length header.options ≡ length properties
+      → TellsFields pool nodes head.first head.nodes (Head channel header)
+      → Fits (IsOwn nodes head) (made_header pool nodes head) (λ bytes. SpellsContentHeader level bytes header)
   unfolding made_header fields_of
   header_fits nodes head channel header order class_fits size_fits class free size number h =
       let own = take head.nodes (drop head.first nodes) in
       let free_is : (head.method_id == 0) ≡ true = grind (arith, nat_tests, free) in
       let make : List Node → Made = λ own. after (Ok (header_front head)) (made_properties pool (head.first + head.nodes) own) in
-      let means = each_with level pool (TellsField pool) (set_fields 0 properties header.options) own (order_taken level pool nodes head.first head.nodes order) h.fields in
-      let same : header_of_parts (number_item head.class_id ∷ number_item head.body_size ∷ []) header.options ≡ header = ap₂ (λ a b. header_of_parts (number_item a ∷ number_item b ∷ []) header.options) class size in
+      let means =
+      each_with level pool (TellsField pool) (set_fields 0 properties header.options) own (order_taken level pool nodes head.first head.nodes order) h.fields in
+      let same : header_of_parts (number_item head.class_id ∷ number_item head.body_size ∷ []) header.options ≡ header =
+      ap₂ (λ a b. header_of_parts (number_item a ∷ number_item b ∷ []) header.options) class size in
       test_fits (head.method_id == 0) (made_own make (nodes_in nodes head)) (misfit 0) free_is
       (own_fits make nodes head h.within
       (after_fits (Ok (header_front head)) (made_properties pool (head.first + head.nodes) own) {P = λ bytes. bytes ≡ header_front head}
@@ -208,13 +273,15 @@ module _ (level : Level) (pool : List ℕ) (fits : IsBytes pool) where
         joined = sym same;
       }) (ok_fits (header_front head) refl) (properties_fit (head.first + head.nodes) header.options own number means)))
 
-  body_fits : (head : given.Head) (content : List ℕ) → HasNoIds head → head.nodes ≡ 0 → IsSpan pool head.start head.length content → Fits (made_body pool head) (λ bytes. bytes ≡ content)
+  body_fits : {Why : Refusal → Type 0} (head : given.Head) (content : List ℕ) → HasNoIds head → head.nodes ≡ 0
+      → IsSpan pool head.start head.length content → Fits Why (made_body pool head) (λ bytes. bytes ≡ content)
   unfolding made_body
   body_fits head content free none span =
       let is : (has_no_ids head && (head.nodes == 0)) ≡ true = grind (arith, nat_tests, free_ids head free, none) in
-      test_fits (has_no_ids head && (head.nodes == 0)) (made_span (λ content. Ok content) 0 (span_in pool head.start head.length)) (misfit 0) is (span_fits_in (λ content. Ok content) 0 pool content head.start head.length span (ok_fits content refl))
+      test_fits (has_no_ids head && (head.nodes == 0)) (made_span (λ content. Ok content) 0 (span_in pool head.start head.length))
+      (misfit 0) is (span_fits_in (λ content. Ok content) 0 pool content head.start head.length span (ok_fits content refl))
 
-  beat_fits : (head : given.Head) → HasNoIds head → head.nodes ≡ 0 → Fits (made_beat head) (λ bytes. bytes ≡ [])
+  beat_fits : {Why : Refusal → Type 0} (head : given.Head) → HasNoIds head → head.nodes ≡ 0 → Fits Why (made_beat head) (λ bytes. bytes ≡ [])
   unfolding made_beat
   beat_fits head free none =
       let is : (has_no_ids head && (head.nodes == 0)) ≡ true = grind (arith, nat_tests, free_ids head free, none) in
@@ -225,7 +292,9 @@ module _ (level : Level) (pool : List ℕ) (fits : IsBytes pool) where
   small_octet : (n : ℕ) → n < 2 ^ 8 → number_bytes bytes1 n ≡ n ∷ []
   small_octet n few = ap (λ k. k ∷ []) {x = n % 256} {y = n} (omega (arith, few))
 
-  octet_bytes : (slots : List Slot) (bytes : List ℕ) (n : ℕ) (others : List Item) → SpellsSlots level (kept_slot (number_form bytes1) ∷ slots) bytes (number_item n ∷ others) → (rest : List ℕ) × (bytes ≡ n ∷ rest) × SpellsSlots level slots rest others
+  octet_bytes : (slots : List Slot) (bytes : List ℕ) (n : ℕ) (others : List Item)
+      → SpellsSlots level (kept_slot (number_form bytes1) ∷ slots) bytes (number_item n ∷ others)
+      → (rest : List ℕ) × (bytes ≡ n ∷ rest) × SpellsSlots level slots rest others
   octet_bytes slots bytes n others h =
       let items : number_item n ∷ others ≡ number_item h.first_is.thing ∷ h.two = h.joined ∙ ap (λ xs. xs ++ h.two) h.first_is.made in
       let same : n ≡ h.first_is.thing = cc in
@@ -233,53 +302,89 @@ module _ (level : Level) (pool : List ℕ) (fits : IsBytes pool) where
       let front : h.front ≡ n ∷ [] = h.first_is.spelled.bytes_are ∙ small_octet h.first_is.thing h.first_is.spelled.fits ∙ ap (λ k. k ∷ []) (sym same) in
       (h.behind, h.bytes_are ∙ ap (λ bs. bs ++ h.behind) front, subst (λ xs. SpellsSlots level slots h.behind xs) (sym left) h.second_is)
 
-  version_bytes : (major minor revision : ℕ) (bytes : List ℕ) → SpellsSlots level version_slots bytes (number_item major ∷ number_item minor ∷ number_item revision ∷ []) → bytes ≡ major ∷ minor ∷ revision ∷ []
+  version_bytes : (major minor revision : ℕ) (bytes : List ℕ)
+      → SpellsSlots level version_slots bytes (number_item major ∷ number_item minor ∷ number_item revision ∷ []) → bytes ≡ major ∷ minor ∷ revision ∷ []
   version_bytes major minor revision bytes h =
-      let one = octet_bytes (kept_slot (number_form bytes1) ∷ kept_slot (number_form bytes1) ∷ []) bytes major (number_item minor ∷ number_item revision ∷ []) h in
+      let one =
+      octet_bytes (kept_slot (number_form bytes1) ∷ kept_slot (number_form bytes1) ∷ []) bytes major (number_item minor ∷ number_item revision ∷ []) h in
       let two = octet_bytes (kept_slot (number_form bytes1) ∷ []) one.0 minor (number_item revision ∷ []) one.2 in
       let three = octet_bytes [] two.0 revision [] two.2 in
       one.1 ∙ ap (λ bs. major ∷ bs) (two.1 ∙ ap (λ bs. minor ∷ bs) (three.1 ∙ ap (λ bs. revision ∷ bs) three.2.0))
 
-  version_fits : (nodes : List Node) (head : given.Head) (major minor revision : ℕ) → InOrder level pool nodes → head.channel ≡ 0 → HasNoIds head → TellsFields pool nodes head.first head.nodes (Proto major minor revision) → Fits (made_version pool nodes head) (λ bytes. bytes ≡ proto major minor revision)
+  version_fits : (nodes : List Node) (head : given.Head) (major minor revision : ℕ) → InOrder level pool nodes
+      → head.channel ≡ 0 → HasNoIds head → TellsFields pool nodes head.first head.nodes (Proto major minor revision)
+      → Fits (IsOwn nodes head) (made_version pool nodes head) (λ bytes. bytes ≡ proto major minor revision)
   unfolding made_version fields_of
   version_fits nodes head major minor revision order none free h =
       let own = take head.nodes (drop head.first nodes) in
       let is : (has_no_ids head && (head.channel == 0)) ≡ true = grind (arith, nat_tests, free_ids head free, none) in
       let make : List Node → Made = λ own. after (Ok (protocol_byte ∷ protocol_mark)) (made_slots pool (head.first + head.nodes) 0 version_slots own) in
       let items : List Item = number_item major ∷ number_item minor ∷ number_item revision ∷ [] in
-      let means = each_with level pool (TellsField pool) (fields_of (Proto major minor revision)) own (order_taken level pool nodes head.first head.nodes order) h.fields in
+      let means =
+      each_with level pool (TellsField pool) (fields_of (Proto major minor revision)) own (order_taken level pool nodes head.first head.nodes order) h.fields in
       let slots_made = slots_fit level pool fits (head.first + head.nodes) 0 version_slots items own (omega arith) (omega arith) refl refl means in
       test_fits (has_no_ids head && (head.channel == 0)) (made_own make (nodes_in nodes head)) (misfit 0) is
       (own_fits make nodes head h.within
-      (after_fits (Ok (protocol_byte ∷ protocol_mark)) (made_slots pool (head.first + head.nodes) 0 version_slots own) {P = λ bytes. bytes ≡ protocol_byte ∷ protocol_mark} {Q = λ bytes. SpellsSlots level version_slots bytes items}
+      (after_fits (Ok (protocol_byte ∷ protocol_mark)) (made_slots pool (head.first + head.nodes) 0 version_slots own)
+      {P = λ bytes. bytes ≡ protocol_byte ∷ protocol_mark} {Q = λ bytes. SpellsSlots level version_slots bytes items}
       (λ a b p q. ap₂ (λ x y. x ++ y) p (version_bytes major minor revision b q)) (ok_fits (protocol_byte ∷ protocol_mark) refl) slots_made))
 
   -- ---- frames
 
   -- a payload is framed where it is within the limit
-  around_by : (m : ℕ) (head : given.Head) (payload : List ℕ) (test : Bool) {Q : List ℕ → Type 0} → nat_lt m (length payload) ≡ test → m < 2 ^ 32 → head.channel < 2 ^ 16 → ((bytes : List ℕ) → IsFramed bytes head.frame_type head.channel payload → Q bytes)
-      → Fits (if test then refuse 0 whys.TooLarge else Ok (framed head.frame_type head.channel payload)) (λ bytes. Q bytes × IsWithin (Some m) bytes)
-  around_by m head payload true is few channel into = record { suits = tt }
-  around_by m head payload false is few channel into =
+  around_by : {Why : Refusal → Type 0} (m : ℕ) (head : given.Head) (payload : List ℕ) (test : Bool) {Q : List ℕ → Type 0} → nat_lt m (length payload) ≡ test
+      → m < 2 ^ 32 → head.channel < 2 ^ 16 → (m < length payload → Why (refusal 0 whys.TooLarge))
+      → ((bytes : List ℕ) → IsFramed bytes head.frame_type head.channel payload → Q bytes)
+      → Fits Why (if test then refuse 0 whys.TooLarge else Ok (framed head.frame_type head.channel payload)) (λ bytes. Q bytes × IsWithin (Some m) bytes)
+  around_by m head payload true is few channel large into = record { suits = large (grind (arith, nat_tests, is)) }
+  around_by m head payload false is few channel large into =
       let within : length payload ≤ m = grind (arith, nat_tests, is) in
       let bytes = framed head.frame_type head.channel payload in
-      ok_fits bytes (into bytes (record { channel_fits = channel; length_fits = omega (arith, within, few); bytes_are = refl }), omega (arith, framed_length head.frame_type head.channel payload, within))
+      ok_fits bytes (
+        into bytes (record { channel_fits = channel; length_fits = omega (arith, within, few); bytes_are = refl }),
+        omega (arith, framed_length head.frame_type head.channel payload, within),
+      )
 
-  around_fits : (m : ℕ) (head : given.Head) (made : Made) {P Q : List ℕ → Type 0} → m < 2 ^ 32 → head.channel < 2 ^ 16 → ((payload bytes : List ℕ) → P payload → IsFramed bytes head.frame_type head.channel payload → Q bytes) → Fits made P → Fits (made_around m head made) (λ bytes. Q bytes × IsWithin (Some m) bytes)
-  around_fits m head (Ok payload) few channel into h = around_by m head payload (nat_lt m (length payload)) refl few channel (λ bytes is. into payload bytes h.suits is)
-  around_fits m head (Err bad) few channel into h = record { suits = h.suits }
+  -- a head is refused, as its frame has it
+  abbrev IsRefused : List Node → ℕ → given.Head → Frame → Refusal → Type 0
+  IsRefused nodes m head frame bad = RefusesHead level pool nodes m head frame bad.node bad.why
+
+  -- where the payload is this one
+  around_made : (nodes : List Node) (m : ℕ) (head : given.Head) (frame : Frame) (made : Made) {P Q : List ℕ → Type 0} → m < 2 ^ 32 → head.channel < 2 ^ 16
+      → made_payload pool nodes head ≡ made → ((payload : List ℕ) → P payload → SpellsPayloadOf level payload frame)
+      → ((payload bytes : List ℕ) → P payload → IsFramed bytes head.frame_type head.channel payload → Q bytes)
+      → Fits (IsOwn nodes head) made P → Fits (IsRefused nodes m head frame) (made_around m head made) (λ bytes. Q bytes × IsWithin (Some m) bytes)
+  around_made nodes m head frame (Ok payload) few channel is spelled into h =
+      around_by m head payload (nat_lt m (length payload)) refl few channel
+      (λ large. inr (record { index_is = refl; because_is = refl; payload = payload; made_is = is; spelled = spelled payload h.suits; large = large }))
+      (λ bytes framed_is. into payload bytes h.suits framed_is)
+  around_made nodes m head frame (Err bad) few channel is spelled into h = record { suits = inl h.suits }
 
   -- by its type
   by_type : List Node → ℕ → given.Head → ℕ → Made
   by_type nodes m head t =
       if t == protocol_byte then made_version pool nodes head
-      else made_around m head (if t == method_byte then made_method pool nodes head else (if t == header_byte then made_header pool nodes head else (if t == body_byte then made_body pool head else (if t == heartbeat_byte then made_beat head else misfit 0))))
+      else made_around m head (if t == method_byte then made_method pool nodes head
+      else (if t == header_byte then made_header pool nodes head
+      else (if t == body_byte then made_body pool head else (if t == heartbeat_byte then made_beat head else misfit 0))))
+
+  -- the payload of a head, by its type
+  payload_by : List Node → given.Head → ℕ → Made
+  payload_by nodes head t =
+      if t == method_byte then made_method pool nodes head
+      else (if t == header_byte then made_header pool nodes head
+      else (if t == body_byte then made_body pool head else (if t == heartbeat_byte then made_beat head else misfit 0)))
+
+  payload_is : (nodes : List Node) (head : given.Head) → made_payload pool nodes head ≡ payload_by nodes head head.frame_type
+  unfolding made_payload payload_by
+  payload_is nodes head = refl
 
   typed_is : (nodes : List Node) (m : ℕ) (head : given.Head) → made_typed pool nodes m head ≡ by_type nodes m head head.frame_type
   unfolding made_typed made_payload by_type
   typed_is nodes m head = refl
 
-  framed_as : (head : given.Head) (type channel : ℕ) (bytes payload : List ℕ) → head.frame_type ≡ type → head.channel ≡ channel → IsFramed bytes head.frame_type head.channel payload → IsFramed bytes type channel payload
+  framed_as : (head : given.Head) (type channel : ℕ) (bytes payload : List ℕ) → head.frame_type ≡ type
+      → head.channel ≡ channel → IsFramed bytes head.frame_type head.channel payload → IsFramed bytes type channel payload
   framed_as head type channel bytes payload t c h = subst (λ x. IsFramed bytes x channel payload) t (subst (λ y. IsFramed bytes head.frame_type y payload) c h)
 
   record Held (head : given.Head) : Type 0 where
@@ -290,49 +395,123 @@ module _ (level : Level) (pool : List ℕ) (fits : IsBytes pool) where
   head_held : (head : given.Head) → is_held head ≡ true → Held head
   head_held head h = record { channel = grind (arith, nat_tests, h); class = grind (arith, nat_tests, h); size = grind (arith, nat_tests, h) }
 
-  typed_fits : (nodes : List Node) (m : ℕ) (head : given.Head) (frame : Frame) → InOrder level pool nodes → m < 2 ^ 32 → Held head → TellsTyped pool nodes head frame → Fits (made_typed pool nodes m head) (λ bytes. Spells level bytes frame × IsWithin (Some m) bytes)
-  unfolding by_type
+  typed_fits : (nodes : List Node) (m : ℕ) (head : given.Head) (frame : Frame) → InOrder level pool nodes → m < 2 ^ 32 → Held head
+      → TellsTyped pool nodes head frame
+      → Fits (IsRefused nodes m head frame) (made_typed pool nodes m head) (λ bytes. Spells level bytes frame × IsWithin (Some m) bytes)
+  unfolding by_type payload_by
   typed_fits nodes m head (Proto major minor revision) order few held h =
       as_fits (made_typed pool nodes m head) (made_version pool nodes head) (typed_is nodes m head ∙ ap (by_type nodes m head) h.0)
-      (fits_into (made_version pool nodes head) (λ bytes is. (is, omega (arith, ap length is))) (version_fits nodes head major minor revision order h.1 h.2 h.3))
+      (fits_into (made_version pool nodes head) (λ bytes is. (is, omega (arith, ap length is)))
+      (fits_for (made_version pool nodes head) (λ bad why. inl why) (version_fits nodes head major minor revision order h.1 h.2 h.3)))
   typed_fits nodes m head (Meth channel meth) order few held h =
       as_fits (made_typed pool nodes m head) (made_around m head (made_method pool nodes head)) (typed_is nodes m head ∙ ap (by_type nodes m head) h.0)
-      (around_fits m head (made_method pool nodes head) few held.channel (λ payload bytes spelled is. record { payload = payload; is_framed = framed_as head method_byte channel bytes payload h.0 h.1 is; spelled = spelled })
+      (around_made nodes m head (Meth channel meth) (made_method pool nodes head) few held.channel
+      (payload_is nodes head ∙ ap (payload_by nodes head) h.0) (λ payload spelled. spelled)
+      (λ payload bytes spelled is. record { payload = payload; is_framed = framed_as head method_byte channel bytes payload h.0 h.1 is; spelled = spelled })
       (method_fits nodes head channel meth order h.2 h.3 h.4 h.5 h.6))
   typed_fits nodes m head (Head channel header) order few held h =
       as_fits (made_typed pool nodes m head) (made_around m head (made_header pool nodes head)) (typed_is nodes m head ∙ ap (by_type nodes m head) h.0)
-      (around_fits m head (made_header pool nodes head) few held.channel (λ payload bytes spelled is. record { payload = payload; is_framed = framed_as head header_byte channel bytes payload h.0 h.1 is; spelled = spelled })
+      (around_made nodes m head (Head channel header) (made_header pool nodes head) few held.channel
+      (payload_is nodes head ∙ ap (payload_by nodes head) h.0) (λ payload spelled. spelled)
+      (λ payload bytes spelled is. record { payload = payload; is_framed = framed_as head header_byte channel bytes payload h.0 h.1 is; spelled = spelled })
       (header_fits nodes head channel header order held.class held.size h.2 h.3 h.4 h.5 h.6))
   typed_fits nodes m head (Body channel content) order few held h =
       as_fits (made_typed pool nodes m head) (made_around m head (made_body pool head)) (typed_is nodes m head ∙ ap (by_type nodes m head) h.0)
-      (around_fits m head (made_body pool head) few held.channel (λ payload bytes same is. subst (λ bs. IsFramed bytes body_byte channel bs) same (framed_as head body_byte channel bytes payload h.0 h.1 is)) (body_fits head content h.2 h.3 h.4))
+      (around_made nodes m head (Body channel content) (made_body pool head) few held.channel
+      (payload_is nodes head ∙ ap (payload_by nodes head) h.0) (λ payload same. same)
+      (λ payload bytes same is. subst (λ bs. IsFramed bytes body_byte channel bs) same (framed_as head body_byte channel bytes payload h.0 h.1 is))
+      (body_fits head content h.2 h.3 h.4))
   typed_fits nodes m head Beat order few held h =
       as_fits (made_typed pool nodes m head) (made_around m head (made_beat head)) (typed_is nodes m head ∙ ap (by_type nodes m head) h.0)
-      (around_fits m head (made_beat head) few held.channel (λ payload bytes none is. record { payload = payload; is_framed = framed_as head heartbeat_byte 0 bytes payload h.0 h.1 is; at_level = beat_at level payload none }) (beat_fits head h.2 h.3))
+      (around_made nodes m head Beat (made_beat head) few held.channel (payload_is nodes head ∙ ap (payload_by nodes head) h.0) (λ payload none. none)
+      (λ payload bytes none is.
+      record { payload = payload; is_framed = framed_as head heartbeat_byte 0 bytes payload h.0 h.1 is; at_level = beat_at level payload none })
+      (beat_fits head h.2 h.3))
   typed_fits nodes m head (BadBeat channel) order few held h =
       as_fits (made_typed pool nodes m head) (made_around m head (made_beat head)) (typed_is nodes m head ∙ ap (by_type nodes m head) h.0)
-      (around_fits m head (made_beat head) few held.channel (λ payload bytes none is. (h.2, record { payload = payload; is_framed = framed_as head heartbeat_byte channel bytes payload h.0 h.1 is; at_level = beat_at level payload none })) (beat_fits head h.3 h.4))
+      (around_made nodes m head (BadBeat channel) (made_beat head) few held.channel
+      (payload_is nodes head ∙ ap (payload_by nodes head) h.0) (λ payload none. none)
+      (λ payload bytes none is.
+      (h.2, record { payload = payload; is_framed = framed_as head heartbeat_byte channel bytes payload h.0 h.1 is; at_level = beat_at level payload none }))
+      (beat_fits head h.3 h.4))
 
-  pub frame_fits : (nodes : List Node) (m : ℕ) (head : given.Head) (frame : Frame) → InOrder level pool nodes → m < 2 ^ 32 → TellsFrame pool nodes head frame → Fits (made_frame pool nodes m head) (λ bytes. Spells level bytes frame × IsWithin (Some m) bytes)
+  pub frame_fits : (nodes : List Node) (m : ℕ) (head : given.Head) (frame : Frame) → InOrder level pool nodes → m < 2 ^ 32
+      → TellsFrame pool nodes head frame
+      → Fits (IsRefused nodes m head frame) (made_frame pool nodes m head) (λ bytes. Spells level bytes frame × IsWithin (Some m) bytes)
   unfolding made_frame
-  frame_fits nodes m head frame order few h = test_fits (is_held head) (made_typed pool nodes m head) (misfit 0) h.0 (typed_fits nodes m head frame order few (head_held head h.0) h.1)
+  frame_fits nodes m head frame order few h =
+      test_fits (is_held head) (made_typed pool nodes m head) (misfit 0) h.0 (typed_fits nodes m head frame order few (head_held head h.0) h.1)
 
   -- ---- sequences
 
-  pub at_suits : (k : ℕ) (made : Made) (P : List ℕ → Type 0) → Fits made P → Suits RefusesLength (at_head k made) P
-  at_suits k (Ok bytes) P h = h.suits
-  at_suits k (Err bad) P h = h.suits
+  -- a refusal of a content alone
+  pub at_suits : (nodes : List Node) (made : Made) (P : List ℕ → Type 0)
+      → Fits (IsLongBy plain pool (length nodes) nodes) made P → Suits (RefusesLong pool nodes) (at_head 0 made) P
+  at_suits nodes (Ok bytes) P h = h.suits
+  at_suits nodes (Err bad) P h = (refl, h.suits)
 
-  then_suits : (a b : Result (List ℕ) WriteError) (P Q R : List ℕ → Type 0) → ((x y : List ℕ) → P x → Q y → R (x ++ y)) → Suits RefusesLength a P → Suits RefusesLength b Q → Suits RefusesLength (after a b) R
-  then_suits (Ok x) (Ok y) P Q R both p q = both x y p q
-  then_suits (Ok x) (Err bad) P Q R both p q = q
-  then_suits (Err bad) b P Q R both p q = p
+  -- the first head is refused
+  here : (nodes : List Node) (m k : ℕ) (head : given.Head) (heads : List given.Head) (frame : Frame) (frames : List Frame) (bad : Refusal)
+      → IsRefused nodes m head frame bad → IsFirstRefused level pool nodes m k (head ∷ heads) (frame ∷ frames) k bad.node bad.why
+  unfolding made_frames
+  here nodes m k head heads frame frames bad why = record {
+    heads_before = [];
+    head = head;
+    heads_after = heads;
+    heads_are = refl;
+    frames_before = [];
+    frame = frame;
+    frames_after = frames;
+    frames_are = refl;
+    index_is = omega arith;
+    bytes = [];
+    made_is = refl;
+    spelled = refl;
+    why = why;
+  }
 
-  pub frames_fit : (nodes : List Node) (m : ℕ) → InOrder level pool nodes → m < 2 ^ 32 → (k : ℕ) (heads : List given.Head) (frames : List Frame) → TellFrames pool nodes heads frames → Suits RefusesLength (made_frames pool nodes m k heads) (λ bytes. SpellsFrames level (Some m) bytes frames)
+  -- one of the others is
+  later : (nodes : List Node) (m k index node : ℕ) (why : WriteRefusal) (head : given.Head) (heads : List given.Head) (frame : Frame) (frames : List Frame)
+      (bytes : List ℕ) → made_frame pool nodes m head ≡ Ok bytes → Spells level bytes frame × IsWithin (Some m) bytes
+      → IsFirstRefused level pool nodes m (k + 1) heads frames index node why
+      → IsFirstRefused level pool nodes m k (head ∷ heads) (frame ∷ frames) index node why
+  unfolding made_frames
+  later nodes m k index node why head heads frame frames bytes made one h = record {
+    heads_before = head ∷ h.heads_before;
+    head = h.head;
+    heads_after = h.heads_after;
+    heads_are = ap (λ hs. head ∷ hs) h.heads_are;
+    frames_before = frame ∷ h.frames_before;
+    frame = h.frame;
+    frames_after = h.frames_after;
+    frames_are = ap (λ fs. frame ∷ fs) h.frames_are;
+    index_is = h.index_is ∙ omega arith;
+    bytes = bytes ++ h.bytes;
+    made_is = ap₂ (λ x y. after (at_head k x) y) made h.made_is;
+    spelled = (bytes, h.bytes, refl, one.0, one.1, h.spelled);
+    why = h.why;
+  }
+
+  frames_by : (nodes : List Node) (m k : ℕ) (head : given.Head) (heads : List given.Head) (frame : Frame) (frames : List Frame)
+      (made : Made) (others : Result (List ℕ) WriteError) → made_frame pool nodes m head ≡ made
+      → Fits (IsRefused nodes m head frame) made (λ bytes. Spells level bytes frame × IsWithin (Some m) bytes)
+      → Suits (RefusesFirst level pool nodes m (k + 1) heads frames) others (λ bytes. SpellsFrames level (Some m) bytes frames)
+      → Suits (RefusesFirst level pool nodes m k (head ∷ heads) (frame ∷ frames)) (after (at_head k made) others)
+      (λ bytes. SpellsFrames level (Some m) bytes (frame ∷ frames))
+  frames_by nodes m k head heads frame frames (Err bad) others is one rest = here nodes m k head heads frame frames bad one.suits
+  frames_by nodes m k head heads frame frames (Ok x) (Ok y) is one rest = (x, y, refl, one.suits.0, one.suits.1, rest)
+  frames_by nodes m k head heads frame frames (Ok x) (Err (failures.Refused index node why)) is one rest =
+      later nodes m k index node why head heads frame frames x is one.suits rest
+  frames_by nodes m k head heads frame frames (Ok x) (Err (failures.TooSmall needed)) is one rest = rest
+
+  -- the frames that are meant, one after another, or the first that is refused
+  pub frames_fit : (nodes : List Node) (m : ℕ) → InOrder level pool nodes → m < 2 ^ 32 → (k : ℕ) (heads : List given.Head) (frames : List Frame)
+      → TellFrames pool nodes heads frames
+      → Suits (RefusesFirst level pool nodes m k heads frames) (made_frames pool nodes m k heads) (λ bytes. SpellsFrames level (Some m) bytes frames)
   unfolding made_frames
   frames_fit nodes m order few k [] [] h = refl
   frames_fit nodes m order few k [] (frame ∷ frames) h = absurd h
   frames_fit nodes m order few k (head ∷ heads) [] h = absurd h
   frames_fit nodes m order few k (head ∷ heads) (frame ∷ frames) h =
-      then_suits (at_head k (made_frame pool nodes m head)) (made_frames pool nodes m (k + 1) heads) (λ bytes. Spells level bytes frame × IsWithin (Some m) bytes) (λ bytes. SpellsFrames level (Some m) bytes frames) (λ bytes. SpellsFrames level (Some m) bytes (frame ∷ frames))
-      (λ a b p q. (a, b, refl, p.0, p.1, q)) (at_suits k (made_frame pool nodes m head) (λ bytes. Spells level bytes frame × IsWithin (Some m) bytes) (frame_fits nodes m head frame order few h.0)) (frames_fit nodes m order few (k + 1) heads frames h.1)
+      frames_by nodes m k head heads frame frames (made_frame pool nodes m head) (made_frames pool nodes m (k + 1) heads) refl
+      (frame_fits nodes m head frame order few h.0) (frames_fit nodes m order few (k + 1) heads frames h.1)

@@ -29,10 +29,12 @@ abbrev pub set_at : Judged ℕ → ℕ
 set_at (took mask used) = set_count mask properties
 set_at judged = 0
 
--- How many fields a frame of this outline has. In a content header 12 bytes are in front of the mask (AMQP 0-9-1, section 4.2.6.1).
+-- How many fields a frame of this outline has. In a content header 12 bytes are in front of the
+-- mask (AMQP 0-9-1, section 4.2.6.1).
 abbrev pub count_of : List ℕ → FrameOutline → ℕ
 count_of payload outlines.ProtocolHeader = 3
 count_of payload (outlines.Method channel class id) = method_count class id
-count_of payload (outlines.Header channel class size) = set_at (judge_number bytes2 (drop 12 payload))
+count_of payload (outlines.Header channel class size) =
+    set_at (judge_number bytes2 (drop 12 payload))
 count_of payload (outlines.Body channel count) = 0
 count_of payload (outlines.Heartbeat channel) = 0

@@ -1,5 +1,6 @@
 -- What the parts of reading frames return.
-use Rattle.std.specs.Prelude.{◌≡◌, ℕ, ◌+◌, ◌-◌, ◌≤◌, Bool, List, length, drop, Some, Result, Ok, Err}
+use Rattle.std.specs.Prelude.{◌≡◌, ℕ, ◌+◌, ◌-◌, ◌≤◌, Bool, List}
+use Rattle.std.specs.Prelude.{length, drop, Some, Result, Ok, Err}
 use Rattle.amqp_types.specs.Answers.{RefusesWhole}
 use Rattle.amqp_types.specs.Judging.{took}
 use Rattle.amqp_types.specs.declared.errors.ParserError.{ParserError}
@@ -24,7 +25,8 @@ use Rattle.amqp_fields.specs.Listing.{listing, pushed_all}
 -- a head with the ids and sizes of an outline
 abbrev pub outlined : Head → FrameOutline → Head
 outlined head (outlines.Method channel class id) = record head { class_id = class; method_id = id }
-outlined head (outlines.Header channel class size) = record head { class_id = class; body_size = size }
+outlined head (outlines.Header channel class size) =
+    record head { class_id = class; body_size = size }
 outlined head outlines.ProtocolHeader = head
 outlined head (outlines.Body channel count) = head
 outlined head (outlines.Heartbeat channel) = head
@@ -41,20 +43,24 @@ FindsFrame m left (Ok layout) = IsFound m left layout
 FindsFrame m left (Err end) = IsNoFrame m left end
 
 -- a payload was decoded, and its nodes are put after so many others
-pub record IsRead (raw : Raw) (start : ℕ) (deep : Bool) (old : List Node) (first : ℕ) (new : List Node) (head : Head) : Type 0 where
+pub record IsRead (raw : Raw) (start : ℕ) (deep : Bool) (old : List Node)
+    (first : ℕ) (new : List Node) (head : Head) : Type 0 where
   pub frame : Frame
   pub is : whole raw ≡ Ok frame
   pub count : ℕ
-  pub counts : Counts (listed_payload raw.kind deep (start + length raw.payload) raw.payload) old first new count
+  pub counts : Counts
+      (listed_payload raw.kind deep (start + length raw.payload) raw.payload) old first new count
   pub head_is : head ≡ head_of raw (outline_of frame) start first (count - first)
 
 -- the same, or the fault of the payload
 abbrev pub Reads : Raw → ℕ → Bool → List Node → ℕ → List Node → Result Head ParserError → Type 0
 Reads raw start deep old first new (Ok head) = IsRead raw start deep old first new head
-Reads raw start deep old first new (Err error) = IsPayloadFault error × RefusesWhole error (whole raw) × (new ≡ old)
+Reads raw start deep old first new (Err error) =
+    IsPayloadFault error × RefusesWhole error (whole raw) × (new ≡ old)
 
 -- a frame stands at a place of the bytes, and its nodes are put after so many others
-pub record IsNextFrame (m : ℕ) (deep : Bool) (bytes : List ℕ) (used : ℕ) (old : List Node) (first : ℕ) (new : List Node) (size : ℕ) (head : Head) : Type 0 where
+pub record IsNextFrame (m : ℕ) (deep : Bool) (bytes : List ℕ) (used : ℕ) (old : List Node)
+    (first : ℕ) (new : List Node) (size : ℕ) (head : Head) : Type 0 where
   pub own : List Node
   pub says : SaysFrame m deep bytes used first head own size
   pub list_is : new ≡ (pushed_all (listing old first) own).nodes
@@ -63,6 +69,8 @@ pub record IsNextFrame (m : ℕ) (deep : Bool) (bytes : List ℕ) (used : ℕ) (
   pub some : 8 ≤ size
 
 -- the same, or why there is none
-abbrev pub IsNext : ℕ → Bool → List ℕ → ℕ → List Node → ℕ → List Node → Result (ℕ × Head) FramesEnd → Type 0
-IsNext m deep bytes used old first new (Ok (size, head)) = IsNextFrame m deep bytes used old first new size head
+abbrev pub IsNext : ℕ → Bool → List ℕ → ℕ → List Node → ℕ
+    → List Node → Result (ℕ × Head) FramesEnd → Type 0
+IsNext m deep bytes used old first new (Ok (size, head)) =
+    IsNextFrame m deep bytes used old first new size head
 IsNext m deep bytes used old first new (Err end) = IsNoFrame m (drop used bytes) end × (new ≡ old)

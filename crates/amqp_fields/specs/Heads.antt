@@ -1,5 +1,6 @@
 -- Heads: what is said of a frame among others.
-use Rattle.std.specs.Prelude.{◌≡◌, ℕ, ◌+◌, Bool, List, [], ◌∷◌, ◌++◌, length, drop, if◌then◌else◌, Some, Ok}
+use Rattle.std.specs.Prelude.{◌≡◌, ℕ, ◌+◌, Bool, List, [], ◌∷◌, ◌++◌, length}
+use Rattle.std.specs.Prelude.{drop, if◌then◌else◌, Some, Ok}
 use Rattle.amqp_types.specs.Levels.{tidy, strict}
 use Rattle.amqp_types.specs.Judging.{took}
 use Rattle.amqp_wire.specs.declared.outline.FrameOutline.{FrameOutline}
@@ -12,11 +13,23 @@ use Rattle.amqp_wire.specs.Spelling.{byte_of}
 use Rattle.amqp_wire.specs.Verdicts.{is_at, whole}
 use Rattle.amqp_fields.specs.declared.node.Node.{Node}
 use Rattle.amqp_fields.specs.declared.head.Head.{Head}
-use Rattle.amqp_fields.specs.Meaning.{AreNodesOf, IsSpan}
+use Rattle.amqp_fields.specs.Listed.{payload_nodes}
+use Rattle.amqp_fields.specs.Meaning.{IsSpan}
 
 -- a head of zeros
 abbrev pub no_head : Head
-no_head = record { body_size = 0; start = 0; length = 0; first = 0; nodes = 0; channel = 0; class_id = 0; method_id = 0; frame_type = 0; form = 0 }
+no_head = record {
+  body_size = 0;
+  start = 0;
+  length = 0;
+  first = 0;
+  nodes = 0;
+  channel = 0;
+  class_id = 0;
+  method_id = 0;
+  frame_type = 0;
+  form = 0;
+}
 
 -- a payload that is canonical has 1 in its form, and one that is tidy 2
 abbrev pub form_of : Bool → Bool → ℕ
@@ -38,7 +51,8 @@ abbrev pub body_size_in : FrameOutline → ℕ
 body_size_in (outlines.Header channel class size) = size
 body_size_in outline = 0
 
--- the head of a frame, by where its payload begins, the place of its first node and how many nodes it has
+-- the head of a frame, by where its payload begins, the place of its first node and how
+-- many nodes it has
 abbrev pub head_of : Raw → FrameOutline → ℕ → ℕ → ℕ → Head
 head_of raw outline start first count = record {
   body_size = body_size_in outline;
@@ -53,18 +67,26 @@ head_of raw outline start first count = record {
   form = form_of (is_at strict raw) (is_at tidy raw);
 }
 
--- A frame of so many bytes stands at a place of the bytes, and the head and the nodes are its own. The first of these is at a place of a list.
-pub record SaysFrame (m : ℕ) (deep : Bool) (bytes : List ℕ) (at first : ℕ) (head : Head) (nodes : List Node) (size : ℕ) : Type 0 where
+-- the nodes of a frame whose payload begins at a place
+abbrev pub nodes_at : Raw → Bool → ℕ → List Node
+nodes_at raw deep start = payload_nodes raw.kind deep (start + length raw.payload) raw.payload
+
+-- A frame of so many bytes stands at a place of the bytes, and the head and the nodes are its own.
+-- The first of these is at a place of a list.
+pub record SaysFrame (m : ℕ) (deep : Bool) (bytes : List ℕ) (at first : ℕ)
+    (head : Head) (nodes : List Node) (size : ℕ) : Type 0 where
   pub raw : Raw
   pub frame : Frame
   pub found : outer (Some m) (drop at bytes) ≡ took raw size
   pub is : whole raw ≡ Ok frame
   pub payload_is : IsSpan bytes head.start head.length raw.payload
-  pub head_is : head ≡ head_of raw (outline_of frame) (at + payload_place raw.kind) first (length nodes)
-  pub nodes_are : AreNodesOf deep bytes frame nodes
+  pub head_is : head
+      ≡ head_of raw (outline_of frame) (at + payload_place raw.kind) first (length nodes)
+  pub nodes_are : nodes ≡ nodes_at raw deep (at + payload_place raw.kind)
 
 -- the first of some heads, with its nodes, and those after it
-pub record IsFirst (Says : List Node → ℕ → Type 0) (Rest : ℕ → ℕ → List Node → Type 0) (at first : ℕ) (nodes : List Node) : Type 0 where
+pub record IsFirst (Says : List Node → ℕ → Type 0) (Rest : ℕ → ℕ → List Node → Type 0)
+    (at first : ℕ) (nodes : List Node) : Type 0 where
   pub own : List Node
   pub others : List Node
   pub size : ℕ
@@ -72,8 +94,10 @@ pub record IsFirst (Says : List Node → ℕ → Type 0) (Rest : ℕ → ℕ →
   pub says : Says own size
   pub rest : Rest (at + size) (first + length own) others
 
--- From a place of the bytes on there stand, one after another, the frames that these heads say, up to another place. These are their nodes, of which the first is at a
--- place of a list.
+-- From a place of the bytes on there stand, one after another, the frames that these heads say, up
+-- to another place. These are their nodes, of which the first is at a place of a list.
 abbrev pub SayFrames : ℕ → Bool → List ℕ → ℕ → ℕ → List Head → List Node → ℕ → Type 0
 SayFrames m deep bytes at first [] nodes end = (nodes ≡ []) × (at ≡ end)
-SayFrames m deep bytes at first (head ∷ heads) nodes end = IsFirst (SaysFrame m deep bytes at first head) (λ next place others. SayFrames m deep bytes next place heads others end) at first nodes
+SayFrames m deep bytes at first (head ∷ heads) nodes end =
+    IsFirst (SaysFrame m deep bytes at first head)
+    (λ next place others. SayFrames m deep bytes next place heads others end) at first nodes

@@ -1,7 +1,8 @@
 -- The kinds of fields.
 use Rattle.std.specs.Prelude.{ℕ}
 use Rattle.amqp_types.specs.Numbers.{bytes1, bytes2, bytes4, bytes8}
-use Rattle.amqp_types.specs.Slots.{Form, number_form, flags_form, short_string_form, long_string_form, table_form}
+use Rattle.amqp_types.specs.Slots.{Form, number_form, flags_form}
+use Rattle.amqp_types.specs.Slots.{short_string_form, long_string_form, table_form}
 
 -- 1 to 8: a number of 1, 2, 4 or 8 bytes, a flag, a short string, a long string, a table
 abbrev pub kind_of : Form → ℕ

@@ -8,6 +8,7 @@ pub mod Counting
 pub mod Finding
 pub mod Decoding
 pub mod Reading
+pub mod Spans
 pub mod Laws
 pub mod Contents
 pub mod Heads

@@ -1,8 +1,15 @@
--- The bytes that nodes make, or the first node that is refused, from left to right. A node stands with those inside it; these end at a place among all nodes.
-use Rattle.std.specs.Prelude.{ℕ, zero, suc, ◌+◌, ◌-◌, ◌^◌, ◌%◌, ◌==◌, ◌||◌, ◌&&◌, nat_lt, nat_le, Bool, true, false, if◌then◌else◌, List, [], ◌∷◌, ◌++◌, length, take, drop, Option, Some, None, Result, Ok, Err}
+-- The bytes that nodes make, or the first node that is refused, from left to right. A node stands
+-- with those inside it; these end at a place among all nodes.
+use Rattle.std.specs.Prelude.{ℕ, zero, suc, ◌+◌, ◌-◌, ◌^◌, ◌%◌, ◌==◌, ◌||◌, ◌&&◌, nat_lt, nat_le}
+use Rattle.std.specs.Prelude.{Bool, true, false, if◌then◌else◌, List, [], ◌∷◌, ◌++◌, length, take}
+use Rattle.std.specs.Prelude.{drop, Option, Some, None, Result, Ok, Err}
 use Rattle.std.specs.Str.{is_utf8}
-use Rattle.amqp_types.specs.Judging.{Judge, Fault, unknown_frame_type, bad_protocol_header, too_large, bad_frame_end, unknown_class, unknown_method, short_payload, trailing_bytes, not_utf8, unknown_tag, too_deep, not_tidy}
-use Rattle.amqp_types.specs.Numbers.{NumberWidth, bytes1, bytes2, bytes4, bytes8, number_bytes, number_limit}
+use Rattle.amqp_types.specs.Judging.{Judge, Fault, unknown_frame_type, bad_protocol_header}
+use Rattle.amqp_types.specs.Judging.{too_large, bad_frame_end, unknown_class}
+use Rattle.amqp_types.specs.Judging.{unknown_method, short_payload, trailing_bytes}
+use Rattle.amqp_types.specs.Judging.{not_utf8, unknown_tag, too_deep, not_tidy}
+use Rattle.amqp_types.specs.Numbers.{NumberWidth, bytes1, bytes2, bytes4}
+use Rattle.amqp_types.specs.Numbers.{bytes8, number_bytes, number_limit}
 use Rattle.amqp_types.specs.Strings.{short_string_bytes, with_length, is_too_long}
 use Rattle.amqp_types.specs.ValueJudging.{filled, judge_entry, judge_value}
 use Rattle.amqp_types.specs.Tags.{tag_at, tag_byte}
@@ -50,7 +57,8 @@ made_if false node bytes = misfit node
 
 -- an unsigned number, where it is one of the width
 abbrev pub made_number : NumberWidth → ℕ → ℕ → Made
-made_number width node n = made_if (nat_lt n (number_limit width)) node (number_bytes width (n % number_limit width))
+made_number width node n =
+    made_if (nat_lt n (number_limit width)) node (number_bytes width (n % number_limit width))
 
 -- half of the numbers of a width, which is the first that is no signed one
 abbrev pub half_limit : NumberWidth → ℕ
@@ -61,11 +69,13 @@ half_limit bytes8 = 2 ^ 63
 
 -- a number in two's complement of 64 bits is one of a width
 abbrev pub is_signed : NumberWidth → ℕ → Bool
-is_signed width n = nat_lt n (half_limit width) || (nat_le (2 ^ 64 - half_limit width) n && nat_lt n (2 ^ 64))
+is_signed width n =
+    nat_lt n (half_limit width) || (nat_le (2 ^ 64 - half_limit width) n && nat_lt n (2 ^ 64))
 
 -- its lowest bits
 abbrev pub made_signed : NumberWidth → ℕ → ℕ → Made
-made_signed width node n = made_if (is_signed width n) node (number_bytes width (n % number_limit width))
+made_signed width node n =
+    made_if (is_signed width n) node (number_bytes width (n % number_limit width))
 
 -- 0 or 1
 abbrev pub made_truth : ℕ → ℕ → Made
@@ -73,7 +83,8 @@ made_truth node n = made_if (nat_lt n 2) node (number_bytes bytes1 (n % 2 ^ 8))
 
 -- the bytes of a span, where it lies within the pool
 abbrev pub span_in : List ℕ → ℕ → ℕ → Option (List ℕ)
-span_in pool start count = if nat_le (start + count) (length pool) then Some (take count (drop start pool)) else None
+span_in pool start count =
+    if nat_le (start + count) (length pool) then Some (take count (drop start pool)) else None
 
 -- what is made of the bytes of a span
 abbrev pub made_span : (List ℕ → Made) → ℕ → Option (List ℕ) → Made
@@ -82,11 +93,14 @@ made_span make node (Some bytes) = make bytes
 
 -- a length of 1 byte, and a text
 abbrev pub made_text : ℕ → List ℕ → Made
-made_text node text = if nat_lt 255 (length text) then refuse node whys.TooLong else (if is_utf8 text then Ok (short_string_bytes text) else faulty node errors.NotUtf8)
+made_text node text =
+    if nat_lt 255 (length text) then refuse node whys.TooLong
+    else (if is_utf8 text then Ok (short_string_bytes text) else faulty node errors.NotUtf8)
 
 -- a length of 4 bytes, and bytes
 abbrev pub made_long : ℕ → List ℕ → Made
-made_long node bytes = if is_too_long bytes then refuse node whys.TooLong else Ok (with_length bytes)
+made_long node bytes =
+    if is_too_long bytes then refuse node whys.TooLong else Ok (with_length bytes)
 
 -- ---- tables and arrays
 
@@ -112,7 +126,9 @@ made_given node content (Err bad) = faulty node (error_of bad)
 
 -- content that stands in the pool, which a node has by its span
 abbrev pub made_content : {A : Type 0} → Judge A → List ℕ → ℕ → Node → Made
-made_content item pool index node = made_span (λ content. made_given index content (filled item 0 content)) index (span_in pool node.start node.length)
+made_content item pool index node =
+    made_span (λ content. made_given index content (filled item 0 content)) index
+    (span_in pool node.start node.length)
 
 -- what is made of a node and of those inside it, which end at a place
 abbrev pub Maker : Type 0
@@ -122,27 +138,35 @@ Maker = ℕ → Node → List Node → Made
 abbrev pub own_index : ℕ → List Node → ℕ
 own_index end inside = end - length inside - 1
 
--- what nodes make, one after another, each with those inside it. The number counts the nodes of the one before that are still to be passed.
+-- what nodes make, one after another, each with those inside it. The number counts the nodes of the
+-- one before that are still to be passed.
 unfoldable pub made_each : Maker → ℕ → ℕ → List Node → Made
 made_each make end k [] = Ok []
 made_each make end (suc k) (node ∷ nodes) = made_each make end k nodes
 made_each make end zero (node ∷ nodes) =
     if nat_lt (length nodes) node.inside then misfit (end - length (node ∷ nodes))
-    else after (make (end - length (drop node.inside nodes)) node (take node.inside nodes)) (made_each make end node.inside nodes)
+    else after (make (end - length (drop node.inside nodes)) node (take node.inside nodes))
+    (made_each make end node.inside nodes)
 
 -- a length of 4 bytes, and what was made
 abbrev pub closed : ℕ → Made → Made
 closed node (Ok content) = made_long node content
 closed node (Err bad) = Err bad
 
--- what fills a table or an array: content that stands in the pool, where nothing lies inside, and else what is made of the nodes inside
+-- what fills a table or an array: content that stands in the pool, where nothing lies inside, and
+-- else what is made of the nodes inside
 unfoldable pub made_items : {A : Type 0} → Judge A → Maker → List ℕ → Maker
 made_items item make pool end node [] = made_content item pool (own_index end []) node
-made_items item make pool end node (first ∷ others) = closed (own_index end (first ∷ others)) (made_each make end 0 (first ∷ others))
+made_items item make pool end node (first ∷ others) =
+    closed (own_index end (first ∷ others)) (made_each make end 0 (first ∷ others))
 
 -- an entry: its key, and its value
 unfoldable pub made_entry : List ℕ → Maker → Maker
-made_entry pool value end node inside = after (made_span (made_text (own_index end inside)) (own_index end inside) (span_in pool node.key_start node.key_length)) (value end node inside)
+made_entry pool value end node inside =
+    after
+    (made_span (made_text (own_index end inside)) (own_index end inside)
+    (span_in pool node.key_start node.key_length))
+    (value end node inside)
 
 -- an array, in whose values tables and arrays may nest so deep
 abbrev pub made_array : List ℕ → ℕ → Maker → Maker
@@ -150,7 +174,8 @@ made_array pool depth_left value = made_items (judge_value depth_left) value poo
 
 -- a table, in whose values tables and arrays may nest so deep
 abbrev pub made_table : List ℕ → ℕ → Maker → Maker
-made_table pool depth_left value = made_items (judge_entry (judge_value depth_left)) (made_entry pool value) pool
+made_table pool depth_left value =
+    made_items (judge_entry (judge_value depth_left)) (made_entry pool value) pool
 
 -- ---- values
 
@@ -166,12 +191,15 @@ made_leaf pool index node tag.LongUInt = made_number bytes4 index node.number
 made_leaf pool index node tag.LongLongInt = made_number bytes8 index node.number
 made_leaf pool index node tag.Float = made_number bytes4 index node.number
 made_leaf pool index node tag.Double = made_number bytes8 index node.number
-made_leaf pool index node tag.DecimalValue = after (made_number bytes1 index node.scale) (made_number bytes4 index node.number)
-made_leaf pool index node tag.LongString = made_span (made_long index) index (span_in pool node.start node.length)
+made_leaf pool index node tag.DecimalValue =
+    after (made_number bytes1 index node.scale) (made_number bytes4 index node.number)
+made_leaf pool index node tag.LongString =
+    made_span (made_long index) index (span_in pool node.start node.length)
 made_leaf pool index node tag.FieldArray = misfit index
 made_leaf pool index node tag.Timestamp = made_number bytes8 index node.number
 made_leaf pool index node tag.FieldTable = misfit index
-made_leaf pool index node tag.ByteArray = made_span (made_long index) index (span_in pool node.start node.length)
+made_leaf pool index node tag.ByteArray =
+    made_span (made_long index) index (span_in pool node.start node.length)
 made_leaf pool index node tag.Void = Ok []
 
 -- nothing lies inside
@@ -197,12 +225,16 @@ nested_table pool (Some nested) end node inside = made_table pool nested.0 neste
 unfoldable pub made_behind : List ℕ → Nested → FieldTag → Maker
 made_behind pool nested tag.FieldArray end node inside = nested_array pool nested end node inside
 made_behind pool nested tag.FieldTable end node inside = nested_table pool nested end node inside
-made_behind pool nested t end node inside = made_alone (made_leaf pool (own_index end inside) node t) (own_index end inside) inside
+made_behind pool nested t end node inside =
+    made_alone (made_leaf pool (own_index end inside) node t) (own_index end inside) inside
 
 -- a value whose kind is a tag that is written
 abbrev pub made_known : List ℕ → Nested → Option FieldTag → Maker
 made_known pool nested None end node inside = misfit (own_index end inside)
-made_known pool nested (Some t) end node inside = if tag_byte t == node.kind then after (Ok (tag_byte t ∷ [])) (made_behind pool nested t end node inside) else misfit (own_index end inside)
+made_known pool nested (Some t) end node inside =
+    if tag_byte t == node.kind
+    then after (Ok (tag_byte t ∷ [])) (made_behind pool nested t end node inside)
+    else misfit (own_index end inside)
 
 -- a tag and its value
 unfoldable pub made_tagged : List ℕ → Nested → Maker
@@ -211,7 +243,8 @@ made_tagged pool nested end node inside = made_known pool nested (tag_at node.ki
 -- a value one level deeper, where so many more may be nested
 unfoldable pub made_nested : List ℕ → ℕ → Nested
 made_nested pool zero = None
-made_nested pool (suc depth_left) = Some (depth_left, made_tagged pool (made_nested pool depth_left))
+made_nested pool (suc depth_left) =
+    Some (depth_left, made_tagged pool (made_nested pool depth_left))
 
 -- a tag and its value, in which tables and arrays may nest so deep
 unfoldable pub made_value : List ℕ → ℕ → Maker

@@ -1,9 +1,12 @@
--- The bytes that heads and nodes make, or the first head or node that is refused, from left to right.
-use Rattle.std.specs.Prelude.{ℕ, ◌+◌, ◌==◌, ◌&&◌, nat_lt, nat_le, Bool, if◌then◌else◌, List, [], ◌∷◌, ◌++◌, length, take, drop, Option, Some, None, Result, Ok, Err}
+-- The bytes that heads and nodes make, or the first head or node that is refused,
+-- from left to right.
+use Rattle.std.specs.Prelude.{ℕ, ◌+◌, ◌==◌, ◌&&◌, nat_lt, nat_le, Bool, if◌then◌else◌, List, []}
+use Rattle.std.specs.Prelude.{◌∷◌, ◌++◌, length, take, drop, Option, Some, None, Result, Ok, Err}
 use Rattle.amqp_types.specs.Numbers.{bytes2, bytes8, number_bytes}
 use Rattle.amqp_types.specs.Slots.{Slot}
 use Rattle.amqp_types.specs.Rows.{Row, rows_of, slots_at}
-use Rattle.amqp_types.specs.Constants.{protocol_byte, method_byte, header_byte, body_byte, heartbeat_byte, protocol_mark}
+use Rattle.amqp_types.specs.Constants.{protocol_byte, method_byte, header_byte, body_byte}
+use Rattle.amqp_types.specs.Constants.{heartbeat_byte, protocol_mark}
 use Rattle.amqp_types.specs.declared.errors.ParserError.{ParserError}
 use Rattle.amqp_types.specs.declared.errors.ParserError.TheVariants as errors
 use Rattle.amqp_wire.specs.Spelling.{framed}
@@ -18,7 +21,9 @@ use Rattle.amqp_fields.specs.MadeFields.{made_properties, made_slots}
 
 -- the nodes of a head, where the list has them
 abbrev pub nodes_in : List Node → Head → Option (List Node)
-nodes_in nodes head = if nat_le (head.first + head.nodes) (length nodes) then Some (take head.nodes (drop head.first nodes)) else None
+nodes_in nodes head =
+    if nat_le (head.first + head.nodes) (length nodes)
+    then Some (take head.nodes (drop head.first nodes)) else None
 
 -- what is made of them
 abbrev pub made_own : (List Node → Made) → Option (List Node) → Made
@@ -34,21 +39,32 @@ unknown_in (Some rows) = errors.UnknownMethod
 abbrev pub made_known : List ℕ → List Node → Head → Option (List Slot) → Made
 made_known pool nodes head None = faulty 0 (unknown_in (rows_of head.class_id))
 made_known pool nodes head (Some slots) =
-    if head.body_size == 0 then made_own (λ own. after (Ok (number_bytes bytes2 head.class_id ++ number_bytes bytes2 head.method_id)) (made_slots pool (head.first + head.nodes) 0 slots own)) (nodes_in nodes head)
+    if head.body_size == 0
+    then made_own
+    (λ own.
+    after (Ok (number_bytes bytes2 head.class_id ++ number_bytes bytes2 head.method_id))
+    (made_slots pool (head.first + head.nodes) 0 slots own))
+    (nodes_in nodes head)
     else misfit 0
 
 -- the payload of a method
 unfoldable pub made_method : List ℕ → List Node → Head → Made
 made_method pool nodes head = made_known pool nodes head (slots_at head.class_id head.method_id)
 
--- what stands in front of the properties of a content header: a class id, a weight of 0, the size of the body
+-- what stands in front of the properties of a content header: a class id, a weight of 0, the
+-- size of the body
 abbrev pub header_front : Head → List ℕ
-header_front head = number_bytes bytes2 head.class_id ++ (number_bytes bytes2 0 ++ number_bytes bytes8 head.body_size)
+header_front head =
+    number_bytes bytes2 head.class_id
+    ++ (number_bytes bytes2 0 ++ number_bytes bytes8 head.body_size)
 
 -- the payload of a content header
 unfoldable pub made_header : List ℕ → List Node → Head → Made
 made_header pool nodes head =
-    if head.method_id == 0 then made_own (λ own. after (Ok (header_front head)) (made_properties pool (head.first + head.nodes) own)) (nodes_in nodes head)
+    if head.method_id == 0
+    then made_own
+    (λ own. after (Ok (header_front head)) (made_properties pool (head.first + head.nodes) own))
+    (nodes_in nodes head)
     else misfit 0
 
 -- neither ids nor a body size
@@ -57,7 +73,9 @@ has_no_ids head = (head.class_id == 0) && (head.method_id == 0) && (head.body_si
 
 -- the payload of a body, which stands in the pool
 unfoldable pub made_body : List ℕ → Head → Made
-made_body pool head = if has_no_ids head && (head.nodes == 0) then made_span (λ content. Ok content) 0 (span_in pool head.start head.length) else misfit 0
+made_body pool head =
+    if has_no_ids head && (head.nodes == 0)
+    then made_span (λ content. Ok content) 0 (span_in pool head.start head.length) else misfit 0
 
 -- a heartbeat has none
 unfoldable pub made_beat : Head → Made
@@ -66,7 +84,12 @@ made_beat head = if has_no_ids head && (head.nodes == 0) then Ok [] else misfit 
 -- a protocol header
 unfoldable pub made_version : List ℕ → List Node → Head → Made
 made_version pool nodes head =
-    if has_no_ids head && (head.channel == 0) then made_own (λ own. after (Ok (protocol_byte ∷ protocol_mark)) (made_slots pool (head.first + head.nodes) 0 version_slots own)) (nodes_in nodes head)
+    if has_no_ids head && (head.channel == 0)
+    then made_own
+    (λ own.
+    after (Ok (protocol_byte ∷ protocol_mark))
+    (made_slots pool (head.first + head.nodes) 0 version_slots own))
+    (nodes_in nodes head)
     else misfit 0
 
 -- the payload of a frame that is no protocol header
@@ -79,16 +102,22 @@ made_payload pool nodes head =
 
 -- a frame around a payload of at most m bytes
 abbrev pub made_around : ℕ → Head → Made → Made
-made_around m head (Ok payload) = if nat_lt m (length payload) then refuse 0 whys.TooLarge else Ok (framed head.frame_type head.channel payload)
+made_around m head (Ok payload) =
+    if nat_lt m (length payload) then refuse 0 whys.TooLarge
+    else Ok (framed head.frame_type head.channel payload)
 made_around m head (Err bad) = Err bad
 
 -- a frame, by its type
 unfoldable pub made_typed : List ℕ → List Node → ℕ → Head → Made
-made_typed pool nodes m head = if head.frame_type == protocol_byte then made_version pool nodes head else made_around m head (made_payload pool nodes head)
+made_typed pool nodes m head =
+    if head.frame_type == protocol_byte then made_version pool nodes head
+    else made_around m head (made_payload pool nodes head)
 
 -- its numbers are within the widths of their members, as those of each head of a program are
 abbrev pub is_held : Head → Bool
-is_held head = nat_lt head.channel 65536 && nat_lt head.class_id 65536 && nat_lt head.method_id 65536 && nat_lt head.body_size 18446744073709551616
+is_held head =
+    nat_lt head.channel 65536 && nat_lt head.class_id 65536
+    && nat_lt head.method_id 65536 && nat_lt head.body_size 18446744073709551616
 
 -- a frame
 unfoldable pub made_frame : List ℕ → List Node → ℕ → Head → Made
@@ -102,4 +131,5 @@ at_head k (Err bad) = Err (failures.Refused k bad.node bad.why)
 -- frames, one after another; k counts the heads before them
 unfoldable pub made_frames : List ℕ → List Node → ℕ → ℕ → List Head → Result (List ℕ) WriteError
 made_frames pool nodes m k [] = Ok []
-made_frames pool nodes m k (head ∷ heads) = after (at_head k (made_frame pool nodes m head)) (made_frames pool nodes m (k + 1) heads)
+made_frames pool nodes m k (head ∷ heads) =
+    after (at_head k (made_frame pool nodes m head)) (made_frames pool nodes m (k + 1) heads)

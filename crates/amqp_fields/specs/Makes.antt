@@ -1,5 +1,6 @@
 -- What calls return that put bytes where a buffer has room for them.
-use Rattle.std.specs.Prelude.{◌≡◌, ◌≤◌, ◌<◌, ◌^◌, ◌+◌, ℕ, nat_lt, if◌then◌else◌, Bool, List, [], ◌∷◌, true, false, length, drop, Result, Ok, Err}
+use Rattle.std.specs.Prelude.{◌≡◌, ◌≤◌, ◌<◌, ◌^◌, ◌+◌, ℕ, nat_lt, if◌then◌else◌, Bool, List, []}
+use Rattle.std.specs.Prelude.{◌∷◌, true, false, length, drop, Result, Ok, Err}
 use Rattle.amqp_types.specs.Flags.{flags_byte}
 use Rattle.amqp_types.specs.Numbers.{bytes4, number_bytes}
 use Rattle.amqp_types.specs.Constants.{end_byte}
@@ -23,7 +24,8 @@ pub record ArePut (old new : List ℕ) (at : ℕ) (bytes : List ℕ) (count : �
   pub put : length old < 2 ^ 64 → at + length bytes ≤ length old → new ≡ written old at bytes
 
 -- these bytes were made, and put where the buffer has room for them
-pub record Gives {E : Type 0} (made : Result (List ℕ) E) (old new : List ℕ) (at count : ℕ) : Type 0 where
+pub record Gives {E : Type 0} (made : Result (List ℕ) E)
+    (old new : List ℕ) (at count : ℕ) : Type 0 where
   pub bytes : List ℕ
   pub is : made ≡ Ok bytes
   pub are_put : ArePut old new at bytes count
@@ -54,7 +56,9 @@ pub record IsProperty (place : ℕ) (node : Node) (p : Property) : Type 0 where
 
 -- it is none of them
 abbrev pub IsNoProperty : ℕ → Node → Type 0
-IsNoProperty place node = (p : Property) (later : List Property) → place ≤ node.place → drop node.place properties ≡ p ∷ later → is_field node.place p.form node ≡ false
+IsNoProperty place node =
+    (p : Property) (later : List Property) → place ≤ node.place
+    → drop node.place properties ≡ p ∷ later → is_field node.place p.form node ≡ false
 
 -- the byte of some flags, which has no other bits
 pub record IsFlagsByte (read : Result (List Bool) Refusal) (count byte : ℕ) : Type 0 where
@@ -68,8 +72,10 @@ abbrev pub MakesFlags : Result (List Bool) Refusal → ℕ → Result ℕ Refusa
 MakesFlags read count (Ok byte) = IsFlagsByte read count byte
 MakesFlags read count (Err bad) = read ≡ Err bad
 
--- type, channel and length were put in front of a payload of so many bytes, and the end byte after it
-pub record IsSurrounded (type channel payload m : ℕ) (old new : List ℕ) (at count : ℕ) : Type 0 where
+-- type, channel and length were put in front of a payload of so many bytes, and the
+-- end byte after it
+pub record IsSurrounded (type channel payload m : ℕ)
+    (old new : List ℕ) (at count : ℕ) : Type 0 where
   pub within : payload ≤ m
   pub mid : List ℕ
   pub front : ArePut old mid at (head type channel payload) 7
@@ -78,5 +84,7 @@ pub record IsSurrounded (type channel payload m : ℕ) (old new : List ℕ) (at 
 
 -- the same, or the payload is longer than m bytes
 abbrev pub Surrounds : ℕ → ℕ → ℕ → ℕ → List ℕ → List ℕ → ℕ → Result ℕ Refusal → Type 0
-Surrounds type channel payload m old new at (Ok count) = IsSurrounded type channel payload m old new at count
-Surrounds type channel payload m old new at (Err bad) = (m < payload) × (bad ≡ refusal 0 whys.TooLarge)
+Surrounds type channel payload m old new at (Ok count) =
+    IsSurrounded type channel payload m old new at count
+Surrounds type channel payload m old new at (Err bad) =
+    (m < payload) × (bad ≡ refusal 0 whys.TooLarge)

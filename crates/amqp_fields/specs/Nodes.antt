@@ -4,7 +4,18 @@ use Rattle.amqp_fields.specs.declared.node.Node.{Node}
 
 -- a node of zeros
 abbrev pub blank : Node
-blank = record { number = 0; start = 0; length = 0; key_start = 0; inside = 0; items = 0; key_length = 0; kind = 0; place = 0; scale = 0 }
+blank = record {
+  number = 0;
+  start = 0;
+  length = 0;
+  key_start = 0;
+  inside = 0;
+  items = 0;
+  key_length = 0;
+  kind = 0;
+  place = 0;
+  scale = 0;
+}
 
 -- as 4 bytes hold it, or the greatest number that they hold
 abbrev pub cut : ℕ → ℕ
@@ -20,7 +31,8 @@ numbered label n = record label { number = n }
 
 -- a node whose span is some bytes that end at a place
 abbrev pub spanned : Node → ℕ → List ℕ → Node
-spanned label end content = record label { start = cut (end - length content); length = cut (length content) }
+spanned label end content =
+    record label { start = end - length content; length = length content }
 
 -- a node that holds so many others, of which these many are its own entries or values
 abbrev pub held : Node → ℕ → ℕ → Node
@@ -28,7 +40,7 @@ held node inside items = record node { inside = inside; items = items }
 
 -- the span of a key, whose bytes end at a place
 abbrev pub keyed : ℕ → List ℕ → Node
-keyed end key = record blank { key_start = cut (end - length key); key_length = cut_byte (length key) }
+keyed end key = record blank { key_start = end - length key; key_length = length key }
 
 -- the first of some nodes, those inside it, and the others
 pub record StandsFirst (nodes : List Node) (node : Node) (inside others : List Node) : Type 0 where
@@ -37,4 +49,5 @@ pub record StandsFirst (nodes : List Node) (node : Node) (inside others : List N
 
 -- those inside the first node would pass the end
 abbrev pub PassesEnd : List Node → Type 0
-PassesEnd nodes = (node : Node) (others : List Node) → nodes ≡ node ∷ others → length others < node.inside
+PassesEnd nodes =
+    (node : Node) (others : List Node) → nodes ≡ node ∷ others → length others < node.inside

@@ -12,7 +12,8 @@ use Rattle.amqp_fields.specs.Meaning.{AreNodesOf}
 
 -- two spans are of the same bytes
 abbrev pub IsSameSpan : List ℕ → ℕ → ℕ → List ℕ → ℕ → ℕ → Type 0
-IsSameSpan bytes start count others begin number = (count ≡ number) × (take count (drop start bytes) ≡ take number (drop begin others))
+IsSameSpan bytes start count others begin number =
+    (count ≡ number) × (take count (drop start bytes) ≡ take number (drop begin others))
 
 -- the kind of a table or an array, whose content is what lies inside it
 abbrev pub HasInside : ℕ → Type 0
@@ -34,9 +35,14 @@ abbrev pub SameNodes : List ℕ → List ℕ → List Node → List Node → Typ
 SameNodes bytes others [] [] = Unit {0}
 SameNodes bytes others [] (b ∷ more) = ⊥
 SameNodes bytes others (a ∷ nodes) [] = ⊥
-SameNodes bytes others (a ∷ nodes) (b ∷ more) = IsSameNode bytes others a b × SameNodes bytes others nodes more
+SameNodes bytes others (a ∷ nodes) (b ∷ more) =
+    IsSameNode bytes others a b × SameNodes bytes others nodes more
 
--- Nodes of one frame, each read with all that lies inside it, say the same whatever bytes they were read from, where the keys of each table ascend.
+-- Nodes of one frame, each read with all that lies inside it, say the same whatever bytes they were
+-- read from, where the keys of each table ascend.
 abbrev pub OneFrameHasSameNodes : Type 0
-OneFrameHasSameNodes = (bytes others encoded : List ℕ) (frame : Frame) (nodes more : List Node) → IsBytes encoded → Spells plain encoded frame → AreNodesOf true bytes frame nodes → AreNodesOf true others frame more → KeysAscend bytes nodes → KeysAscend others more
+OneFrameHasSameNodes =
+    (bytes others encoded : List ℕ) (frame : Frame) (nodes more : List Node)
+    → IsBytes encoded → Spells plain encoded frame → AreNodesOf true bytes frame nodes
+    → AreNodesOf true others frame more → KeysAscend bytes nodes → KeysAscend others more
     → SameNodes bytes others nodes more

@@ -2,16 +2,18 @@
 
 ghost use Rattle.std.specs.Prelude.{◌≡◌, ◌≤◌, ◌<◌, ◌^◌, length, IfErr, IfOk};
 ghost use Rattle.std.specs.Str.{is_utf8};
-ghost use Rattle.amqp_types.specs.Constants.{inner_depth};
 ghost use Rattle.amqp_types.specs.ValueJudging.{filled, judge_entry, judge_value};
-ghost use Rattle.amqp_fields.specs.Contents.{FillsOrFails, HasEntries, HasValues, RefusesContent, UsesOrFails};
-ghost use Rattle.amqp_fields.specs.Reading.{ListsIn};
+ghost use Rattle.amqp_canonical.specs.Writes.{IsFilled};
+ghost use Rattle.amqp_fields.specs.Contents.{FillsOrFails, RefusesContent, UsesOrFails};
+ghost use Rattle.amqp_fields.specs.Contents.{entries_in, values_in};
+ghost use Rattle.amqp_fields.specs.Listed.{entries_nodes, values_nodes};
+ghost use Rattle.amqp_fields.specs.Reading.{StandInFront};
 
 use crate::node::Node;
 use crate::reading::FieldsError;
 use crate::values::{list_entries, list_values};
 use amqp_canonical::{bytes_from, judge_value};
-use amqp_types::{INNER_DEPTH, ParserError, are_bytes, parse_short_str};
+use amqp_types::{INNER_DEPTH, ParserError, parse_short_str};
 use std::str;
 
 /// Whether bytes that are not all ASCII are UTF-8.
@@ -86,19 +88,23 @@ pub(crate) fn judge_values(content: &[u8], depth_left: usize) -> Result<(), Pars
 /// Reads the content of a table that stands alone, without its length: the nodes of its entries in the order of the wire,
 /// each with all that lies inside it. Tables and arrays may nest 63 deep in its values. Returns how many nodes there are. What
 /// stands in the list behind them is not specified, and nothing of it where an error is returned.
-#[tactic(auto, using(crate::proofs::ContentsFound::entries_listed, crate::proofs::ContentsFound::entries_bound, crate::proofs::ContentsFound::entries_needed, crate::proofs::ContentsFound::entries_length))]
+#[tactic(auto, using(crate::proofs::ContentsFound::entries_listed, crate::proofs::ContentsFound::entries_few, crate::proofs::ContentsFound::entries_needed, crate::proofs::ContentsFound::entries_length))]
 pub fn read_entries(content: &[u8], nodes: &mut [Node]) -> Result<usize, FieldsError>
     requires few { length content.now < 2 ^ 32 }
     ensures same_length { length nodes.new ≡ length nodes.old }
-    ensures listed { IfOk result (ListsIn (HasEntries content.now) nodes.new) }
-    ensures bound { IfOk result (λ count. count ≤ length content.now) }
-    ensures refused { IfErr result (RefusesContent (HasEntries content.now) (filled (judge_entry (judge_value inner_depth)) 0 content.now) (length nodes.old)) }
+    ensures valid { IfOk result (λ count. IsFilled (entries_in content.now)) }
+    ensures listed { IfOk result (StandInFront (entries_nodes content.now) nodes.new) }
+    ensures refused { IfErr result (RefusesContent
+        (entries_in content.now) (entries_nodes content.now) (length nodes.old)) }
+
+    // What the list needs at most.
+    ensures bound { IsFilled (entries_in content.now)
+        → length (entries_nodes content.now) ≤ length content.now }
 {
     match judge_entries(content, INNER_DEPTH) {
         Ok(()) => {}
         Err(error) => return Err(FieldsError::Payload(error)),
     }
-    are_bytes(content);
     let filled = list_entries(nodes, 0, content.len() as u32, content, INNER_DEPTH);
     let count = filled.count as usize;
     if count > nodes.len() {
@@ -109,19 +115,23 @@ pub fn read_entries(content: &[u8], nodes: &mut [Node]) -> Result<usize, FieldsE
 
 /// Reads the content of an array that stands alone, without its length: the nodes of its values, as `read_entries` those
 /// of entries.
-#[tactic(auto, using(crate::proofs::ContentsFound::values_listed, crate::proofs::ContentsFound::values_bound, crate::proofs::ContentsFound::values_needed, crate::proofs::ContentsFound::values_length))]
+#[tactic(auto, using(crate::proofs::ContentsFound::values_listed, crate::proofs::ContentsFound::values_few, crate::proofs::ContentsFound::values_needed, crate::proofs::ContentsFound::values_length))]
 pub fn read_values(content: &[u8], nodes: &mut [Node]) -> Result<usize, FieldsError>
     requires few { length content.now < 2 ^ 32 }
     ensures same_length { length nodes.new ≡ length nodes.old }
-    ensures listed { IfOk result (ListsIn (HasValues content.now) nodes.new) }
-    ensures bound { IfOk result (λ count. count ≤ length content.now) }
-    ensures refused { IfErr result (RefusesContent (HasValues content.now) (filled (judge_value inner_depth) 0 content.now) (length nodes.old)) }
+    ensures valid { IfOk result (λ count. IsFilled (values_in content.now)) }
+    ensures listed { IfOk result (StandInFront (values_nodes content.now) nodes.new) }
+    ensures refused { IfErr result (RefusesContent
+        (values_in content.now) (values_nodes content.now) (length nodes.old)) }
+
+    // What the list needs at most.
+    ensures bound { IsFilled (values_in content.now)
+        → length (values_nodes content.now) ≤ length content.now }
 {
     match judge_values(content, INNER_DEPTH) {
         Ok(()) => {}
         Err(error) => return Err(FieldsError::Payload(error)),
     }
-    are_bytes(content);
     let filled = list_values(nodes, 0, content.len() as u32, content, INNER_DEPTH);
     let count = filled.count as usize;
     if count > nodes.len() {

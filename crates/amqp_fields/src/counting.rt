@@ -86,7 +86,8 @@ fn count_by(outline: FrameOutline, payload: &[u8]) -> u8
 /// How many fields the frame has that a whole payload encodes, by its outline: as many nodes as `read_fields` gives of
 /// fields alone. Of a payload that encodes no frame the number means nothing.
 pub fn count_fields(outline: FrameOutline, payload: &[u8]) -> u8
-    ensures { (kind : AMQPFrameType) (channel : ℕ) (frame : Frame) → whole_as kind channel payload.now ≡ Ok frame → outline ≡ outline_of frame
+    ensures { (kind : AMQPFrameType) (channel : ℕ) (frame : Frame)
+        → whole_as kind channel payload.now ≡ Ok frame → outline ≡ outline_of frame
         → result ≡ length (fields_of frame) }
 {
     count_by(outline, payload)

@@ -37,8 +37,10 @@ fn decode_method(
     payload: &[u8],
 ) -> Option<Decoded>
     requires within { length payload.now ≤ end }
-    ensures judged { IfSome result (λ found. JudgesAll judge_payload payload_bytes is_tidy_payload payload.now (Ok found.judged)) }
-    ensures counts { IfSome result (λ found. Counts (listed_method deep end payload.now) nodes.old count nodes.new found.count) }
+    ensures judged { IfSome result (λ found.
+        JudgesAll judge_payload payload_bytes is_tidy_payload payload.now (Ok found.judged)) }
+    ensures counts { IfSome result (λ found.
+        Counts (listed_method deep end payload.now) nodes.old count nodes.new found.count) }
     ensures none { result ≡ None → nodes.new ≡ nodes.old }
 {
     match payload {

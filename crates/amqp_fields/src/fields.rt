@@ -10,7 +10,9 @@ ghost use Rattle.amqp_fields.specs.Kinds.{kind_of};
 ghost use Rattle.amqp_fields.specs.Nodes.{numbered};
 ghost use Rattle.amqp_fields.specs.Listing.{Grows, listing};
 ghost use Rattle.amqp_fields.specs.Finding.{Counts, Lists};
-ghost use Rattle.amqp_fields.specs.Listed.{field_count, kept_count, listed_bits, listed_form, listed_properties, listed_set, listed_slots, next_place, placed};
+ghost use Rattle.amqp_fields.specs.Listed.{field_count, kept_count, listed_bits};
+ghost use Rattle.amqp_fields.specs.Listed.{listed_form, listed_properties, listed_set};
+ghost use Rattle.amqp_fields.specs.Listed.{listed_slots, next_place, placed};
 
 use crate::listing::{Step, push};
 use crate::node::{FLAG, LONG, LONG_LONG, LONG_STRING, Node, OCTET, SHORT, SHORT_STRING, TABLE};
@@ -74,7 +76,8 @@ fn bit(place: u8, byte: u8) -> Node
 /// So many flags of a byte from its lowest bit on, at places from one on.
 #[tactic(auto, using(crate::proofs::SlotSteps::no_bits))]
 fn list_bits(nodes: &mut [Node], count: u32, place: u8, byte: u8, flags: u8) -> u32
-    ensures { Grows (listing nodes.old count) (listing nodes.new result) (listed_bits place (flags_from flags 0 byte)) }
+    ensures { Grows (listing nodes.old count) (listing nodes.new result)
+        (listed_bits place (flags_from flags 0 byte)) }
 {
     if flags == 0 {
         return count;
@@ -87,7 +90,8 @@ fn list_bits(nodes: &mut [Node], count: u32, place: u8, byte: u8, flags: u8) -> 
 #[inline(always)]
 #[tactic(auto, unfolding(amqp_types::specs::Flags::judge_flags))]
 fn list_flags(nodes: &mut [Node], count: u32, place: u8, flags: u8, i: &[u8]) -> Step
-    ensures listed { Lists (judge_map (listed_bits place) (judge_flags flags) i.now) nodes.old count nodes.new result }
+    ensures listed { Lists (judge_map (listed_bits place) (judge_flags flags) i.now)
+        nodes.old count nodes.new result }
     ensures used { result.used ≤ length i.now }
 {
     match i {
@@ -112,7 +116,8 @@ fn list_form(
     i: &[u8],
 ) -> Step
     requires within { length i.now ≤ end }
-    ensures listed { Lists (listed_form deep end place (form_of form) i.now) nodes.old count nodes.new result }
+    ensures listed { Lists (listed_form deep end place (form_of form) i.now)
+        nodes.old count nodes.new result }
     ensures used { result.used ≤ length i.now }
 {
     let label = placed(place, form);
@@ -167,7 +172,8 @@ pub(crate) fn list_slots(
     i: &[u8],
 ) -> u32
     requires within { length i.now ≤ end }
-    ensures { Counts (listed_slots deep end place (slots_of shapes.now) i.now) nodes.old count nodes.new result }
+    ensures { Counts (listed_slots deep end place (slots_of shapes.now) i.now)
+        nodes.old count nodes.new result }
 {
     match shapes {
         [] => count,
@@ -195,7 +201,8 @@ pub(crate) fn list_slots(
 #[inline(never)]
 fn list_two(nodes: &mut [Node], count: u32, deep: bool, end: u32, shapes: &[Slot], i: &[u8]) -> u32
     requires within { length i.now ≤ end }
-    ensures { Counts (listed_slots deep end 0 (slots_of shapes.now) i.now) nodes.old count nodes.new result }
+    ensures { Counts (listed_slots deep end 0 (slots_of shapes.now) i.now)
+        nodes.old count nodes.new result }
 {
     if let [first, second] = shapes
         && let Slot::Kept(Form::LongLong) = *first
@@ -218,7 +225,8 @@ pub(crate) fn list_fields(
     i: &[u8],
 ) -> u32
     requires within { length i.now ≤ end }
-    ensures { Counts (listed_slots deep end 0 (slots_of shapes.now) i.now) nodes.old count nodes.new result }
+    ensures { Counts (listed_slots deep end 0 (slots_of shapes.now) i.now)
+        nodes.old count nodes.new result }
 {
     if shapes.len() == 2 {
         return list_two(nodes, count, deep, end, shapes, i);
@@ -229,7 +237,8 @@ pub(crate) fn list_fields(
 /// The properties that the mask has: it goes from bit to bit, from the highest on. None has bit 1 or 0.
 fn list_set(nodes: &mut [Node], count: u32, deep: bool, end: u32, mask: u16, i: &[u8]) -> u32
     requires within { length i.now ≤ end }
-    ensures { Counts (listed_set mask deep end 0 properties i.now) nodes.old count nodes.new result }
+    ensures { Counts (listed_set mask deep end 0 properties i.now)
+        nodes.old count nodes.new result }
 {
     if mask < 4 {
         return count;

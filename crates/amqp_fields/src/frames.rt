@@ -5,6 +5,7 @@ ghost use Rattle.amqp_wire.specs.Frames.{raw_of};
 ghost use Rattle.amqp_wire.specs.Looks.{laid_out};
 ghost use Rattle.amqp_wire.specs.Spelling.{byte_of};
 ghost use Rattle.amqp_fields.specs.Frames.{EndsWith, ReadsFrames, in_reach, least_length};
+ghost use Rattle.amqp_fields.specs.Frames.{payload_limit};
 ghost use Rattle.amqp_fields.specs.Framing.{FindsFrame, IsNext, Reads, outlined};
 ghost use Rattle.amqp_fields.specs.Heads.{form_of};
 
@@ -13,7 +14,7 @@ use crate::head::{CANONICAL, Head, TIDY};
 use crate::node::Node;
 use amqp_canonical::bytes_from;
 use amqp_types::{
-    FRAME_BODY, FRAME_HEADER, FRAME_HEARTBEAT, FRAME_METHOD, PROTOCOL_BYTE, ParserError, are_bytes,
+    FRAME_BODY, FRAME_HEADER, FRAME_HEARTBEAT, FRAME_METHOD, PROTOCOL_BYTE, ParserError,
 };
 use amqp_wire::{
     AMQPFrameType, AMQPRawFrame, FrameJudgement, FrameLayout, FrameOutline, Look, look_at,
@@ -63,6 +64,21 @@ pub struct FramesRead {
 
 /// The most bytes that are looked at, so that each place is written in four bytes.
 const REACH: usize = u32::MAX as usize;
+
+/// The longest payload whose frame has no more bytes than these.
+const LONGEST: u32 = u32::MAX - 8;
+
+/// The most bytes of a payload that are read.
+#[inline(always)]
+fn payload_limit(max_payload: u32) -> u32
+    ensures { result ≡ payload_limit max_payload }
+{
+    if max_payload < LONGEST {
+        max_payload
+    } else {
+        LONGEST
+    }
+}
 
 /// The bytes that are looked at.
 fn in_reach(bytes: &[u8]) -> &[u8]
@@ -139,9 +155,9 @@ pub fn least_length(bytes: &[u8]) -> u64
 /// Where the frame in front lies, or why there is none.
 #[tactic(auto, unfolding(amqp_wire::specs::Verdicts::verdict))]
 fn find(max_payload: u32, left: &[u8]) -> Result<FrameLayout, FramesEnd>
-    ensures { FindsFrame max_payload left.now result }
+    ensures { FindsFrame (payload_limit max_payload) left.now result }
 {
-    match look_at(Some(max_payload), left) {
+    match look_at(Some(payload_limit(max_payload)), left) {
         Look::Whole(layout) => Ok(layout),
         Look::Incomplete => Err(FramesEnd::Incomplete {
             needed: least_length(left),
@@ -209,9 +225,9 @@ fn read_next(
     requires few { length bytes.now < 2 ^ 32 }
     requires within { used ≤ length bytes.now }
     requires counted { first ≤ used }
-    ensures { IsNext max_payload deep bytes.now used nodes.old first nodes.new result }
+    ensures { IsNext (payload_limit max_payload) deep
+        bytes.now used nodes.old first nodes.new result }
 {
-    are_bytes(bytes);
     let left = bytes_from(bytes, used);
     let layout = find(max_payload, left)?;
     let raw = frame_at(left, layout);
@@ -224,7 +240,8 @@ fn read_next(
 
 /// Reads as many whole frames in front of the bytes, with payloads of at most `max_payload` bytes, as both lists have room
 /// for. Each frame has a head, and its nodes are those that `read_fields` gives of its payload, but that all spans are counted
-/// from the front of `bytes`. Of more than 2^32 - 1 bytes only so many in front are looked at. What stands in the lists behind
+/// from the front of `bytes`. Of more than 2^32 - 1 bytes only so many in front are looked at; a frame that has more by itself is
+/// `TooLarge` at any limit. What stands in the lists behind
 /// what is given is not specified. No memory is taken, and the time is linear: the payload of the frame that no longer fits is
 /// read, and none after it.
 pub fn read_frames(
@@ -236,8 +253,10 @@ pub fn read_frames(
 ) -> FramesRead
     ensures same_heads { length heads.new ≡ length heads.old }
     ensures same_nodes { length nodes.new ≡ length nodes.old }
-    ensures frames { ReadsFrames max_payload deep bytes.now heads.new nodes.new result }
-    ensures end { EndsWith max_payload deep bytes.now heads.new nodes.new result result.end }
+    ensures frames { ReadsFrames (payload_limit max_payload) deep
+        bytes.now heads.new nodes.new result }
+    ensures end { EndsWith (payload_limit max_payload) deep
+        bytes.now heads.new nodes.new result result.end }
 {
     let reach = in_reach(bytes);
     let mut used = 0;

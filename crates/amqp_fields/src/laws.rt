@@ -1,8 +1,17 @@
 //! Laws of heads and nodes that are read and written.
 
-ghost use Rattle.amqp_fields.specs.Laws.{HeadsSayTheFront, LastEntriesWin, SpansLieWithin};
+ghost use Rattle.amqp_fields.specs.Laws.{HeadsSayTheFront, LastEntriesWin};
+ghost use Rattle.amqp_fields.specs.Laws.{ListedNodesMean, SpansLieWithin};
 ghost use Rattle.amqp_fields.specs.SameNodes.{OneFrameHasSameNodes};
-ghost use Rattle.amqp_fields.specs.WritingLaws.{CanonicalWhereKeysAscend, HeadsMeanOne, ReadAgainIsSame, ReadIsWrittenAgain, ReadNodesAreMeant};
+ghost use Rattle.amqp_fields.specs.WritingLaws.{CanonicalWhereKeysAscend};
+ghost use Rattle.amqp_fields.specs.WritingLaws.{HeadsMeanOne, ReadAgainIsSame};
+ghost use Rattle.amqp_fields.specs.WritingLaws.{ReadIsWrittenAgain, ReadNodesAreMeant};
+
+/// The nodes that are listed are those of what the bytes encode: a node for each field of the frame, in the order of the wire, and
+/// for each entry or value the nodes of all that lies inside it.
+pub fn listed_nodes_mean()
+    ensures { ListedNodesMean }
+{}
 
 /// Of duplicate keys the last one wins: a map that is filled with the entries of a table in the order of their nodes is
 /// the table.
@@ -10,8 +19,8 @@ pub fn last_entries_win()
     ensures { LastEntriesWin }
 {}
 
-/// The span of each node of a frame lies within the payload, at any depth: that of a string, of a byte array, of what fills
-/// a table or an array, and the empty one of what is a number.
+/// Spans lie in their own frame: the span and the key of each node of a head lie in the payload of that head, an empty string
+/// where it stands, and those of what lies inside a table or an array in its span.
 pub fn spans_lie_within()
     ensures { SpansLieWithin }
 {}

@@ -1,10 +1,10 @@
 //! A list of nodes that is filled as far as it goes, while all of them are counted.
 
-ghost use Rattle.std.specs.Prelude.{◌≡◌, ◌-◌, ◌∷◌, [], get_or, set};
-ghost use Rattle.amqp_fields.specs.Nodes.{blank, cut, held};
+ghost use Rattle.std.specs.Prelude.{◌≡◌, ◌<◌, ◌^◌, ◌-◌, ◌∷◌, [], get_or, set};
+ghost use Rattle.amqp_fields.specs.Nodes.{blank, held};
 ghost use Rattle.amqp_fields.specs.Listing.{Grows, listing};
 
-use crate::node::{Node, cut};
+use crate::node::Node;
 
 /// Puts a node at a place, where the list has it.
 #[inline(always)]
@@ -52,13 +52,16 @@ pub(crate) struct Filled {
 #[inline(always)]
 #[tactic(auto, using(crate::proofs::Pushing::set_beyond))]
 pub(crate) fn close(nodes: &mut [Node], place: u32, begun: u32, filled: Filled)
-    ensures { nodes.new ≡ set nodes.old place (held (get_or nodes.old place blank) (filled.count - begun) (cut filled.items)) }
+    requires few { filled.items < 2 ^ 32 }
+    ensures { nodes.new
+        ≡ set nodes.old place
+        (held (get_or nodes.old place blank) (filled.count - begun) filled.items) }
 {
     let place = place as usize;
     if place < nodes.len() {
         nodes[place] = Node {
             inside: filled.count.saturating_sub(begun),
-            items: cut(filled.items),
+            items: filled.items as u32,
             ..nodes[place]
         };
     }

@@ -1,14 +1,18 @@
 //! Writing frames and contents that heads and nodes mean, without memory. They are made where a refusal does no harm, and
 //! then stand in the caller's buffer.
 
-ghost use Rattle.std.specs.Prelude.{◌≡◌, ◌∷◌, List, None, Some, length, IfOk, IfSome};
+ghost use Rattle.std.specs.Prelude.{◌≡◌, ◌∷◌, List, None, Some, length, take, IfOk, IfSome};
 ghost use Rattle.amqp_types.specs.Levels.{plain};
 ghost use Rattle.amqp_types.specs.Values.{Entry, FieldValue};
 ghost use Rattle.amqp_wire.specs.Frames.{Frame};
 ghost use Rattle.amqp_wire.specs.Spelling.{SpellsFrames};
+ghost use Rattle.amqp_fields.specs.Canonical.{AreCanonicalInOrder};
 ghost use Rattle.amqp_fields.specs.MadeFrames.{made_frames};
 ghost use Rattle.amqp_fields.specs.Makes.{Makes};
-ghost use Rattle.amqp_fields.specs.Making.{EncodesEntries, EncodesFrames, EncodesOrIsLong, EncodesValues, SpellsEntries, SpellsValues, TellEntries, TellValues, Writes, made_entries, made_values};
+ghost use Rattle.amqp_fields.specs.Making.{EncodesEntries, EncodesFrames, EncodesUnless};
+ghost use Rattle.amqp_fields.specs.Making.{EncodesValues, RefusesFirst, RefusesLong};
+ghost use Rattle.amqp_fields.specs.Making.{SpellsEntries, SpellsValues, TellEntries, TellValues};
+ghost use Rattle.amqp_fields.specs.Making.{Writes, made_entries, made_values};
 ghost use Rattle.amqp_fields.specs.Meant.{TellFrames};
 
 use crate::head::Head;
@@ -55,7 +59,8 @@ fn make_frames(
     heads: &[Head],
     max_payload: u32,
 ) -> Result<usize, WriteError>
-    ensures { Makes (made_frames pool.now nodes.now max_payload 0 heads.now) buf.old buf.new 0 result }
+    ensures { Makes (made_frames pool.now nodes.now max_payload 0 heads.now)
+        buf.old buf.new 0 result }
 {
     let mut rest = heads;
     let mut made = 0;
@@ -81,7 +86,8 @@ fn fill_frames(
     heads: &[Head],
     max_payload: u32,
 ) -> Result<usize, WriteError>
-    ensures { Writes (made_frames pool.now nodes.now max_payload 0 heads.now) out.old out.new result }
+    ensures { Writes (made_frames pool.now nodes.now max_payload 0 heads.now)
+        out.old out.new result }
 {
     let mut scratch = [0; SCRATCH];
     let needed = match make_frames(&mut scratch, pool, nodes, heads, max_payload) {
@@ -105,7 +111,7 @@ fn fill_frames(
 /// or where nothing lies inside it, content that stands in the pool as bytes: what is written is canonical where the keys of
 /// each table ascend and such content is canonical (`canonical_where_keys_ascend`). The first head or node that is refused is
 /// said, from left to right, and then nothing is written. No memory is taken, and the time is linear.
-#[tactic(auto, using(crate::proofs::Encoding::frames_encoded, crate::proofs::Encoding::frames_complete))]
+#[tactic(auto, using(crate::proofs::Encoding::frames_encoded, crate::proofs::Encoding::frames_complete, crate::proofs::Encoding::frames_canonical))]
 pub fn write_frames(
     heads: &[Head],
     nodes: &[Node],
@@ -113,12 +119,20 @@ pub fn write_frames(
     max_payload: u32,
     out: &mut [u8],
 ) -> Result<usize, WriteError>
-    ensures made { Writes (made_frames pool.now nodes.now max_payload 0 heads.now) out.old out.new result }
-    ensures encoded { IfOk result (EncodesFrames pool.now nodes.now heads.now max_payload out.old out.new) }
+    ensures made { Writes
+        (made_frames pool.now nodes.now max_payload 0 heads.now) out.old out.new result }
+    ensures encoded { IfOk result
+        (EncodesFrames pool.now nodes.now heads.now max_payload out.old out.new) }
 
-    // Whatever frames are meant: these are encoded, or a length is too great.
+    // Where keys ascend and content in the pool is canonical, what is written is canonical.
+    ensures canonical { IfOk result (λ count.
+        AreCanonicalInOrder pool.now nodes.now heads.now (take count out.new)) }
+
+    // Whatever frames are meant: these are encoded, or the first head is refused whose payload has more than `max_payload`
+    // bytes, or of whose nodes one holds 2^32 bytes or more.
     ensures complete { (frames : List Frame) → TellFrames pool.now nodes.now heads.now frames
-        → EncodesOrIsLong (SpellsFrames plain (Some max_payload)) frames out.new result }
+        → EncodesUnless (RefusesFirst plain pool.now nodes.now max_payload 0 heads.now frames)
+        (SpellsFrames plain (Some max_payload)) frames out.new result }
 {
     are_bytes(pool);
     fill_frames(out, pool, nodes, heads, max_payload)
@@ -156,7 +170,8 @@ fn fill_entries(out: &mut [u8], nodes: &[Node], pool: &[u8]) -> Result<usize, Wr
 pub fn write_entries(nodes: &[Node], pool: &[u8], out: &mut [u8]) -> Result<usize, WriteError>
     ensures made { Writes (made_entries pool.now nodes.now) out.old out.new result }
     ensures encoded { IfOk result (EncodesEntries pool.now nodes.now out.old out.new) }
-    ensures complete { (entries : List Entry) → TellEntries pool.now nodes.now entries → EncodesOrIsLong SpellsEntries entries out.new result }
+    ensures complete { (entries : List Entry) → TellEntries pool.now nodes.now entries
+        → EncodesUnless (RefusesLong pool.now nodes.now) SpellsEntries entries out.new result }
 {
     are_bytes(pool);
     fill_entries(out, nodes, pool)
@@ -193,7 +208,8 @@ fn fill_values(out: &mut [u8], nodes: &[Node], pool: &[u8]) -> Result<usize, Wri
 pub fn write_values(nodes: &[Node], pool: &[u8], out: &mut [u8]) -> Result<usize, WriteError>
     ensures made { Writes (made_values pool.now nodes.now) out.old out.new result }
     ensures encoded { IfOk result (EncodesValues pool.now nodes.now out.old out.new) }
-    ensures complete { (values : List FieldValue) → TellValues pool.now nodes.now values → EncodesOrIsLong SpellsValues values out.new result }
+    ensures complete { (values : List FieldValue) → TellValues pool.now nodes.now values
+        → EncodesUnless (RefusesLong pool.now nodes.now) SpellsValues values out.new result }
 {
     are_bytes(pool);
     fill_values(out, nodes, pool)

@@ -2,8 +2,11 @@
 #![tactic(auto, unfolding(crate::specs::MadeFields::made_plain, crate::specs::MadeFields::made_form, crate::specs::MadeFields::made_field, crate::specs::MadeFields::made_kept))]
 
 ghost use Rattle.std.specs.Prelude.{◌≡◌, ◌<◌, ◌≤◌, ◌^◌, ◌∷◌, None, true, length, IfSome};
-ghost use Rattle.amqp_canonical.specs.Shapes.{form_of, have_constants, has_constant, property_of, slot_of, slots_of};
-ghost use Rattle.amqp_fields.specs.MadeFields.{flags_in, group_size, is_field, is_flag, made_field, made_flags, made_form, made_plain, made_properties, made_slot, made_slots, node_count};
+ghost use Rattle.amqp_canonical.specs.Shapes.{form_of, have_constants, has_constant};
+ghost use Rattle.amqp_canonical.specs.Shapes.{property_of, slot_of, slots_of};
+ghost use Rattle.amqp_fields.specs.MadeFields.{flags_in, group_size, is_field, is_flag, made_field};
+ghost use Rattle.amqp_fields.specs.MadeFields.{made_flags, made_form, made_plain, made_properties};
+ghost use Rattle.amqp_fields.specs.MadeFields.{made_slot, made_slots, node_count};
 ghost use Rattle.amqp_fields.specs.Makes.{IsNoProperty, IsProperty, Makes, MakesFlags};
 
 use crate::fields::{further, kept_count, kind_of};
@@ -51,7 +54,8 @@ fn make_form(
     node: &Node,
     inside: &[Node],
 ) -> Result<usize, Refusal>
-    ensures { Makes (made_form pool.now (form_of form) end node.now inside.now) buf.old buf.new at result }
+    ensures { Makes (made_form pool.now (form_of form) end node.now inside.now)
+        buf.old buf.new at result }
 {
     if form == Form::Table {
         return make_table(buf, at, pool, end, node, inside, INNER_DEPTH);
@@ -83,7 +87,8 @@ fn make_field(
     form: Form,
     nodes: &[Node],
 ) -> Result<usize, Refusal>
-    ensures { Makes (made_field pool.now end place (form_of form) nodes.now) buf.old buf.new at result }
+    ensures { Makes (made_field pool.now end place (form_of form) nodes.now)
+        buf.old buf.new at result }
 {
     let (node, inside, others) = match first_group(nodes) {
         Some(group) => group,
@@ -158,7 +163,8 @@ fn make_slot(
     nodes: &[Node],
 ) -> Result<usize, Refusal>
     requires constant { has_constant slot ≡ true }
-    ensures { Makes (made_slot pool.now end place (slot_of slot) nodes.now) buf.old buf.new at result }
+    ensures { Makes (made_slot pool.now end place (slot_of slot) nodes.now)
+        buf.old buf.new at result }
 {
     match slot {
         Slot::Reserved(_, constant) => Ok(put(buf, at, constant)),
@@ -212,7 +218,8 @@ pub(crate) fn make_slots(
     nodes: &[Node],
 ) -> Result<usize, Refusal>
     requires constants { have_constants shapes.now ≡ true }
-    ensures { Makes (made_slots pool.now end 0 (slots_of shapes.now) nodes.now) buf.old buf.new at result }
+    ensures { Makes (made_slots pool.now end 0 (slots_of shapes.now) nodes.now)
+        buf.old buf.new at result }
 {
     let mut left = shapes;
     let mut rest = nodes;

@@ -3,7 +3,10 @@
 ghost use Rattle.std.specs.Prelude.{◌≡◌, ◌+◌, ◌++◌, true, is_some, option_copied};
 ghost use Rattle.amqp_types.specs.Numbers.{bytes2, number_bytes};
 ghost use Rattle.amqp_types.specs.Rows.{rows_of};
-ghost use Rattle.amqp_fields.specs.MadeFrames.{has_no_ids, header_front, is_held, made_beat, made_body, made_frame, made_header, made_method, made_payload, made_typed, made_version, nodes_in, unknown_in};
+ghost use Rattle.amqp_fields.specs.MadeFrames.{has_no_ids, header_front, is_held, made_beat};
+ghost use Rattle.amqp_fields.specs.MadeFrames.{made_body, made_frame, made_header};
+ghost use Rattle.amqp_fields.specs.MadeFrames.{made_method, made_payload, made_typed};
+ghost use Rattle.amqp_fields.specs.MadeFrames.{made_version, nodes_in, unknown_in};
 ghost use Rattle.amqp_fields.specs.Makes.{Makes, Surrounds};
 
 use crate::head::Head;
@@ -67,7 +70,8 @@ pub(crate) fn unknown(class: u16) -> ParserError
 /// Both ids of a method.
 #[inline(always)]
 fn id_bytes(head: &Head) -> [u8; 4]
-    ensures { result ≡ number_bytes bytes2 head.now.class_id ++ number_bytes bytes2 head.now.method_id }
+    ensures { result
+        ≡ number_bytes bytes2 head.now.class_id ++ number_bytes bytes2 head.now.method_id }
 {
     let class = head.class_id.to_be_bytes();
     let method = head.method_id.to_be_bytes();
@@ -244,7 +248,8 @@ fn close_frame(
     payload: usize,
     max_payload: u32,
 ) -> Result<usize, Refusal>
-    ensures { Surrounds head.now.frame_type head.now.channel payload max_payload buf.old buf.new at result }
+    ensures { Surrounds head.now.frame_type head.now.channel
+        payload max_payload buf.old buf.new at result }
 {
     if payload > max_payload as usize {
         return Err(Refusal {

@@ -2,10 +2,14 @@
 #![tactic(auto, unfolding(crate::specs::Made::made_leaf, crate::specs::Made::made_behind, crate::specs::Made::made_items, crate::specs::Made::made_entry))]
 
 ghost use Rattle.std.specs.Prelude.{◌≡◌, ◌<◌, ◌^◌, ◌-◌, ◌%◌, ◌||◌, ◌&&◌, nat_le, nat_lt};
-ghost use Rattle.amqp_types.specs.Numbers.{bytes1, bytes2, bytes4, bytes8, number_bytes, number_limit};
+ghost use Rattle.amqp_types.specs.Numbers.{bytes1, bytes2, bytes4, bytes8};
+ghost use Rattle.amqp_types.specs.Numbers.{number_bytes, number_limit};
 ghost use Rattle.amqp_types.specs.Strings.{with_length};
 ghost use Rattle.amqp_types.specs.ValueJudging.{judge_entry, judge_value};
-ghost use Rattle.amqp_fields.specs.Made.{after, made_array, made_behind, made_content, made_each, made_entry, made_if, made_leaf, made_long, made_nested, made_number, made_span, made_table, made_text, made_value, own_index, refusal, span_in};
+ghost use Rattle.amqp_fields.specs.Made.{after, made_array, made_behind, made_content, made_each};
+ghost use Rattle.amqp_fields.specs.Made.{made_entry, made_if, made_leaf, made_long, made_nested};
+ghost use Rattle.amqp_fields.specs.Made.{made_number, made_span, made_table, made_text};
+ghost use Rattle.amqp_fields.specs.Made.{made_value, own_index, refusal, span_in};
 ghost use Rattle.amqp_fields.specs.Makes.{Makes};
 
 use crate::contents::{judge_entries, judge_values};
@@ -24,7 +28,8 @@ pub(crate) fn make_octet(
     holds: bool,
     number: u64,
 ) -> Result<usize, Refusal>
-    ensures { Makes (made_if holds index (number_bytes bytes1 (number % number_limit bytes1))) buf.old buf.new at result }
+    ensures { Makes (made_if holds index (number_bytes bytes1 (number % number_limit bytes1)))
+        buf.old buf.new at result }
 {
     let low = (number % 0x100) as u8;
     put_if(buf, at, index, holds, &low.to_be_bytes())
@@ -39,7 +44,8 @@ pub(crate) fn make_short(
     holds: bool,
     number: u64,
 ) -> Result<usize, Refusal>
-    ensures { Makes (made_if holds index (number_bytes bytes2 (number % number_limit bytes2))) buf.old buf.new at result }
+    ensures { Makes (made_if holds index (number_bytes bytes2 (number % number_limit bytes2)))
+        buf.old buf.new at result }
 {
     let low = (number % 0x1_0000) as u16;
     put_if(buf, at, index, holds, &low.to_be_bytes())
@@ -54,7 +60,8 @@ pub(crate) fn make_long(
     holds: bool,
     number: u64,
 ) -> Result<usize, Refusal>
-    ensures { Makes (made_if holds index (number_bytes bytes4 (number % number_limit bytes4))) buf.old buf.new at result }
+    ensures { Makes (made_if holds index (number_bytes bytes4 (number % number_limit bytes4)))
+        buf.old buf.new at result }
 {
     let low = (number % 0x1_0000_0000) as u32;
     put_if(buf, at, index, holds, &low.to_be_bytes())
@@ -77,7 +84,8 @@ pub(crate) fn make_long_long(
 #[inline(always)]
 fn is_signed(number: u64, half: u64) -> bool
     requires some { 0 < half }
-    ensures { result ≡ (nat_lt number half || (nat_le (2 ^ 64 - half) number && nat_lt number (2 ^ 64))) }
+    ensures { result
+        ≡ (nat_lt number half || (nat_le (2 ^ 64 - half) number && nat_lt number (2 ^ 64))) }
 {
     number < half || number > u64::MAX - half
 }
@@ -92,7 +100,8 @@ fn make_decimal(
     scale: u8,
     number: u64,
 ) -> Result<usize, Refusal>
-    ensures { Makes (after (made_number bytes1 index scale) (made_number bytes4 index number)) buf.old buf.new at result }
+    ensures { Makes (after (made_number bytes1 index scale) (made_number bytes4 index number))
+        buf.old buf.new at result }
 {
     let head = match make_octet(buf, at, index, (scale as u64) < 0x100, scale as u64) {
         Ok(n) => n,
@@ -113,7 +122,9 @@ pub(crate) fn make_long_string(
     index: usize,
     node: &Node,
 ) -> Result<usize, Refusal>
-    ensures { Makes (made_span (made_long index) index (span_in pool.now node.now.start node.now.length)) buf.old buf.new at result }
+    ensures { Makes
+        (made_span (made_long index) index (span_in pool.now node.now.start node.now.length))
+        buf.old buf.new at result }
 {
     match span(pool, node.start, node.length) {
         Some(bytes) => put_long(buf, at, index, bytes),
@@ -131,7 +142,8 @@ pub(crate) fn make_text(
     start: u32,
     count: u32,
 ) -> Result<usize, Refusal>
-    ensures { Makes (made_span (made_text index) index (span_in pool.now start count)) buf.old buf.new at result }
+    ensures { Makes (made_span (made_text index) index (span_in pool.now start count))
+        buf.old buf.new at result }
 {
     match span(pool, start, count) {
         Some(text) => put_text(buf, at, index, text),
@@ -148,7 +160,8 @@ fn make_given_entries(
     node: &Node,
     depth_left: usize,
 ) -> Result<usize, Refusal>
-    ensures { Makes (made_content (judge_entry (judge_value depth_left)) pool.now index node.now) buf.old buf.new at result }
+    ensures { Makes (made_content (judge_entry (judge_value depth_left)) pool.now index node.now)
+        buf.old buf.new at result }
 {
     match span(pool, node.start, node.length) {
         Some(content) => match judge_entries(content, depth_left) {
@@ -168,7 +181,8 @@ fn make_given_values(
     node: &Node,
     depth_left: usize,
 ) -> Result<usize, Refusal>
-    ensures { Makes (made_content (judge_value depth_left) pool.now index node.now) buf.old buf.new at result }
+    ensures { Makes (made_content (judge_value depth_left) pool.now index node.now)
+        buf.old buf.new at result }
 {
     match span(pool, node.start, node.length) {
         Some(content) => match judge_values(content, depth_left) {
@@ -225,7 +239,8 @@ pub(crate) fn make_value(
     inside: &[Node],
     depth_left: usize,
 ) -> Result<usize, Refusal>
-    ensures { Makes (made_value pool.now depth_left end node.now inside.now) buf.old buf.new at result }
+    ensures { Makes (made_value pool.now depth_left end node.now inside.now)
+        buf.old buf.new at result }
 {
     match FieldTag::from_byte(node.kind) {
         Some(tag) => {
@@ -256,7 +271,9 @@ fn make_after_tag(
     tag: FieldTag,
     depth_left: usize,
 ) -> Result<usize, Refusal>
-    ensures { Makes (made_behind pool.now (made_nested pool.now depth_left) tag end node.now inside.now) buf.old buf.new at result }
+    ensures { Makes
+        (made_behind pool.now (made_nested pool.now depth_left) tag end node.now inside.now)
+        buf.old buf.new at result }
 {
     match tag {
         FieldTag::FieldArray if depth_left == 0 => Err(too_deep(end, inside)),
@@ -276,7 +293,8 @@ fn make_after_tag(
 
 /// Tables and arrays nest too deep in the node that has these nodes inside it.
 fn too_deep(end: usize, inside: &[Node]) -> Refusal
-    ensures { result ≡ refusal (own_index end inside.now) (WriteRefusal.Payload ParserError.TooDeep) }
+    ensures { result
+        ≡ refusal (own_index end inside.now) (WriteRefusal.Payload ParserError.TooDeep) }
 {
     Refusal::payload(own_index(end, inside), ParserError::TooDeep)
 }
@@ -293,7 +311,9 @@ fn make_array(
     inside: &[Node],
     depth_left: usize,
 ) -> Result<usize, Refusal>
-    ensures { Makes (made_array pool.now depth_left (made_value pool.now depth_left) end node.now inside.now) buf.old buf.new at result }
+    ensures { Makes
+        (made_array pool.now depth_left (made_value pool.now depth_left) end node.now inside.now)
+        buf.old buf.new at result }
 {
     let index = own_index(end, inside);
     if inside.is_empty() {
@@ -317,7 +337,9 @@ pub(crate) fn make_table(
     inside: &[Node],
     depth_left: usize,
 ) -> Result<usize, Refusal>
-    ensures { Makes (made_table pool.now depth_left (made_value pool.now depth_left) end node.now inside.now) buf.old buf.new at result }
+    ensures { Makes
+        (made_table pool.now depth_left (made_value pool.now depth_left) end node.now inside.now)
+        buf.old buf.new at result }
 {
     let index = own_index(end, inside);
     if inside.is_empty() {
@@ -339,7 +361,8 @@ pub(crate) fn make_values(
     nodes: &[Node],
     depth_left: usize,
 ) -> Result<usize, Refusal>
-    ensures { Makes (made_each (made_value pool.now depth_left) end 0 nodes.now) buf.old buf.new at result }
+    ensures { Makes (made_each (made_value pool.now depth_left) end 0 nodes.now)
+        buf.old buf.new at result }
 {
     let mut rest = nodes;
     let mut made = 0;
@@ -369,7 +392,9 @@ pub(crate) fn make_entries(
     nodes: &[Node],
     depth_left: usize,
 ) -> Result<usize, Refusal>
-    ensures { Makes (made_each (made_entry pool.now (made_value pool.now depth_left)) end 0 nodes.now) buf.old buf.new at result }
+    ensures { Makes
+        (made_each (made_entry pool.now (made_value pool.now depth_left)) end 0 nodes.now)
+        buf.old buf.new at result }
 {
     let mut rest = nodes;
     let mut made = 0;
@@ -401,7 +426,8 @@ fn make_entry(
     inside: &[Node],
     depth_left: usize,
 ) -> Result<usize, Refusal>
-    ensures { Makes (made_entry pool.now (made_value pool.now depth_left) end node.now inside.now) buf.old buf.new at result }
+    ensures { Makes (made_entry pool.now (made_value pool.now depth_left) end node.now inside.now)
+        buf.old buf.new at result }
 {
     let index = own_index(end, inside);
     let key = match make_text(buf, at, pool, index, node.key_start, node.key_length as u32) {

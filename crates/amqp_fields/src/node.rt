@@ -1,7 +1,7 @@
 //! A node: a field of a frame, or a value in a table or an array, by a number or by a span of the payload.
 
 ghost use Rattle.std.specs.Prelude.{◌≡◌, ◌≤◌, ◌+◌, ◌-◌, length};
-ghost use Rattle.amqp_fields.specs.Nodes.{blank, cut, spanned};
+ghost use Rattle.amqp_fields.specs.Nodes.{blank, spanned};
 
 /// The kind of a field of one byte.
 pub const OCTET: u8 = 1;
@@ -84,18 +84,6 @@ impl Default for Node {
     }
 }
 
-/// A number as 4 bytes hold it, or the greatest that they hold.
-#[inline(always)]
-pub(crate) fn cut(n: usize) -> u32
-    ensures { result ≡ cut n }
-{
-    if n < u32::MAX as usize {
-        n as u32
-    } else {
-        u32::MAX
-    }
-}
-
 /// The place that is before these bytes, which end at a place of the payload.
 #[inline(always)]
 pub(crate) fn before(end: u32, rest: &[u8]) -> u32
@@ -107,7 +95,6 @@ pub(crate) fn before(end: u32, rest: &[u8]) -> u32
 
 /// The node with a span: some bytes that end at this place of the payload.
 #[inline(always)]
-#[tactic(auto, using(crate::proofs::Spans::cut_below))]
 pub(crate) fn spanned(label: Node, end: u32, content: &[u8]) -> Node
     requires within { length content.now ≤ end }
     ensures { result ≡ spanned label end content.now }
@@ -121,7 +108,6 @@ pub(crate) fn spanned(label: Node, end: u32, content: &[u8]) -> Node
 
 /// The node with the span of what a length of 4 bytes covers at the front of some bytes, which end at this place of the payload.
 #[inline(always)]
-#[tactic(auto, using(crate::proofs::Spans::cut_below))]
 pub(crate) fn covered(label: Node, end: u32, i: &[u8], content: &[u8]) -> Node
     requires within { length i.now ≤ end }
     requires size { 4 + length content.now ≤ length i.now }

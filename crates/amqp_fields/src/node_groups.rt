@@ -10,7 +10,8 @@ use crate::node::Node;
 /// pass the end.
 #[inline(always)]
 pub(crate) fn first_group(nodes: &[Node]) -> Option<(&Node, &[Node], &[Node])>
-    ensures found { IfSome result (λ group. StandsFirst nodes.now group.0.now group.1.now group.2.now) }
+    ensures found { IfSome result
+        (λ group. StandsFirst nodes.now group.0.now group.1.now group.2.now) }
     ensures none { result ≡ None → PassesEnd nodes.now }
 {
     match nodes {

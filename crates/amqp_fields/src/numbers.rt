@@ -5,7 +5,8 @@ ghost use Rattle.amqp_types.specs.Numbers.{bytes1, bytes2, bytes4, bytes8};
 ghost use Rattle.amqp_types.specs.Strings.{judge_short_string, judge_long_string};
 ghost use Rattle.amqp_canonical.specs.Writes.{IsRead, key_in, after_key};
 ghost use Rattle.amqp_fields.specs.Finding.{FindsContent, Lists};
-ghost use Rattle.amqp_fields.specs.Listed.{listed_boolean, listed_decimal, listed_number, listed_signed, listed_span};
+ghost use Rattle.amqp_fields.specs.Listed.{listed_boolean, listed_decimal};
+ghost use Rattle.amqp_fields.specs.Listed.{listed_number, listed_signed, listed_span};
 
 use crate::listing::{Step, push};
 use crate::node::{Node, before, covered, spanned};
@@ -30,7 +31,8 @@ pub(crate) fn split_long(i: &[u8]) -> Option<(usize, &[u8])>
 pub(crate) fn split_short(i: &[u8]) -> Option<(&[u8], &[u8])>
     ensures key { IfSome result (λ found. found.0.now ≡ key_in i.now) }
     ensures rest { IfSome result (λ found. found.1.now ≡ after_key i.now) }
-    ensures size { IfSome result (λ found. 1 + (length found.0.now + length found.1.now) ≡ length i.now) }
+    ensures size { IfSome result
+        (λ found. 1 + (length found.0.now + length found.1.now) ≡ length i.now) }
     ensures none { result ≡ None → IsRead (judge_short_string i.now) → ⊥ }
 {
     match i {
@@ -110,7 +112,8 @@ pub(crate) fn list_short_string(
     i: &[u8],
 ) -> Step
     requires within { length i.now ≤ end }
-    ensures listed { Lists (listed_span judge_short_string end label i.now) nodes.old count nodes.new result }
+    ensures listed { Lists (listed_span judge_short_string end label i.now)
+        nodes.old count nodes.new result }
     ensures used { result.used ≤ length i.now }
 {
     match split_short(i) {
@@ -137,7 +140,8 @@ pub(crate) fn list_long_string(
     i: &[u8],
 ) -> Step
     requires within { length i.now ≤ end }
-    ensures listed { Lists (listed_span judge_long_string end label i.now) nodes.old count nodes.new result }
+    ensures listed { Lists (listed_span judge_long_string end label i.now)
+        nodes.old count nodes.new result }
     ensures used { result.used ≤ length i.now }
 {
     match split_long(i) {

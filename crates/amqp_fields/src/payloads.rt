@@ -3,7 +3,8 @@
 ghost use Rattle.std.specs.Prelude.{◌≡◌, ◌≤◌, length, true};
 ghost use Rattle.amqp_canonical.specs.Shapes.{have_constants, slots_of};
 ghost use Rattle.amqp_fields.specs.Finding.{Counts};
-ghost use Rattle.amqp_fields.specs.Listed.{listed_header, listed_method, listed_payload, version_slots};
+ghost use Rattle.amqp_fields.specs.Listed.{listed_header, listed_method};
+ghost use Rattle.amqp_fields.specs.Listed.{listed_payload, version_slots};
 
 use crate::fields::{list_properties, list_slots};
 use crate::node::Node;
@@ -58,7 +59,8 @@ pub(crate) fn list_payload(
     payload: &[u8],
 ) -> u32
     requires within { length payload.now ≤ end }
-    ensures { Counts (listed_payload frame_type deep end payload.now) nodes.old count nodes.new result }
+    ensures { Counts (listed_payload frame_type deep end payload.now)
+        nodes.old count nodes.new result }
 {
     match frame_type {
         AMQPFrameType::ProtocolHeader => {

@@ -1,11 +1,12 @@
 //! Reading the fields of whole payloads as nodes.
 
 ghost use Rattle.std.specs.Prelude.{◌≡◌, ◌≤◌, ◌<◌, ◌^◌, length, IfErr, IfOk};
-ghost use Rattle.amqp_fields.specs.Reading.{HasNodes, ListsIn, RefusesFields, SaysLevels};
+ghost use Rattle.amqp_fields.specs.Reading.{StandInFront, IsWhole, RefusesFields, SaysLevels};
+ghost use Rattle.amqp_fields.specs.Reading.{fields_nodes};
 
 use crate::decoding::decode;
 use crate::node::Node;
-use amqp_types::{ParserError, are_bytes};
+use amqp_types::ParserError;
 use amqp_wire::{AMQPFrameType, AMQPRawFrame};
 
 /// What was read of a payload.
@@ -40,7 +41,7 @@ pub enum FieldsError {
 /// heartbeat have none. Where `deep`, the node of each table is followed by those of its entries, and of all that lies
 /// inside them. What stands in the list behind the nodes is not specified, and nothing of it where an error is returned. No
 /// memory is taken, and the time is linear.
-#[tactic(auto, using(crate::proofs::Answering::nodes_read, crate::proofs::Answering::nodes_needed, crate::proofs::Answering::nodes_bound, crate::proofs::Answering::same_length))]
+#[tactic(auto, using(crate::proofs::Answering::fields_listed, crate::proofs::Answering::fields_needed, crate::proofs::Answering::fields_few, crate::proofs::Answering::fields_length, crate::proofs::Answering::is_whole))]
 pub fn read_fields(
     frame_type: AMQPFrameType,
     payload: &[u8],
@@ -49,17 +50,21 @@ pub fn read_fields(
 ) -> Result<FieldsRead, FieldsError>
     requires few { length payload.now < 2 ^ 32 }
     ensures same_length { length nodes.new ≡ length nodes.old }
-    ensures listed { IfOk result (λ found. ListsIn (HasNodes frame_type payload.now deep) nodes.new found.count) }
-    ensures bound { IfOk result (λ found. found.count ≤ length payload.now) }
+    ensures valid { IfOk result (λ found. IsWhole frame_type payload.now) }
+    ensures listed { IfOk result (λ found.
+        StandInFront (fields_nodes frame_type deep payload.now) nodes.new found.count) }
     ensures levels { IfOk result (SaysLevels frame_type payload.now) }
     ensures refused { IfErr result (RefusesFields frame_type payload.now deep (length nodes.old)) }
+
+    // What the list needs at most.
+    ensures bound { IsWhole frame_type payload.now
+        → length (fields_nodes frame_type deep payload.now) ≤ length payload.now }
 {
     let raw = AMQPRawFrame {
         frame_type,
         channel_id: 0,
         payload,
     };
-    are_bytes(payload);
     let end = payload.len() as u32;
     let decoded = match decode(raw, nodes, 0, deep, end) {
         Ok(decoded) => decoded,

@@ -6,7 +6,8 @@ ghost use Rattle.amqp_types.specs.Tags.{tag_at, tag_byte};
 ghost use Rattle.amqp_types.specs.ValueJudging.{filled};
 ghost use Rattle.amqp_fields.specs.Nodes.{blank};
 ghost use Rattle.amqp_fields.specs.Finding.{Lists, ListsAll, key_label};
-ghost use Rattle.amqp_fields.specs.Listed.{listed_array, listed_behind, listed_entry, listed_nested, listed_table, listed_value, of_kind};
+ghost use Rattle.amqp_fields.specs.Listed.{listed_array, listed_behind, listed_entry};
+ghost use Rattle.amqp_fields.specs.Listed.{listed_nested, listed_table, listed_value, of_kind};
 
 use crate::listing::{Filled, Step, close, push};
 use crate::node::{Node, before, covered};
@@ -91,12 +92,14 @@ fn split_tag(label: Node, i: &[u8]) -> Option<Tagged<'_>>
 #[inline(always)]
 fn split_entry(end: u32, i: &[u8]) -> Option<Tagged<'_>>
     requires within { length i.now ≤ end }
-    ensures tag { IfSome result (λ found. tag_at (get_or i.now (get_or i.now 0 0 + 1) 0) ≡ Some found.tag) }
-    ensures label { IfSome result (λ found. found.label ≡ of_kind (key_label end i.now) (tag_byte found.tag)) }
+    ensures tag { IfSome result
+        (λ found. tag_at (get_or i.now (get_or i.now 0 0 + 1) 0) ≡ Some found.tag) }
+    ensures label { IfSome result
+        (λ found. found.label ≡ of_kind (key_label end i.now) (tag_byte found.tag)) }
     ensures behind { IfSome result (λ found. found.behind.now ≡ drop (2 + get_or i.now 0 0) i.now) }
     ensures size { IfSome result (λ found. 2 + get_or i.now 0 0 ≤ length i.now) }
-    ensures byte { IfSome result (λ found. get_or i.now 0 0 < 256) }
-    ensures none { result ≡ None → 2 + get_or i.now 0 0 ≤ length i.now → tag_at (get_or i.now (get_or i.now 0 0 + 1) 0) ≡ None }
+    ensures none { result ≡ None → 2 + get_or i.now 0 0 ≤ length i.now
+        → tag_at (get_or i.now (get_or i.now 0 0 + 1) 0) ≡ None }
 {
     match i {
         [] => None,
@@ -135,7 +138,8 @@ fn list_after_tag(
     depth_left: usize,
 ) -> Step
     requires within { length i.now ≤ end }
-    ensures listed { Lists (listed_behind (listed_nested depth_left) end label tag i.now) nodes.old count nodes.new result }
+    ensures listed { Lists (listed_behind (listed_nested depth_left) end label tag i.now)
+        nodes.old count nodes.new result }
     ensures used { result.used ≤ length i.now }
 {
     // Kinds that are encoded alike have an arm each, in which the kind is a constant.
@@ -177,7 +181,8 @@ fn list_array(
     depth_left: usize,
 ) -> Step
     requires within { length i.now ≤ end }
-    ensures listed { Lists (listed_array (listed_value depth_left) end label i.now) nodes.old count nodes.new result }
+    ensures listed { Lists (listed_array (listed_value depth_left) end label i.now)
+        nodes.old count nodes.new result }
     ensures used { result.used ≤ length i.now }
 {
     match split_long(i) {
@@ -208,7 +213,8 @@ pub(crate) fn list_table(
     depth_left: usize,
 ) -> Step
     requires within { length i.now ≤ end }
-    ensures listed { Lists (listed_table (listed_value depth_left) end label i.now) nodes.old count nodes.new result }
+    ensures listed { Lists (listed_table (listed_value depth_left) end label i.now)
+        nodes.old count nodes.new result }
     ensures used { result.used ≤ length i.now }
 {
     match split_long(i) {
@@ -238,7 +244,9 @@ pub(crate) fn list_values(
     depth_left: usize,
 ) -> Filled
     requires within { length content.now ≤ end }
-    ensures { ListsAll (filled (listed_value depth_left end blank) 0 content.now) nodes.old count nodes.new result }
+    ensures listed { ListsAll (filled (listed_value depth_left end blank) 0 content.now)
+        nodes.old count nodes.new result }
+    ensures few { result.items ≤ length content.now }
 {
     let mut rest = content;
     let mut items = 0;
@@ -269,7 +277,9 @@ pub(crate) fn list_entries(
     depth_left: usize,
 ) -> Filled
     requires within { length content.now ≤ end }
-    ensures { ListsAll (filled (listed_entry (listed_value depth_left) end) 0 content.now) nodes.old count nodes.new result }
+    ensures listed { ListsAll (filled (listed_entry (listed_value depth_left) end) 0 content.now)
+        nodes.old count nodes.new result }
+    ensures few { result.items ≤ length content.now }
 {
     let mut rest = content;
     let mut items = 0;

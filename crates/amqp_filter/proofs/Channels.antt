@@ -26,7 +26,8 @@ use Rattle.amqp_in_turn.proofs.Turning.{IsFresh}
 abbrev pub held_of_state : (FrameOutline → Bool) → State Frame → Option Open
 held_of_state keeps (At Nothing) = None
 held_of_state keeps (At (Opened opening)) = Some (record { progress = progresses.Opened; kept = keeps (outline_of opening) })
-held_of_state keeps (At (Headed opening header bodies)) = Some (record { progress = progresses.Headed (size_in (outline_of header)) (bytes_in outline_of bodies); kept = keeps (outline_of opening) })
+held_of_state keeps (At (Headed opening header bodies)) =
+    Some (record { progress = progresses.Headed (size_in (outline_of header)) (bytes_in outline_of bodies); kept = keeps (outline_of opening) })
 held_of_state keeps Lost = Some (record { progress = progresses.Faulted; kept = false })
 
 -- a frame that is in turn is kept as is decided of it; one that is not is refused
@@ -36,7 +37,8 @@ pub data OnChannel (keeps : FrameOutline → Bool) (state : State Frame) (frame 
       → held_marked keeps (held_of_state keeps state) frame mark ≡ held_of_state keeps (step outline_of greatest state frame).1
       → (step outline_of greatest state frame).1 ≢ Lost
       → OnChannel keeps state frame
-  stops : (bad : ContentFault) → mark_held (held_of_state keeps state) frame ≡ marks.Fault bad → step outline_of greatest state frame ≡ (Wrong bad, Lost) → IsFresh bad frame → OnChannel keeps state frame
+  stops : (bad : ContentFault) → mark_held (held_of_state keeps state) frame ≡ marks.Fault bad
+      → step outline_of greatest state frame ≡ (Wrong bad, Lost) → IsFresh bad frame → OnChannel keeps state frame
 
 at_state : (begun : Begun Frame) → At begun ≢ Lost
 at_state begun e = absurd cc
@@ -52,24 +54,37 @@ module _ (keeps : FrameOutline → Bool) where
 
   -- ---- after an opening
 
-  on_header : (opening : Frame) (channel : ℕ) (header : ContentHeader) (basic fits none : Bool) → eqb header.class_id 60 ≡ basic → leb header.body_size greatest ≡ fits → eqb 0 header.body_size ≡ none → OnChannel keeps (At (Opened opening)) (Head channel header)
-  on_header opening channel header false fits none basic fit done = stops faults.WrongClass (rw basic refl) (rw basic refl) (record { other = λ e. absurd cc; large = λ e. absurd cc })
-  on_header opening channel header true false none basic fit done = stops faults.BodyTooLarge (rw basic (rw fit refl)) (rw basic (rw fit refl)) (record { other = λ e. absurd cc; large = λ e. grind (arith, nat_tests) })
+  on_header : (opening : Frame) (channel : ℕ) (header : ContentHeader) (basic fits none : Bool) → eqb header.class_id 60 ≡ basic
+      → leb header.body_size greatest ≡ fits → eqb 0 header.body_size ≡ none → OnChannel keeps (At (Opened opening)) (Head channel header)
+  on_header opening channel header false fits none basic fit done =
+      stops faults.WrongClass (rw basic refl) (rw basic refl) (record { other = λ e. absurd cc; large = λ e. absurd cc })
+  on_header opening channel header true false none basic fit done =
+      stops faults.BodyTooLarge (rw basic (rw fit refl)) (rw basic (rw fit refl)) (record { other = λ e. absurd cc; large = λ e. grind (arith, nat_tests) })
   on_header opening channel header true true true basic fit done =
-      goes marks.Header (rw basic (rw fit refl)) (λ bad same. absurd cc) refl (rw basic (rw fit (rw done refl))) (rw basic (rw fit (rw done (at_state Nothing))))
+      goes marks.Header (rw basic (rw fit refl)) (λ bad same. absurd cc) refl
+      (rw basic (rw fit (rw done refl))) (rw basic (rw fit (rw done (at_state Nothing))))
   on_header opening channel header true true false basic fit done =
-      goes marks.Header (rw basic (rw fit refl)) (λ bad same. absurd cc) refl (rw basic (rw fit (rw done refl))) (rw basic (rw fit (rw done (at_state (Headed opening (Head channel header) [])))))
+      goes marks.Header (rw basic (rw fit refl)) (λ bad same. absurd cc) refl (rw basic (rw fit (rw done refl)))
+      (rw basic (rw fit (rw done (at_state (Headed opening (Head channel header) [])))))
 
   -- ---- in a message
 
-  on_body : (opening header : Frame) (bodies : List Frame) (channel : ℕ) (content : List ℕ) (fits all : Bool) → leb (bytes_in outline_of bodies + length content) (size_in (outline_of header)) ≡ fits → eqb (bytes_in outline_of bodies + length content) (size_in (outline_of header)) ≡ all → OnChannel keeps (At (Headed opening header bodies)) (Body channel content)
-  on_body opening header bodies channel content false all fit done = stops faults.BodyOverrun (rw fit refl) (rw fit refl) (record { other = λ e. absurd cc; large = λ e. absurd cc })
+  on_body : (opening header : Frame) (bodies : List Frame) (channel : ℕ) (content : List ℕ) (fits all : Bool)
+      → leb (bytes_in outline_of bodies + length content) (size_in (outline_of header)) ≡ fits
+      → eqb (bytes_in outline_of bodies + length content) (size_in (outline_of header)) ≡ all
+      → OnChannel keeps (At (Headed opening header bodies)) (Body channel content)
+  on_body opening header bodies channel content false all fit done =
+      stops faults.BodyOverrun (rw fit refl) (rw fit refl) (record { other = λ e. absurd cc; large = λ e. absurd cc })
   on_body opening header bodies channel content true true fit done =
-      goes (marks.Body (bytes_in outline_of bodies) (bytes_in outline_of bodies + length content) (size_in (outline_of header))) (rw fit refl) (λ bad same. absurd cc) refl (rw fit (rw done refl)) (rw fit (rw done (at_state Nothing)))
+      goes (marks.Body (bytes_in outline_of bodies) (bytes_in outline_of bodies + length content) (size_in (outline_of header)))
+      (rw fit refl) (λ bad same. absurd cc) refl (rw fit (rw done refl)) (rw fit (rw done (at_state Nothing)))
   on_body opening header bodies channel content true false fit done =
       let n = size_in (outline_of header) in
-      let count : bytes_in outline_of bodies + length content ≡ bytes_in outline_of (bodies ++ Body channel content ∷ []) = sym (bytes_in-push outline_of bodies (Body channel content)) in
-      goes (marks.Body (bytes_in outline_of bodies) (bytes_in outline_of bodies + length content) n) (rw fit refl) (λ bad same. absurd cc) refl (rw fit (rw done (ap (λ (seen : ℕ). Some (record { progress = progresses.Headed n seen; kept = keeps (outline_of opening) })) count))) (rw fit (rw done (at_state (Headed opening header (bodies ++ Body channel content ∷ [])))))
+      let count : bytes_in outline_of bodies + length content ≡ bytes_in outline_of (bodies ++ Body channel content ∷ []) =
+      sym (bytes_in-push outline_of bodies (Body channel content)) in
+      goes (marks.Body (bytes_in outline_of bodies) (bytes_in outline_of bodies + length content) n) (rw fit refl) (λ bad same. absurd cc) refl
+      (rw fit (rw done (ap (λ (seen : ℕ). Some (record { progress = progresses.Headed n seen; kept = keeps (outline_of opening) })) count)))
+      (rw fit (rw done (at_state (Headed opening header (bodies ++ Body channel content ∷ [])))))
 
   -- a frame of content, after what has begun
   pub on_channel : (begun : Begun Frame) (frame : Frame) → is_content (outline_of frame) ≡ true → OnChannel keeps (At begun) frame
@@ -77,12 +92,16 @@ module _ (keeps : FrameOutline → Bool) where
   on_channel Nothing (Head channel header) content = stops faults.UnexpectedHeader refl refl (record { other = λ e. absurd cc; large = λ e. absurd cc })
   on_channel Nothing (Body channel bytes) content = stops faults.UnexpectedBody refl refl (record { other = λ e. absurd cc; large = λ e. absurd cc })
   on_channel (Opened opening) (Meth channel m) content = stops faults.UnexpectedMethod refl refl (record { other = λ e. absurd cc; large = λ e. absurd cc })
-  on_channel (Opened opening) (Head channel header) content = on_header opening channel header (eqb header.class_id 60) (leb header.body_size greatest) (eqb 0 header.body_size) refl refl refl
+  on_channel (Opened opening) (Head channel header) content =
+      on_header opening channel header (eqb header.class_id 60) (leb header.body_size greatest) (eqb 0 header.body_size) refl refl refl
   on_channel (Opened opening) (Body channel bytes) content = stops faults.UnexpectedBody refl refl (record { other = λ e. absurd cc; large = λ e. absurd cc })
-  on_channel (Headed opening header bodies) (Meth channel m) content = stops faults.UnexpectedMethod refl refl (record { other = λ e. absurd cc; large = λ e. absurd cc })
-  on_channel (Headed opening header bodies) (Head channel second) content = stops faults.UnexpectedHeader refl refl (record { other = λ e. absurd cc; large = λ e. absurd cc })
+  on_channel (Headed opening header bodies) (Meth channel m) content =
+      stops faults.UnexpectedMethod refl refl (record { other = λ e. absurd cc; large = λ e. absurd cc })
+  on_channel (Headed opening header bodies) (Head channel second) content =
+      stops faults.UnexpectedHeader refl refl (record { other = λ e. absurd cc; large = λ e. absurd cc })
   on_channel (Headed opening header bodies) (Body channel bytes) content =
-      on_body opening header bodies channel bytes (leb (bytes_in outline_of bodies + length bytes) (size_in (outline_of header))) (eqb (bytes_in outline_of bodies + length bytes) (size_in (outline_of header))) refl refl
+      on_body opening header bodies channel bytes (leb (bytes_in outline_of bodies + length bytes) (size_in (outline_of header)))
+      (eqb (bytes_in outline_of bodies + length bytes) (size_in (outline_of header))) refl refl
   on_channel begun (Proto major minor revision) content = absurd cc
   on_channel begun Beat content = absurd cc
   on_channel begun (BadBeat channel) content = absurd cc

@@ -5,7 +5,8 @@ use Rattle.std.proofs.lemmas.List.Elements.{filter-append}
 use Rattle.amqp_wire.specs.declared.outline.FrameOutline.{FrameOutline}
 use Rattle.amqp_wire.specs.Frames.{Frame, Proto, Meth, Head, Body, Beat, BadBeat, channel_id_of}
 use Rattle.amqp_wire.specs.Outlines.{outline_of}
-use Rattle.amqp_turns.specs.Units.{Finished, Lone, Empty, Full, Begun, Nothing, Opened, Headed, IsOpening, begun_frames, finished_frames, IsBegun, IsFinished, IsInTurn, of_channel}
+use Rattle.amqp_turns.specs.Units.{Finished, Lone, Empty, Full, Begun, Nothing, Opened, Headed, IsOpening, begun_frames, finished_frames, IsBegun}
+use Rattle.amqp_turns.specs.Units.{IsFinished, IsInTurn, of_channel}
 use Rattle.amqp_turns.specs.Answers.{finished_answers}
 use Rattle.amqp_turns.specs.Messages.{Content, method_in, content_with}
 use Rattle.amqp_turns.proofs.Messages.{IsOn, channel_is, all_on, all_front, all_back, done_by, done_by_append, full_done, done_of, turn_done}
@@ -45,16 +46,19 @@ module _ (keeps : FrameOutline → Bool) where
 
   -- ---- the messages that pass
 
-  one_passes : (message : Content) (kept : Bool) → keeps_message keeps message ≡ kept → filter (keeps_message keeps) (message ∷ []) ≡ cond kept (message ∷ []) []
+  one_passes : (message : Content) (kept : Bool) → keeps_message keeps message ≡ kept
+      → filter (keeps_message keeps) (message ∷ []) ≡ cond kept (message ∷ []) []
   one_passes message true e = rw e refl
   one_passes message false e = rw e refl
 
-  message_passes : (channel : ℕ) (opening frame : Frame) (message : Content) → IsOpening (outline_of opening) → IsOn channel opening → IsOn channel frame → message.channel ≡ channel_id_of frame → message.opening ≡ method_in opening → keeps_message keeps message ≡ keeps (outline_of opening)
+  message_passes : (channel : ℕ) (opening frame : Frame) (message : Content) → IsOpening (outline_of opening) → IsOn channel opening → IsOn channel frame
+      → message.channel ≡ channel_id_of frame → message.opening ≡ method_in opening → keeps_message keeps message ≡ keeps (outline_of opening)
   message_passes channel opening frame message h on here at is =
       ap₂ (λ c m. keeps (outline_of (Meth c m))) (at ∙ channel_is channel frame here) is ∙ ap (λ f. keeps (outline_of f)) (opening_is channel opening h on)
 
   -- of one unit
-  unit_passes : (channel : ℕ) (unit : Finished Frame) → IsFinished outline_of greatest unit → AllByRecursion (IsOn channel) (finished_frames unit) → filter (keeps_message keeps) (done_by (finished_answers unit)) ≡ cond (keeps_unit keeps unit) (done_by (finished_answers unit)) []
+  unit_passes : (channel : ℕ) (unit : Finished Frame) → IsFinished outline_of greatest unit → AllByRecursion (IsOn channel) (finished_frames unit)
+      → filter (keeps_message keeps) (done_by (finished_answers unit)) ≡ cond (keeps_unit keeps unit) (done_by (finished_answers unit)) []
   unit_passes channel (Lone method) h on = by_test (keeps (outline_of method))
     where
       by_test : (b : Bool) → [] ≡ cond b (done_by (finished_answers (Lone method))) []
@@ -67,10 +71,13 @@ module _ (keeps : FrameOutline → Bool) where
       let message = content_with (Headed opening header bodies) last in
       let all = full_done opening header bodies last in
       ap (filter (keeps_message keeps)) all
-      ∙ one_passes message (keeps (outline_of opening)) (message_passes channel opening last message h.0.0 on.0 (all_back (IsOn channel) bodies (last ∷ []) on.1.1).0 refl refl)
+      ∙ one_passes message (keeps (outline_of opening))
+      (message_passes channel opening last message h.0.0 on.0 (all_back (IsOn channel) bodies (last ∷ []) on.1.1).0 refl refl)
       ∙ ap (λ cs. cond (keeps (outline_of opening)) cs []) (sym all)
 
-  units_pass : (channel : ℕ) (units : List (Finished Frame)) → AllByRecursion (IsFinished outline_of greatest) units → AllByRecursion (IsOn channel) (flat_map finished_frames units) → done_of (filter (keeps_unit keeps) units) ≡ filter (keeps_message keeps) (done_of units)
+  units_pass : (channel : ℕ) (units : List (Finished Frame)) → AllByRecursion (IsFinished outline_of greatest) units
+      → AllByRecursion (IsOn channel) (flat_map finished_frames units)
+      → done_of (filter (keeps_unit keeps) units) ≡ filter (keeps_message keeps) (done_of units)
   units_pass channel [] finished on = refl
   units_pass channel (unit ∷ units) finished on =
       let rest = units_pass channel units finished.1 (all_back (IsOn channel) (finished_frames unit) (flat_map finished_frames units) on) in
@@ -80,11 +87,15 @@ module _ (keeps : FrameOutline → Bool) where
       ∙ sym (filter-append (keeps_message keeps) (done_by (finished_answers unit)) (done_of units))
       ∙ ap (filter (keeps_message keeps)) (sym (done_by_append (finished_answers unit) (flat_map finished_answers units)))
     where
-      by_test : (b : Bool) → keeps_unit keeps unit ≡ b → done_of (filter (keeps_unit keeps) (unit ∷ units)) ≡ cond (keeps_unit keeps unit) (done_by (finished_answers unit)) [] ++ done_of (filter (keeps_unit keeps) units)
+      by_test : (b : Bool) → keeps_unit keeps unit ≡ b
+          → done_of (filter (keeps_unit keeps) (unit ∷ units))
+          ≡ cond (keeps_unit keeps unit) (done_by (finished_answers unit)) [] ++ done_of (filter (keeps_unit keeps) units)
       by_test true e = rw e (done_by_append (finished_answers unit) (flat_map finished_answers (filter (keeps_unit keeps) units)))
       by_test false e = rw e refl
 
-  pub messages_are_kept : (frames : List Frame) → AreInTurn frames → (channel : ℕ) → messages_on channel (kept_of keeps frames) ≡ filter (keeps_message keeps) (messages_on channel frames)
+  -- The messages of a channel of filtered frames are those whose openings pass the test, in order.
+  pub messages_are_kept : (frames : List Frame) → AreInTurn frames → (channel : ℕ)
+      → messages_on channel (kept_of keeps frames) ≡ filter (keeps_message keeps) (messages_on channel frames)
   messages_are_kept frames turn channel =
       let h = turn channel in
       let on = subst (AllByRecursion (IsOn channel)) h.are (all_on channel frames) in

@@ -23,7 +23,8 @@ record BegunOn (channel : ℕ) (now : State Frame) : Type 0 where
   is : now ≡ At begun
   on : AllByRecursion (IsOn channel) (begun_frames begun)
 
-begun_at : (channel : ℕ) (xs : List Frame) (now : State Frame) (reading : Reading outline_of greatest xs) (rest : List Frame) → reading.rest ≡ rest → now ≡ state_after reading.begun rest → now ≢ Lost → AllByRecursion (IsOn channel) xs → BegunOn channel now
+begun_at : (channel : ℕ) (xs : List Frame) (now : State Frame) (reading : Reading outline_of greatest xs) (rest : List Frame)
+    → reading.rest ≡ rest → now ≡ state_after reading.begun rest → now ≢ Lost → AllByRecursion (IsOn channel) xs → BegunOn channel now
 begun_at channel xs now reading [] e is turn on =
     let parts = subst (AllByRecursion (IsOn channel)) reading.are on in
     let front = all_front (IsOn channel) (frames_in reading.units reading.begun) reading.rest parts in
@@ -36,7 +37,8 @@ begun_of earlier channel turn =
     let stands = run_stands outline_of greatest xs in
     begun_at channel xs (state_on earlier channel) stands.reading stands.reading.rest refl stands.is turn (all_on channel earlier)
 
-opening_on : (channel : ℕ) (begun : Begun Frame) (frame : Frame) → AllByRecursion (IsOn channel) (begun_frames begun) → IsOn channel frame → IsOn channel (opening_or begun frame)
+opening_on : (channel : ℕ) (begun : Begun Frame) (frame : Frame)
+    → AllByRecursion (IsOn channel) (begun_frames begun) → IsOn channel frame → IsOn channel (opening_or begun frame)
 opening_on channel Nothing frame h on = on
 opening_on channel (Opened opening) frame h on = h.0
 opening_on channel (Headed opening header bodies) frame h on = h.0
@@ -45,7 +47,8 @@ module _ (rules : List Rule) (alike : (a b : FrameOutline) → outline_channel a
   by_channel : (a b : Frame) → channel_id_of a ≡ channel_id_of b → decides rules (outline_of a) ≡ decides rules (outline_of b)
   by_channel a b e = alike (outline_of a) (outline_of b) (outline_of-channel a ∙ e ∙ sym (outline_of-channel b))
 
-  one_alike : (earlier : List Frame) (frame : Frame) (content : Bool) → is_content (outline_of frame) ≡ content → state_on earlier (channel_id_of frame) ≢ Lost → is_kept (decides rules) earlier frame ≡ decides rules (outline_of frame)
+  one_alike : (earlier : List Frame) (frame : Frame) (content : Bool) → is_content (outline_of frame) ≡ content
+      → state_on earlier (channel_id_of frame) ≢ Lost → is_kept (decides rules) earlier frame ≡ decides rules (outline_of frame)
   one_alike earlier frame false e turn = ap (λ f. decides rules (outline_of f)) (itself_decides (state_on earlier (channel_id_of frame)) frame e)
   one_alike earlier frame true e turn =
       let channel = channel_id_of frame in
@@ -54,19 +57,24 @@ module _ (rules : List Rule) (alike : (a b : FrameOutline) → outline_channel a
       let on = opening_on channel at.begun frame at.on (of_own frame e) in
       ap (λ f. decides rules (outline_of f)) opening ∙ by_channel (opening_or at.begun frame) frame (channel_is channel (opening_or at.begun frame) on)
 
-  first_alike : (frame : Frame) (frames : List Frame) (b : Bool) → decides rules (outline_of frame) ≡ b → kept rules (frame ∷ frames) ≡ if_kept b frame ++ kept rules frames
+  first_alike : (frame : Frame) (frames : List Frame) (b : Bool) → decides rules (outline_of frame) ≡ b
+      → kept rules (frame ∷ frames) ≡ if_kept b frame ++ kept rules frames
   first_alike frame frames true e = rw e refl
   first_alike frame frames false e = rw e refl
 
-  alike_after : (earlier frames : List Frame) → ((channel : ℕ) → state_on (earlier ++ frames) channel ≢ Lost) → kept_after (decides rules) earlier frames ≡ kept rules frames
+  alike_after : (earlier frames : List Frame) → ((channel : ℕ) → state_on (earlier ++ frames) channel ≢ Lost)
+      → kept_after (decides rules) earlier frames ≡ kept rules frames
   alike_after earlier [] turn = refl
   alike_after earlier (frame ∷ frames) turn =
       let whole : (earlier ++ frame ∷ []) ++ frames ≡ earlier ++ frame ∷ frames = append_assoc earlier (frame ∷ []) frames in
-      let one = one_alike earlier frame (is_content (outline_of frame)) refl (λ lost. turn (channel_id_of frame) (lost_later earlier (frame ∷ frames) (channel_id_of frame) lost)) in
+      let one =
+      one_alike earlier frame (is_content (outline_of frame)) refl
+      (λ lost. turn (channel_id_of frame) (lost_later earlier (frame ∷ frames) (channel_id_of frame) lost)) in
       let rest = alike_after (earlier ++ frame ∷ []) frames (λ channel lost. turn channel (ap (λ fs. state_on fs channel) (sym whole) ∙ lost)) in
       ap (λ b. if_kept b frame ++ kept_after (decides rules) (earlier ++ frame ∷ []) frames) one
       ∙ ap (λ fs. if_kept (decides rules (outline_of frame)) frame ++ fs) rest
       ∙ sym (first_alike frame frames (decides rules (outline_of frame)) refl)
 
+  -- Where rules decide by channels alone, filtering frames in turn keeps those that selecting keeps.
   pub selects_alike : (frames : List Frame) → AreInTurn frames → kept_of (decides rules) frames ≡ kept rules frames
   selects_alike frames turn = alike_after [] frames (λ channel. none_lost frames channel turn)

@@ -42,7 +42,9 @@ abbrev bytes_after : List Rule → List Frame → List Frame → List ℕ
 bytes_after rules earlier frames = canon_frames (kept_after (decides rules) earlier frames)
 
 -- a frame that is not refused
-goes_on : (s : MessageFilter) (held : Option Open) (frame : Frame) (mark : Mark) → ((bad : ContentFault) → mark ≢ marks.Fault bad) → step_marked s held frame mark ≡ Ok (given (kept_marked (decides s.rules) held frame mark) frame, with_held s (channel_id_of frame) (held_marked (decides s.rules) held frame mark))
+goes_on : (s : MessageFilter) (held : Option Open) (frame : Frame) (mark : Mark) → ((bad : ContentFault) → mark ≢ marks.Fault bad)
+    → step_marked s held frame mark
+    ≡ Ok (given (kept_marked (decides s.rules) held frame mark) frame, with_held s (channel_id_of frame) (held_marked (decides s.rules) held frame mark))
 goes_on s held frame marks.Passed h = refl
 goes_on s held frame marks.Opening h = refl
 goes_on s held frame marks.Header h = refl
@@ -50,24 +52,30 @@ goes_on s held frame (marks.Body before after n) h = refl
 goes_on s held frame (marks.Fault bad) h = absurd (h bad refl)
 
 module _ (rules : List Rule) (s : MessageFilter) (earlier : List Frame) (frame : Frame) (own : HasRules rules s) where
-  step_outside : is_content (outline_of frame) ≡ false → step_filtering s frame ≡ Ok (given_after rules earlier frame, with_held s (channel_id_of frame) (held_at s (channel_id_of frame)))
+  step_outside : is_content (outline_of frame) ≡ false
+      → step_filtering s frame ≡ Ok (given_after rules earlier frame, with_held s (channel_id_of frame) (held_at s (channel_id_of frame)))
   step_outside content =
       let channel = channel_id_of frame in
       let held = held_at s channel in
-      let decided : decides s.rules (outline_of frame) ≡ is_kept (decides rules) earlier frame = ap (λ rs. decides rs (outline_of frame)) own ∙ ap (λ f. decides rules (outline_of f)) (sym (itself_decides (state_on earlier channel) frame content)) in
+      let decided : decides s.rules (outline_of frame) ≡ is_kept (decides rules) earlier frame =
+      ap (λ rs. decides rs (outline_of frame)) own ∙ ap (λ f. decides rules (outline_of f)) (sym (itself_decides (state_on earlier channel) frame content)) in
       ap (step_marked s held frame) (passed_mark (progress_in held) frame content) ∙ ap (λ b. Ok (given b frame, with_held s channel held)) decided
 
-  step_content : (begun : Begun Frame) → state_on earlier (channel_id_of frame) ≡ At begun → held_at s (channel_id_of frame) ≡ held_of_state (decides rules) (At begun) → OnChannel (decides rules) (At begun) frame → Continues step_filtering with_held (held_of_state (decides rules)) s (given_after rules earlier frame) begun frame
+  step_content : (begun : Begun Frame) → state_on earlier (channel_id_of frame) ≡ At begun
+      → held_at s (channel_id_of frame) ≡ held_of_state (decides rules) (At begun) → OnChannel (decides rules) (At begun) frame
+      → Continues step_filtering with_held (held_of_state (decides rules)) s (given_after rules earlier frame) begun frame
   step_content begun is held (channels.goes mark marked fine kept_is held_is turn) =
       let channel = channel_id_of frame in
       let kept = held_of_state (decides rules) (At begun) in
       goes
       (ap (λ k. step_marked s k frame (mark_held k frame)) held ∙ ap (step_marked s kept frame) marked ∙ goes_on s kept frame mark fine
       ∙ ap (λ rs. Ok (given (kept_marked (decides rs) kept frame mark) frame, with_held s channel (held_marked (decides rs) kept frame mark))) own
-      ∙ ap₂ (λ (b : Bool) (k : Option Open). Ok (given b frame, with_held s channel k)) (kept_is ∙ ap (λ st. decides rules (outline_of (decider st frame))) (sym is)) held_is)
+      ∙ ap₂ (λ (b : Bool) (k : Option Open). Ok (given b frame, with_held s channel k))
+      (kept_is ∙ ap (λ st. decides rules (outline_of (decider st frame))) (sym is)) held_is)
       turn
   step_content begun is held (channels.stops bad marked answer other) =
-      stops bad (ap (λ k. step_marked s k frame (mark_held k frame)) held ∙ ap (step_marked s (held_of_state (decides rules) (At begun)) frame) marked) answer other
+      stops bad
+      (ap (λ k. step_marked s k frame (mark_held k frame)) held ∙ ap (step_marked s (held_of_state (decides rules) (At begun)) frame) marked) answer other
 
 -- the bytes of a frame that may be kept
 given_is : (kept : Bool) (frame : Frame) → given kept frame ≡ canon_frames (if_kept kept frame)
@@ -79,24 +87,30 @@ something_at rules Nothing e = refl
 something_at rules (Opened opening) e = absurd cc
 something_at rules (Headed opening header bodies) e = absurd cc
 
-keeps : (rules : List Rule) → KeepsByTurns messages_in with_held (HasRules rules) (held_of_state (decides rules)) step_filtering end_filtering (given_after rules) (bytes_after rules)
+keeps : (rules : List Rule)
+    → KeepsByTurns messages_in with_held (HasRules rules) (held_of_state (decides rules)) step_filtering end_filtering (given_after rules) (bytes_after rules)
 keeps rules = record {
   none = λ earlier. refl;
   more = λ earlier frame frames.
       flat_map-append canon (if_kept (is_kept (decides rules) earlier frame) frame) (kept_after (decides rules) (earlier ++ frame ∷ []) frames)
-      ∙ ap (λ (bytes : List ℕ). bytes ++ canon_frames (kept_after (decides rules) (earlier ++ frame ∷ []) frames)) (sym (given_is (is_kept (decides rules) earlier frame) frame));
+      ∙ ap (λ (bytes : List ℕ). bytes ++ canon_frames (kept_after (decides rules) (earlier ++ frame ∷ []) frames))
+      (sym (given_is (is_kept (decides rules) earlier frame) frame));
   ends = λ s. refl;
   puts = λ s channel held. refl;
   own = λ s channel held h. h;
   nothing = refl;
   something = something_at rules;
   outside = λ s earlier frame own content. step_outside rules s earlier frame own content;
-  content = λ s earlier frame begun own is is_begun held content. step_content rules s earlier frame own begun is held (on_channel (decides rules) begun frame content);
+  content = λ s earlier frame begun own is is_begun held content.
+      step_content rules s earlier frame own begun is held (on_channel (decides rules) begun frame content);
 }
 
-pub filters_by_turns : (rules : List Rule) → GoesByTurns step_filtering end_filtering (StandsFor messages_in (HasRules rules) (held_of_state (decides rules))) (given_after rules) (bytes_after rules)
+-- Filtering goes by the turns of the channels, and writes the frames that are kept.
+pub filters_by_turns : (rules : List Rule)
+    → GoesByTurns step_filtering end_filtering (StandsFor messages_in (HasRules rules) (held_of_state (decides rules))) (given_after rules) (bytes_after rules)
 filters_by_turns rules = by_turns (keeps rules)
 
 -- a writer that has taken no frame
-pub is_new : (rules : List Rule) (s : MessageFilter) → s.rules ≡ rules → s.messages ≡ finite.empty → StandsFor messages_in (HasRules rules) (held_of_state (decides rules)) s []
+pub is_new : (rules : List Rule) (s : MessageFilter) → s.rules ≡ rules → s.messages ≡ finite.empty
+    → StandsFor messages_in (HasRules rules) (held_of_state (decides rules)) s []
 is_new rules s own none = start (keeps rules) s own none

@@ -60,13 +60,18 @@ beat_of channel payload frame h = let is : beat_on channel ≡ frame = cc in ap 
 
 -- a heartbeat stands outside of all content, also one on a channel
 pub beat_passed : (raw : Raw) (frame : Frame) → raw.kind ≡ kinds.Heartbeat → whole raw ≡ Ok frame → mark_after greatest None (outline_of frame) ≡ marks.Passed
-beat_passed raw frame is h = passed_mark None frame (beat_of raw.channel raw.payload frame (subst (λ kind. whole_as kind raw.channel raw.payload ≡ Ok frame) is h))
+beat_passed raw frame is h =
+    passed_mark None frame (beat_of raw.channel raw.payload frame (subst (λ kind. whole_as kind raw.channel raw.payload ≡ Ok frame) is h))
 
 placed_as : (kind : AMQPFrameType) (channel : ℕ) (payload : List ℕ) (frame : Frame) → whole_as kind channel payload ≡ Ok frame → IsPlaced channel frame
 unfolding whole_as
 placed_as kinds.ProtocolHeader channel payload frame h = proto_placed channel payload frame h
-placed_as kinds.Method channel payload frame h = let read = read_as (λ x. Meth channel x) (all_of judge_payload payload) frame h in here (ap channel_id_of (sym read.2))
-placed_as kinds.Header channel payload frame h = let read = read_as (λ x. Head channel x) (all_of judge_content_header payload) frame h in here (ap channel_id_of (sym read.2))
+placed_as kinds.Method channel payload frame h =
+    let read = read_as (λ x. Meth channel x) (all_of judge_payload payload) frame h in
+    here (ap channel_id_of (sym read.2))
+placed_as kinds.Header channel payload frame h =
+    let read = read_as (λ x. Head channel x) (all_of judge_content_header payload) frame h in
+    here (ap channel_id_of (sym read.2))
 placed_as kinds.Body channel payload frame h = let is : Body channel payload ≡ frame = cc in here (ap channel_id_of (sym is))
 placed_as kinds.Heartbeat channel payload frame h = outside (beat_of channel payload frame h)
 
@@ -90,7 +95,8 @@ abbrev pub progress_raw : MessageFilter → Raw → FrameOutline → Option Prog
 progress_raw s raw outline = progress_after greatest (progress_in (held_at s raw.channel)) outline
 
 -- it is that of the frame
-marked_by : (s : MessageFilter) (raw : Raw) (outline : FrameOutline) (mark : Mark) (frame : Frame) → IsOutlineOf raw outline → mark ≡ mark_raw s raw outline → whole raw ≡ Ok frame → mark_held (held_at s (channel_id_of frame)) frame ≡ mark
+marked_by : (s : MessageFilter) (raw : Raw) (outline : FrameOutline) (mark : Mark) (frame : Frame) → IsOutlineOf raw outline
+    → mark ≡ mark_raw s raw outline → whole raw ≡ Ok frame → mark_held (held_at s (channel_id_of frame)) frame ≡ mark
 marked_by s raw outline mark frame is e h = by_place (placed raw frame h)
   where
     same : mark_held (held_at s raw.channel) frame ≡ mark
@@ -98,10 +104,12 @@ marked_by s raw outline mark frame is e h = by_place (placed raw frame h)
 
     by_place : IsPlaced raw.channel frame → mark_held (held_at s (channel_id_of frame)) frame ≡ mark
     by_place (here channel) = ap (λ c. mark_held (held_at s c) frame) channel ∙ same
-    by_place (outside content) = passed_mark (progress_in (held_at s (channel_id_of frame))) frame content ∙ sym (passed_mark (progress_in (held_at s raw.channel)) frame content) ∙ same
+    by_place (outside content) =
+        passed_mark (progress_in (held_at s (channel_id_of frame))) frame content ∙ sym (passed_mark (progress_in (held_at s raw.channel)) frame content) ∙ same
 
 -- a frame that is not passed is on that channel
-channel_by : (s : MessageFilter) (raw : Raw) (mark : Mark) (frame : Frame) → mark_held (held_at s (channel_id_of frame)) frame ≡ mark → mark ≢ marks.Passed → whole raw ≡ Ok frame → channel_id_of frame ≡ raw.channel
+channel_by : (s : MessageFilter) (raw : Raw) (mark : Mark) (frame : Frame) → mark_held (held_at s (channel_id_of frame)) frame ≡ mark
+    → mark ≢ marks.Passed → whole raw ≡ Ok frame → channel_id_of frame ≡ raw.channel
 channel_by s raw mark frame e other h = by_place (placed raw frame h)
   where
     by_place : IsPlaced raw.channel frame → channel_id_of frame ≡ raw.channel
@@ -115,38 +123,49 @@ pub given_by : {A E : Type 0} (result : Result A E) → IsOk result → (a : A) 
 given_by (Ok a) h = (a, refl)
 given_by (Err e) h = absurd cc
 
-pub refused_steps : (s : MessageFilter) (raw : Raw) (outline : FrameOutline) (bad : ContentFault) → IsOutlineOf raw outline → marks.Fault bad ≡ mark_raw s raw outline → (frame : Frame) → whole raw ≡ Ok frame → step_filtering s frame ≡ Err (refusals.BadContent bad)
-refused_steps s raw outline bad is e frame h = ap (step_marked s (held_at s (channel_id_of frame)) frame) (marked_by s raw outline (marks.Fault bad) frame is e h)
+-- A frame that is not in turn is refused with its fault.
+pub refused_steps : (s : MessageFilter) (raw : Raw) (outline : FrameOutline) (bad : ContentFault) → IsOutlineOf raw outline
+    → marks.Fault bad ≡ mark_raw s raw outline → (frame : Frame) → whole raw ≡ Ok frame → step_filtering s frame ≡ Err (refusals.BadContent bad)
+refused_steps s raw outline bad is e frame h =
+    ap (step_marked s (held_at s (channel_id_of frame)) frame) (marked_by s raw outline (marks.Fault bad) frame is e h)
 
 -- what is decided of the frame that a payload is
 abbrev pub IsDecided : MessageFilter → Raw → Bool → Type 0
 IsDecided s raw kept = (frame : Frame) → whole raw ≡ Ok frame → kept ≡ decides s.rules (outline_of frame)
 
 -- a frame of no message is decided of by itself, and all stays
-passed_step : (s : MessageFilter) (frame : Frame) (kept : Bool) → mark_held (held_at s (channel_id_of frame)) frame ≡ marks.Passed → kept ≡ decides s.rules (outline_of frame) → step_filtering s frame ≡ Ok (given kept frame, s)
+passed_step : (s : MessageFilter) (frame : Frame) (kept : Bool) → mark_held (held_at s (channel_id_of frame)) frame ≡ marks.Passed
+    → kept ≡ decides s.rules (outline_of frame) → step_filtering s frame ≡ Ok (given kept frame, s)
 passed_step s frame kept mark decided =
     ap (step_marked s (held_at s (channel_id_of frame)) frame) mark
     ∙ ap (λ m. Ok (given (decides s.rules (outline_of frame)) frame, record s { messages = m })) (sym (set_at-same s.messages (channel_id_of frame)))
     ∙ ap (λ (b : Bool). Ok (given b frame, s)) (sym decided)
 
-pub passed_steps : (s : MessageFilter) (raw : Raw) (outline : FrameOutline) (kept : Bool) → IsOutlineOf raw outline → marks.Passed ≡ mark_raw s raw outline → IsDecided s raw kept → StepsTo s s raw kept
+-- A frame outside of messages is written where the rules keep it, and all that is kept of channels stays.
+pub passed_steps : (s : MessageFilter) (raw : Raw) (outline : FrameOutline) (kept : Bool)
+    → IsOutlineOf raw outline → marks.Passed ≡ mark_raw s raw outline → IsDecided s raw kept → StepsTo s s raw kept
 passed_steps s raw outline kept is e decided frame h = passed_step s frame kept (marked_by s raw outline marks.Passed frame is e h) (decided frame h)
 
 -- the same where no message has begun
-pub alone_steps : (s : MessageFilter) (raw : Raw) (kept empty : Bool) → empty ≡ eqb (finite.len s.messages) 0 → empty ≡ true → ((frame : Frame) → whole raw ≡ Ok frame → mark_after greatest None (outline_of frame) ≡ marks.Passed) → IsDecided s raw kept → StepsTo s s raw kept
+pub alone_steps : (s : MessageFilter) (raw : Raw) (kept empty : Bool) → empty ≡ eqb (finite.len s.messages) 0 → empty ≡ true
+    → ((frame : Frame) → whole raw ≡ Ok frame → mark_after greatest None (outline_of frame) ≡ marks.Passed) → IsDecided s raw kept → StepsTo s s raw kept
 alone_steps s raw kept empty is none passed decided frame h =
     let here : held_at s (channel_id_of frame) ≡ None = none_held s.messages (eqb-true (finite.len s.messages) 0 (sym is ∙ none)) (channel_id_of frame) in
-    let mark : mark_held (held_at s (channel_id_of frame)) frame ≡ marks.Passed = ap (λ (k : Option Open). mark_after greatest (progress_in k) (outline_of frame)) here ∙ passed frame h in
+    let mark : mark_held (held_at s (channel_id_of frame)) frame ≡ marks.Passed =
+    ap (λ (k : Option Open). mark_after greatest (progress_in k) (outline_of frame)) here ∙ passed frame h in
     passed_step s frame kept mark (decided frame h)
 
-pub opening_steps : (s : MessageFilter) (raw : Raw) (outline : FrameOutline) (kept : Bool) → IsOutlineOf raw outline → marks.Opening ≡ mark_raw s raw outline → IsDecided s raw kept → StepsTo s (with_held s raw.channel (held_with (Some progresses.Opened) kept)) raw kept
+pub opening_steps : (s : MessageFilter) (raw : Raw) (outline : FrameOutline) (kept : Bool) → IsOutlineOf raw outline
+    → marks.Opening ≡ mark_raw s raw outline → IsDecided s raw kept → StepsTo s (with_held s raw.channel (held_with (Some progresses.Opened) kept)) raw kept
 opening_steps s raw outline kept is e decided frame h =
     let held = held_at s (channel_id_of frame) in
     let mark = marked_by s raw outline marks.Opening frame is e h in
     let channel = channel_by s raw marks.Opening frame mark (λ same. absurd cc) h in
     ap (step_marked s held frame) mark
-    ∙ ap (λ p. Ok (given (decides s.rules (outline_of frame)) frame, with_held s (channel_id_of frame) (held_with p (decides s.rules (outline_of frame))))) (ap (progress_marked (progress_in held) (outline_of frame)) mark)
-    ∙ ap (λ c. Ok (given (decides s.rules (outline_of frame)) frame, with_held s c (held_with (Some progresses.Opened) (decides s.rules (outline_of frame))))) channel
+    ∙ ap (λ p. Ok (given (decides s.rules (outline_of frame)) frame, with_held s (channel_id_of frame) (held_with p (decides s.rules (outline_of frame)))))
+    (ap (progress_marked (progress_in held) (outline_of frame)) mark)
+    ∙ ap (λ c. Ok (given (decides s.rules (outline_of frame)) frame, with_held s c (held_with (Some progresses.Opened) (decides s.rules (outline_of frame)))))
+    channel
     ∙ ap (λ (b : Bool). Ok (given b frame, with_held s raw.channel (held_with (Some progresses.Opened) b))) (sym (decided frame h))
 
 -- a content header or a body in a message
@@ -164,14 +183,17 @@ within_other marks.Passed within e = absurd within
 within_other marks.Opening within e = absurd within
 within_other (marks.Fault bad) within e = absurd within
 
-within_step : (s : MessageFilter) (held : Option Open) (frame : Frame) (mark : Mark) → IsWithin mark → step_marked s held frame mark ≡ Ok (given (kept_in held) frame, with_held s (channel_id_of frame) (held_more (kept_in held) held frame))
+within_step : (s : MessageFilter) (held : Option Open) (frame : Frame) (mark : Mark) → IsWithin mark
+    → step_marked s held frame mark ≡ Ok (given (kept_in held) frame, with_held s (channel_id_of frame) (held_more (kept_in held) held frame))
 within_step s held frame marks.Header within = refl
 within_step s held frame (marks.Body before after size) within = refl
 within_step s held frame marks.Passed within = absurd within
 within_step s held frame marks.Opening within = absurd within
 within_step s held frame (marks.Fault bad) within = absurd within
 
-pub within_steps : (s : MessageFilter) (raw : Raw) (outline : FrameOutline) (mark : Mark) (progress : Option Progress) (kept : Bool) → IsOutlineOf raw outline → IsWithin mark → mark ≡ mark_raw s raw outline → progress ≡ progress_raw s raw outline → kept ≡ kept_in (held_at s raw.channel) → StepsTo s (with_held s raw.channel (held_with progress kept)) raw kept
+pub within_steps : (s : MessageFilter) (raw : Raw) (outline : FrameOutline) (mark : Mark) (progress : Option Progress) (kept : Bool)
+    → IsOutlineOf raw outline → IsWithin mark → mark ≡ mark_raw s raw outline → progress ≡ progress_raw s raw outline
+    → kept ≡ kept_in (held_at s raw.channel) → StepsTo s (with_held s raw.channel (held_with progress kept)) raw kept
 within_steps s raw outline mark progress kept is within e goes k frame h =
     let marked = marked_by s raw outline mark frame is e h in
     let channel = channel_by s raw mark frame marked (within_other mark within) h in
@@ -179,7 +201,8 @@ within_steps s raw outline mark progress kept is within e goes k frame h =
     ap (step_marked s (held_at s (channel_id_of frame)) frame) marked
     ∙ within_step s (held_at s (channel_id_of frame)) frame mark within
     ∙ ap (λ c. Ok (given (kept_in (held_at s c)) frame, with_held s c (held_more (kept_in (held_at s c)) (held_at s c) frame))) channel
-    ∙ ap (λ p. Ok (given (kept_in (held_at s raw.channel)) frame, with_held s raw.channel (held_with p (kept_in (held_at s raw.channel))))) (ap (progress_after greatest (progress_in (held_at s raw.channel))) (sym same) ∙ sym goes)
+    ∙ ap (λ p. Ok (given (kept_in (held_at s raw.channel)) frame, with_held s raw.channel (held_with p (kept_in (held_at s raw.channel)))))
+    (ap (progress_after greatest (progress_in (held_at s raw.channel))) (sym same) ∙ sym goes)
     ∙ ap (λ b. Ok (given b frame, with_held s raw.channel (held_with progress b))) (sym k)
 
 -- ---- what is kept before a frame with a mark
@@ -214,16 +237,19 @@ pub opening_none : (held : Option Open) (outline : FrameOutline) → marks.Openi
 opening_none None outline e = refl
 opening_none (Some held) outline e = absurd (no_opening_within held.progress outline e)
 
-opening_kind_as : (kind : AMQPFrameType) (channel : ℕ) (payload : List ℕ) → marks.Opening ≡ mark_after greatest None (outline_at kind channel payload) → kind ≡ kinds.Method
+opening_kind_as : (kind : AMQPFrameType) (channel : ℕ) (payload : List ℕ)
+    → marks.Opening ≡ mark_after greatest None (outline_at kind channel payload) → kind ≡ kinds.Method
 opening_kind_as kinds.Method channel payload e = refl
 opening_kind_as kinds.ProtocolHeader channel payload e = absurd cc
 opening_kind_as kinds.Header channel payload e = absurd cc
 opening_kind_as kinds.Body channel payload e = absurd cc
 opening_kind_as kinds.Heartbeat channel payload e = absurd cc
 
-pub opening_kind : (raw : Raw) (held : Option Open) (outline : FrameOutline) → outline ≡ outline_front raw → marks.Opening ≡ mark_after greatest (progress_in held) outline → raw.kind ≡ kinds.Method
+pub opening_kind : (raw : Raw) (held : Option Open) (outline : FrameOutline) → outline ≡ outline_front raw
+    → marks.Opening ≡ mark_after greatest (progress_in held) outline → raw.kind ≡ kinds.Method
 opening_kind raw held outline is e =
-    opening_kind_as raw.kind raw.channel raw.payload (e ∙ ap (λ k. mark_after greatest (progress_in k) outline) (opening_none held outline e) ∙ ap (mark_after greatest None) is)
+    opening_kind_as raw.kind raw.channel raw.payload
+    (e ∙ ap (λ k. mark_after greatest (progress_in k) outline) (opening_none held outline e) ∙ ap (mark_after greatest None) is)
 
 no_within_method : (class id : ℕ) (opens : Bool) → is_opening_id class id ≡ opens → IsWithin (method_mark class id) → ⊥
 no_within_method class id true e within = let other = rw e at within in absurd other
@@ -236,6 +262,7 @@ no_within (outlines.Body channel count) within = absurd within
 no_within outlines.ProtocolHeader within = absurd within
 no_within (outlines.Heartbeat channel) within = absurd within
 
-pub within_there : (held : Option Open) (outline : FrameOutline) (mark : Mark) → IsWithin mark → mark ≡ mark_after greatest (progress_in held) outline → IsSome held
+pub within_there : (held : Option Open) (outline : FrameOutline) (mark : Mark)
+    → IsWithin mark → mark ≡ mark_after greatest (progress_in held) outline → IsSome held
 within_there (Some held) outline mark within e = refl
 within_there None outline mark within e = absurd (no_within outline (subst IsWithin e within))

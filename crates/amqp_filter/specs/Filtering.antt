@@ -15,18 +15,24 @@ use Rattle.amqp_in_turn.specs.Reports.{TurnReport}
 abbrev pub kept_bytes : (FrameOutline → Bool) → List Frame → List ℕ
 kept_bytes keeps frames = canon_frames (kept_of keeps frames)
 
--- A whole call, which writes the canonical bytes of the frames that are kept; memory may run out at methods.
-abbrev pub Filters : (FrameOutline → Bool) → ℕ → ℕ → Supply → Supply → Store → Store → Result (Unit {0}) TurnError → Type 0
-Filters keeps m turns a b k l result = GoesInTurn (kept_bytes keeps) is_method_type m turns a b k l result
+-- A whole call, which writes the canonical bytes of the frames that are kept; memory may run
+-- out at methods.
+abbrev pub Filters : (FrameOutline → Bool) → ℕ → ℕ → Supply
+    → Supply → Store → Store → Result (Unit {0}) TurnError → Type 0
+Filters keeps m budget a b k l result =
+    GoesInTurn (kept_bytes keeps) is_method_type m budget a b k l result
 
 -- what a call returns and writes over a source that reports its bytes
-abbrev pub FiltersExactly : (FrameOutline → Bool) → ℕ → List ℕ → Store → Store → Result (Unit {0}) TurnError → Type 0
+abbrev pub FiltersExactly : (FrameOutline → Bool) → ℕ → List ℕ
+    → Store → Store → Result (Unit {0}) TurnError → Type 0
 FiltersExactly keeps m bytes k l result = GoesExactly (kept_bytes keeps) m bytes k l result
 
 -- a run that writes the canonical bytes of the frames that are kept
-abbrev pub FilterRun : {S K : Type 0} → (FrameOutline → Bool) → (S → Supply) → (K → Store) → ℕ → ℕ → S → S → K → K → Result (Unit {0}) TurnError → Type 0
+abbrev pub FilterRun : {S K : Type 0} → (FrameOutline → Bool) → (S → Supply)
+    → (K → Store) → ℕ → ℕ → S → S → K → K → Result (Unit {0}) TurnError → Type 0
 FilterRun keeps = TurnRun (kept_bytes keeps) is_method_type
 
 -- the same, with its report
-abbrev pub FilterReport : {S K : Type 0} → (FrameOutline → Bool) → (S → Supply) → (K → Store) → ℕ → ℕ → S → S → K → K → Result (Unit {0}) (RunReport TurnError) → Type 0
+abbrev pub FilterReport : {S K : Type 0} → (FrameOutline → Bool) → (S → Supply)
+    → (K → Store) → ℕ → ℕ → S → S → K → K → Result (Unit {0}) (RunReport TurnError) → Type 0
 FilterReport keeps = TurnReport (kept_bytes keeps) is_method_type

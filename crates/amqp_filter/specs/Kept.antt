@@ -7,8 +7,8 @@ use Rattle.amqp_turns.specs.Units.{Begun, Nothing, Opened, Headed, is_content}
 use Rattle.amqp_turns.specs.Stands.{State, At, Lost}
 use Rattle.amqp_turns.specs.InTurn.{state_on}
 
--- The frame that decides of one more frame of a channel's content, after what has begun there: the opening of the message that it continues, or itself
--- (AMQP 0-9-1, section 4.2.6).
+-- The frame that decides of one more frame of a channel's content, after what has begun there: the
+-- opening of the message that it continues, or itself (AMQP 0-9-1, section 4.2.6).
 abbrev pub opening_or : Begun Frame → Frame → Frame
 opening_or Nothing frame = frame
 opening_or (Opened opening) frame = opening
@@ -25,7 +25,8 @@ decider state frame = if is_content (outline_of frame) then content_decider stat
 
 -- a frame after these is kept: the frame that decides of it passes the test
 abbrev pub is_kept : (FrameOutline → Bool) → List Frame → Frame → Bool
-is_kept keeps earlier frame = keeps (outline_of (decider (state_on earlier (channel_id_of frame)) frame))
+is_kept keeps earlier frame =
+    keeps (outline_of (decider (state_on earlier (channel_id_of frame)) frame))
 
 -- a frame, where it is kept
 abbrev pub if_kept : Bool → Frame → List Frame
@@ -35,7 +36,8 @@ if_kept false frame = []
 -- those of some frames that are kept, after those that came before them
 abbrev pub kept_after : (FrameOutline → Bool) → List Frame → List Frame → List Frame
 kept_after keeps earlier [] = []
-kept_after keeps earlier (frame ∷ frames) = if_kept (is_kept keeps earlier frame) frame ++ kept_after keeps (earlier ++ frame ∷ []) frames
+kept_after keeps earlier (frame ∷ frames) =
+    if_kept (is_kept keeps earlier frame) frame ++ kept_after keeps (earlier ++ frame ∷ []) frames
 
 -- those of a sequence of frames that are kept, in order
 abbrev pub kept_of : (FrameOutline → Bool) → List Frame → List Frame

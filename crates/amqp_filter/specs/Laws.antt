@@ -5,7 +5,8 @@ use Rattle.amqp_wire.specs.declared.outline.FrameOutline.{FrameOutline}
 use Rattle.amqp_wire.specs.Frames.{Frame, Meth}
 use Rattle.amqp_wire.specs.Outlines.{outline_of, outline_channel}
 use Rattle.amqp_wire.specs.Canonical.{canon_frames}
-use Rattle.amqp_turns.specs.Units.{Finished, Lone, Empty, Full, Begun, Nothing, Opened, Headed, is_content, of_channel, frames_in, IsInTurn}
+use Rattle.amqp_turns.specs.Units.{Finished, Lone, Empty, Full, Begun, Nothing, Opened, Headed}
+use Rattle.amqp_turns.specs.Units.{is_content, of_channel, frames_in, IsInTurn}
 use Rattle.amqp_turns.specs.Messages.{Content}
 pub use Rattle.amqp_turns.specs.Laws.{messages_on}
 use Rattle.amqp_select.specs.declared.rule.Rule.{Rule}
@@ -30,13 +31,16 @@ keeps_unit keeps unit = keeps (outline_of (first_of unit))
 abbrev pub begun_kept : (FrameOutline → Bool) → Begun Frame → Begun Frame
 begun_kept keeps Nothing = Nothing
 begun_kept keeps (Opened opening) = if keeps (outline_of opening) then Opened opening else Nothing
-begun_kept keeps (Headed opening header bodies) = if keeps (outline_of opening) then Headed opening header bodies else Nothing
+begun_kept keeps (Headed opening header bodies) =
+    if keeps (outline_of opening) then Headed opening header bodies else Nothing
 
 -- Of the units of a channel those are left, in order, that are kept, each with all its frames.
 abbrev pub UnitsAreKept : Type 0
 UnitsAreKept =
-    (keeps : FrameOutline → Bool) (frames : List Frame) (channel : ℕ) (turn : IsInTurn outline_of greatest (of_channel outline_of channel frames))
-    → of_channel outline_of channel (kept_of keeps frames) ≡ frames_in (filter (keeps_unit keeps) turn.units) (begun_kept keeps turn.begun)
+    (keeps : FrameOutline → Bool) (frames : List Frame) (channel : ℕ)
+    (turn : IsInTurn outline_of greatest (of_channel outline_of channel frames))
+    → of_channel outline_of channel (kept_of keeps frames)
+    ≡ frames_in (filter (keeps_unit keeps) turn.units) (begun_kept keeps turn.begun)
 
 -- ---- messages
 
@@ -48,7 +52,8 @@ keeps_message keeps message = keeps (outline_of (Meth message.channel message.op
 abbrev pub MessagesAreKept : Type 0
 MessagesAreKept =
     (keeps : FrameOutline → Bool) (frames : List Frame) → AreInTurn frames → (channel : ℕ)
-    → messages_on channel (kept_of keeps frames) ≡ filter (keeps_message keeps) (messages_on channel frames)
+    → messages_on channel (kept_of keeps frames)
+    ≡ filter (keeps_message keeps) (messages_on channel frames)
 
 -- ---- all frames
 
@@ -60,15 +65,20 @@ outside_content frames = filter (λ frame. not (is_content (outline_of frame))) 
 abbrev pub OthersAreKept : Type 0
 OthersAreKept =
     (keeps : FrameOutline → Bool) (frames : List Frame)
-    → outside_content (kept_of keeps frames) ≡ filter (λ frame. keeps (outline_of frame)) (outside_content frames)
+    → outside_content (kept_of keeps frames)
+    ≡ filter (λ frame. keeps (outline_of frame)) (outside_content frames)
 
 -- Filtering keeps frames in turn.
 abbrev pub StaysInTurn : Type 0
-StaysInTurn = (keeps : FrameOutline → Bool) (frames : List Frame) → AreInTurn frames → AreInTurn (kept_of keeps frames)
+StaysInTurn =
+    (keeps : FrameOutline → Bool) (frames : List Frame)
+    → AreInTurn frames → AreInTurn (kept_of keeps frames)
 
 -- Filtering twice by one test is filtering once.
 abbrev pub TwiceIsOnce : Type 0
-TwiceIsOnce = (keeps : FrameOutline → Bool) (frames : List Frame) → AreInTurn frames → kept_of keeps (kept_of keeps frames) ≡ kept_of keeps frames
+TwiceIsOnce =
+    (keeps : FrameOutline → Bool) (frames : List Frame) → AreInTurn frames
+    → kept_of keeps (kept_of keeps frames) ≡ kept_of keeps frames
 
 -- Where each outline passes, what is written is what the canonicalizer writes.
 abbrev pub AllIsWritten : Type 0
@@ -76,8 +86,11 @@ AllIsWritten =
     (keeps : FrameOutline → Bool) → ((outline : FrameOutline) → keeps outline ≡ true)
     → (frames : List Frame) → kept_bytes keeps frames ≡ canon_frames frames
 
--- Where what is decided of a frame depends on its channel alone, the frames that are kept are those that are selected one by one.
+-- Where what is decided of a frame depends on its channel alone, the frames that are kept are those
+-- that are selected one by one.
 abbrev pub SelectsAlike : Type 0
 SelectsAlike =
-    (rules : List Rule) → ((a b : FrameOutline) → outline_channel a ≡ outline_channel b → decides rules a ≡ decides rules b)
+    (rules : List Rule)
+    → ((a b : FrameOutline) → outline_channel a ≡ outline_channel b
+    → decides rules a ≡ decides rules b)
     → (frames : List Frame) → AreInTurn frames → kept_of (decides rules) frames ≡ kept rules frames

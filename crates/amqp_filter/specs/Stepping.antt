@@ -1,5 +1,6 @@
 -- How filtering goes from frame to frame: what is written for a frame, and what is kept after it.
-use Rattle.std.specs.Prelude.{◌≡◌, ℕ, ◌==◌, Bool, true, false, List, Option, Some, None, Result, Ok, Err, if◌then◌else◌}
+use Rattle.std.specs.Prelude.{◌≡◌, ℕ, ◌==◌, Bool, true, false, List, Option, Some, None}
+use Rattle.std.specs.Prelude.{Result, Ok, Err, if◌then◌else◌}
 use Rattle.std.specs.FinMap as finite
 use Rattle.amqp_types.specs.Levels.{plain}
 use Rattle.amqp_wire.specs.declared.frame_type.AMQPFrameType.{AMQPFrameType}
@@ -35,9 +36,11 @@ kept_marked keeps held frame (marks.Fault bad) = false
 
 -- what is kept of a message after one more frame of it
 abbrev pub held_more : Bool → Option Open → Frame → Option Open
-held_more kept held frame = held_with (progress_after greatest (progress_in held) (outline_of frame)) kept
+held_more kept held frame =
+    held_with (progress_after greatest (progress_in held) (outline_of frame)) kept
 
--- What is kept of a channel after a frame with this mark: how far its message has come, and what was decided of it. A frame of no message leaves that.
+-- What is kept of a channel after a frame with this mark: how far its message has come, and what
+-- was decided of it. A frame of no message leaves that.
 abbrev pub held_marked : (FrameOutline → Bool) → Option Open → Frame → Mark → Option Open
 held_marked keeps held frame marks.Passed = held
 held_marked keeps held frame marks.Opening = held_more (keeps (outline_of frame)) held frame
@@ -57,25 +60,35 @@ held_at s channel = finite.get s.messages channel
 abbrev pub with_held : MessageFilter → ℕ → Option Open → MessageFilter
 with_held s channel held = record s { messages = set_at s.messages channel held }
 
--- A step by the mark of the frame: a content fault is refused, and after any other frame what is kept of its channel is replaced.
-abbrev pub step_marked : MessageFilter → Option Open → Frame → Mark → Result (List ℕ × MessageFilter) Refusal
+-- A step by the mark of the frame: a content fault is refused, and after any other frame what is
+-- kept of its channel is replaced.
+abbrev pub step_marked : MessageFilter → Option Open
+    → Frame → Mark → Result (List ℕ × MessageFilter) Refusal
 step_marked s held frame (marks.Fault bad) = Err (refusals.BadContent bad)
 step_marked s held frame mark =
-    Ok (given (kept_marked (decides s.rules) held frame mark) frame, with_held s (channel_id_of frame) (held_marked (decides s.rules) held frame mark))
+    Ok (
+      given (kept_marked (decides s.rules) held frame mark) frame,
+      with_held s (channel_id_of frame) (held_marked (decides s.rules) held frame mark),
+    )
 
--- A step of filtering: of all that is kept, only what is kept of the channel of the frame matters, and only that changes.
+-- A step of filtering: of all that is kept, only what is kept of the channel of the frame matters,
+-- and only that changes.
 abbrev pub step_filtering : MessageFilter → Frame → Result (List ℕ × MessageFilter) Refusal
-step_filtering s frame = step_marked s (held_at s (channel_id_of frame)) frame (mark_held (held_at s (channel_id_of frame)) frame)
+step_filtering s frame =
+    step_marked s (held_at s (channel_id_of frame)) frame
+    (mark_held (held_at s (channel_id_of frame)) frame)
 
 -- ---- calls of the writer
 
 -- A step that gives a frame, where it is kept, and keeps this of its channel.
 abbrev pub StepsTo : MessageFilter → MessageFilter → Raw → Bool → Type 0
-StepsTo s t raw kept = (frame : Frame) → whole raw ≡ Ok frame → step_filtering s frame ≡ Ok (given kept frame, t)
+StepsTo s t raw kept =
+    (frame : Frame) → whole raw ≡ Ok frame → step_filtering s frame ≡ Ok (given kept frame, t)
 
 -- ---- a stream
 
--- the type of frames at which memory may run out: after a method something may be kept of its channel for the first time
+-- the type of frames at which memory may run out: after a method something may be kept of its
+-- channel for the first time
 abbrev pub is_method_type : AMQPFrameType → Bool
 is_method_type kinds.Method = true
 is_method_type kinds.ProtocolHeader = false
@@ -87,9 +100,16 @@ is_method_type kinds.Heartbeat = false
 abbrev pub end_filtering : MessageFilter → Option Refusal
 end_filtering s = if finite.len s.messages == 0 then None else Some refusals.OpenContent
 
--- filtering as a manner of writing: frames are read at level plain, and a content fault, or a message that is open at the end of input, is refused
+-- filtering as a manner of writing: frames are read at level plain, and a content fault, or a
+-- message that is open at the end of input, is refused
 abbrev pub filtering : Manner MessageFilter Refusal
-filtering = record { level = plain; step = step_filtering; end = end_filtering; wants = is_method_type; compact = true }
+filtering = record {
+  level = plain;
+  step = step_filtering;
+  end = end_filtering;
+  wants = is_method_type;
+  compact = true;
+}
 
 -- A whole frame that is kept, or is not, and what the writer keeps then; or why it is refused.
 abbrev pub KeepsBy : MessageFilter → MessageFilter → Raw → Result Bool (RunError Refusal) → Type 0

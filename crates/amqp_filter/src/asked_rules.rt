@@ -29,7 +29,9 @@ impl<'a> Model for AskedRules<'a> {
 
     ghost view = { λ asked. asked.rules.now };
 
-    ghost invariant = { λ asked. ((outline : FrameOutline) → IfSome asked.all (λ keep. keep ≡ decides asked.rules.now outline))
+    ghost invariant = { λ asked.
+        ((outline : FrameOutline)
+        → IfSome asked.all (λ keep. keep ≡ decides asked.rules.now outline))
         × (asked.keep_all ≡ true → asked.all ≡ Some true) };
 }
 
@@ -52,7 +54,8 @@ fn decide_read(
     payload: &[u8],
 ) -> bool
     requires { IsOk (whole_as frame_type channel_id payload.now) }
-    ensures { (frame : Frame) → whole_as frame_type channel_id payload.now ≡ Ok frame → result ≡ decides rules.now (outline_of frame) }
+    ensures { (frame : Frame) → whole_as frame_type channel_id payload.now ≡ Ok frame
+        → result ≡ decides rules.now (outline_of frame) }
 {
     let raw = AMQPRawFrame {
         frame_type,
@@ -89,7 +92,8 @@ impl<'a> AskedRules<'a> {
     #[inline(always)]
     pub(crate) fn decide(&self, raw: AMQPRawFrame<'_>) -> bool
         requires { IsOk (whole (raw_of raw)) }
-        ensures { (frame : Frame) → whole (raw_of raw.entry) ≡ Ok frame → result ≡ decides self.now (outline_of frame) }
+        ensures { (frame : Frame) → whole (raw_of raw.entry) ≡ Ok frame
+            → result ≡ decides self.now (outline_of frame) }
     {
         match self.all {
             Some(keep) => keep,

@@ -23,16 +23,19 @@ pub fn filter_reported<S: Source, K: Sink>(
     source: &mut S,
     sink: &mut K,
     max_payload: ChunkSize,
-    turns: u64,
+    budget: u64,
 ) -> Result<(), RunReport<FilterError>>
-    ensures run { FilterReport (decides rules.now) S.supply K.store max_payload turns source.old source.new sink.old sink.new result
-        ⊎ NeverBeganReport source.old source.new sink.old sink.new (FilterError.Stream StreamError.NoMemory) result }
+    ensures run { FilterReport (decides rules.now) S.supply K.store
+        max_payload budget source.old source.new sink.old sink.new result
+        ⊎ NeverBeganReport source.old source.new sink.old sink.new
+        (FilterError.Stream StreamError.NoMemory) result }
     ensures never_untidy { unreported result ≢ Err (FilterError.Stream StreamError.NotTidy) }
-    ensures never_too_large { unreported result ≢ Err (FilterError.BadContent ContentFault.BodyTooLarge) }
+    ensures never_too_large { unreported result
+        ≢ Err (FilterError.BadContent ContentFault.BodyTooLarge) }
     ensures never_faulted { unreported result ≢ Err (FilterError.BadContent ContentFault.Faulted) }
 {
     let mut writer = MessageFilter::new(alloc, rules);
-    let run = run_stream_reported(alloc, &mut writer, source, sink, max_payload, turns);
+    let run = run_stream_reported(alloc, &mut writer, source, sink, max_payload, budget);
     as_turned_report(run)
 }
 
@@ -43,13 +46,15 @@ pub fn filter<S: Source, K: Sink>(
     source: &mut S,
     sink: &mut K,
     max_payload: ChunkSize,
-    turns: u64,
+    budget: u64,
 ) -> Result<(), FilterError>
-    ensures run { FilterRun (decides rules.now) S.supply K.store max_payload turns source.old source.new sink.old sink.new result
-        ⊎ NeverBegan source.old source.new sink.old sink.new (FilterError.Stream StreamError.NoMemory) result }
+    ensures run { FilterRun (decides rules.now) S.supply K.store
+        max_payload budget source.old source.new sink.old sink.new result
+        ⊎ NeverBegan source.old source.new sink.old sink.new
+        (FilterError.Stream StreamError.NoMemory) result }
     ensures never_untidy { result ≢ Err (FilterError.Stream StreamError.NotTidy) }
     ensures never_too_large { result ≢ Err (FilterError.BadContent ContentFault.BodyTooLarge) }
     ensures never_faulted { result ≢ Err (FilterError.BadContent ContentFault.Faulted) }
 {
-    unreported(filter_reported(alloc, rules, source, sink, max_payload, turns))
+    unreported(filter_reported(alloc, rules, source, sink, max_payload, budget))
 }

@@ -1,6 +1,7 @@
 //! Laws of filtering, each the contract of a function that does nothing.
 
-ghost use Rattle.amqp_filter.specs.Laws.{UnitsAreKept, OthersAreKept, MessagesAreKept, StaysInTurn, TwiceIsOnce, AllIsWritten, SelectsAlike};
+ghost use Rattle.amqp_filter.specs.Laws.{UnitsAreKept, OthersAreKept, MessagesAreKept, StaysInTurn};
+ghost use Rattle.amqp_filter.specs.Laws.{TwiceIsOnce, AllIsWritten, SelectsAlike};
 
 /// Of the units of a channel, methods that stand alone and messages, those are left whose first frame rules keep, each whole
 /// and in order, and of the frames outside of all content those that rules keep. So frames in turn are in turn after

@@ -11,9 +11,7 @@ use crate::asked_rules::AskedRules;
 use crate::messages::{Open, is_kept, message_with, progress_of};
 use amqp_in_turn::{OpenMessages, Refusal};
 use amqp_select::Rules;
-use amqp_stream::{
-    Decision, FrameWriter, OutputBuffer, RunError, Sink, StreamError, payload_error, put_decided,
-};
+use amqp_stream::{Decision, FrameDecider, RunError, StreamError, payload_error};
 use amqp_turns::{Mark, Progress, step};
 use amqp_types::{ChannelId, Identifier};
 use amqp_wire::{
@@ -41,7 +39,8 @@ fn is_passed(outline: FrameOutline) -> bool
 #[inline(always)]
 fn stands_alone(raw: AMQPRawFrame<'_>) -> bool
     requires { IsOk (whole (raw_of raw)) }
-    ensures { (frame : Frame) → whole (raw_of raw.entry) ≡ Ok frame → IsTrue result → mark_after greatest None (outline_of frame) ≡ Mark.Passed }
+    ensures { (frame : Frame) → whole (raw_of raw.entry) ≡ Ok frame → IsTrue result
+        → mark_after greatest None (outline_of frame) ≡ Mark.Passed }
 {
     match raw.frame_type {
         AMQPFrameType::Method => is_passed(outline_raw(raw)),
@@ -64,7 +63,7 @@ impl<'a> MessageFilter<'a> {
     ghost use Rattle.amqp_wire.specs.Judgements.{IsJudged};
     ghost use Rattle.amqp_wire.specs.Outlines.{outline_of, outline_front};
     ghost use Rattle.amqp_wire.specs.Verdicts.{whole, whole_as};
-    ghost use Rattle.amqp_stream.specs.Decisions.{DecidesBy, PassesBy};
+    ghost use Rattle.amqp_stream.specs.Decisions.{DecidesBy};
     ghost use Rattle.amqp_in_turn.specs.Judging.{JudgesKept};
     ghost use Rattle.amqp_filter.specs.Held.{held_with};
     ghost use Rattle.amqp_filter.specs.Stepping.{filtering, held_at, with_held, StepsTo, KeepsBy};
@@ -97,7 +96,9 @@ impl<'a> MessageFilter<'a> {
     fn begin(&mut self, raw: AMQPRawFrame<'_>, kept: bool) -> Result<bool, RunError<Refusal>>
         requires method { raw.frame_type ≡ AMQPFrameType.Method }
         requires none { held_at self.old raw.channel_id ≡ None }
-        requires steps { StepsTo self.old (with_held self.old raw.channel_id (held_with (Some Progress.Opened) kept)) (raw_of raw) kept }
+        requires steps { StepsTo self.old
+            (with_held self.old raw.channel_id (held_with (Some Progress.Opened) kept))
+            (raw_of raw) kept }
         ensures { KeepsBy self.old self.new (raw_of raw.entry) result }
     {
         let message = Open {
@@ -114,7 +115,8 @@ impl<'a> MessageFilter<'a> {
     #[inline(always)]
     fn go_on(&mut self, raw: AMQPRawFrame<'_>, progress: Option<Progress>, kept: bool) -> bool
         requires there { IsSome (held_at self.old raw.channel_id) }
-        requires steps { StepsTo self.old (with_held self.old raw.channel_id (held_with progress kept)) (raw_of raw) kept }
+        requires steps { StepsTo self.old
+            (with_held self.old raw.channel_id (held_with progress kept)) (raw_of raw) kept }
         ensures { StepsTo self.old self.new (raw_of raw.entry) result }
     {
         self.messages
@@ -131,7 +133,8 @@ impl<'a> MessageFilter<'a> {
     ) -> Result<bool, RunError<Refusal>>
         requires is_whole { IsOk (whole (raw_of raw)) }
         requires front { outline ≡ outline_front (raw_of raw) }
-        requires whole { (frame : Frame) → whole (raw_of raw) ≡ Ok frame → Some outline ≡ Some (outline_of frame) }
+        requires whole { (frame : Frame) → whole (raw_of raw) ≡ Ok frame
+            → Some outline ≡ Some (outline_of frame) }
         ensures { KeepsBy self.old self.new (raw_of raw.entry) result }
     {
         let held = self.messages.get(raw.channel_id).copied();
@@ -163,7 +166,8 @@ impl<'a> MessageFilter<'a> {
         payload: &[u8],
     ) -> Result<bool, RunError<Refusal>>
         requires { IsOk (whole_as frame_type channel_id payload.now) }
-        ensures { KeepsBy self.old self.new (record { kind = frame_type; channel = channel_id; payload = payload.now }) result }
+        ensures { KeepsBy self.old self.new
+            (record { kind = frame_type; channel = channel_id; payload = payload.now }) result }
     {
         let raw = AMQPRawFrame {
             frame_type,
@@ -204,7 +208,7 @@ impl<'a> MessageFilter<'a> {
 
     /// Takes a frame: a fault of its payload comes first.
     #[inline(always)]
-    fn decide(&mut self, raw: AMQPRawFrame<'_>) -> Result<Decision, RunError<Refusal>>
+    fn take(&mut self, raw: AMQPRawFrame<'_>) -> Result<Decision, RunError<Refusal>>
         ensures { DecidesBy filtering self.old self.new (raw_of raw.entry) result }
     {
         match judge_frame(raw) {
@@ -220,20 +224,9 @@ impl<'a> MessageFilter<'a> {
             }
         }
     }
-
-    /// Takes a frame without writing.
-    #[inline(always)]
-    fn pass_decided(&mut self, raw: AMQPRawFrame<'_>) -> Result<Option<Decision>, RunError<Refusal>>
-        ensures { PassesBy filtering self.old self.new (raw_of raw.entry) result }
-    {
-        match self.decide(raw) {
-            Ok(decision) => Ok(Some(decision)),
-            Err(error) => Err(error),
-        }
-    }
 }
 
-impl<'a> FrameWriter for MessageFilter<'a> {
+impl<'a> FrameDecider for MessageFilter<'a> {
     ghost use Rattle.amqp_filter.specs.Stepping.{filtering};
 
     type Refusal = Refusal;
@@ -241,28 +234,13 @@ impl<'a> FrameWriter for MessageFilter<'a> {
     ghost manner = { filtering };
 
     #[inline(always)]
-    fn pass(&mut self, raw: AMQPRawFrame<'_>) -> Result<Option<Decision>, RunError<Refusal>> {
+    fn decide(&mut self, raw: AMQPRawFrame<'_>) -> Result<Decision, RunError<Refusal>> {
         // So the loop has code for each type, without the tests for other types.
         match raw.frame_type {
-            AMQPFrameType::Method => self.pass_decided(raw),
-            AMQPFrameType::Header => self.pass_decided(raw),
-            AMQPFrameType::Body => self.pass_decided(raw),
-            AMQPFrameType::ProtocolHeader | AMQPFrameType::Heartbeat => self.pass_decided(raw),
-        }
-    }
-
-    fn write_frame<K: Sink>(
-        &mut self,
-        out: &mut OutputBuffer,
-        _sink: &mut K,
-        raw: AMQPRawFrame<'_>,
-    ) -> Result<(), RunError<Refusal>> {
-        match self.decide(raw) {
-            Ok(decision) => {
-                put_decided(out, raw, decision);
-                Ok(())
-            }
-            Err(error) => Err(error),
+            AMQPFrameType::Method => self.take(raw),
+            AMQPFrameType::Header => self.take(raw),
+            AMQPFrameType::Body => self.take(raw),
+            AMQPFrameType::ProtocolHeader | AMQPFrameType::Heartbeat => self.take(raw),
         }
     }
 

@@ -7,7 +7,8 @@ ghost use Rattle.amqp_types.specs.Writing.{Puts};
 ghost use Rattle.amqp_types.specs.SlotBytes.{slots_bytes};
 ghost use Rattle.amqp_types.specs.SlotJudging.{Steps, judge_slots};
 ghost use Rattle.amqp_types.specs.Slots.{number_item};
-ghost use Rattle.amqp_types.specs.ContentHeaders.{header_slots, judge_content_header, content_header_bytes, content_header_size};
+ghost use Rattle.amqp_types.specs.ContentHeaders.{header_slots, judge_content_header};
+ghost use Rattle.amqp_types.specs.ContentHeaders.{content_header_bytes, content_header_size};
 ghost use Rattle.amqp_frame.specs.Frames.{header_of};
 
 use amqp_properties::{AMQPProperties, parse_properties, put_properties, size_properties};
@@ -44,7 +45,8 @@ impl AMQPContentHeader {
 /// Decodes what comes before the properties: a class id, a weight, which is dropped, and the size of the body in bytes.
 #[tactic(auto, using(amqp_types::proofs::Judged::refuses_next), unfolding(amqp_types::specs::SlotJudging::judge_slots, amqp_types::specs::ContentHeaders::header_slots))]
 fn read_start(slots: &mut SlotReader<'_>) -> Result<(Identifier, PayloadSize), ParserError>
-    ensures step { Steps (λ start. number_item start.0 ∷ number_item start.1 ∷ []) result slots.old.rest.now slots.new.rest.now (judge_slots header_slots) }
+    ensures step { Steps (λ start. number_item start.0 ∷ number_item start.1 ∷ [])
+        result slots.old.rest.now slots.new.rest.now (judge_slots header_slots) }
     ensures left { length slots.new.rest.now ≤ length slots.old.rest.now }
 {
     let class_id = slots.short_uint()?;
@@ -76,7 +78,8 @@ pub fn parse_content_header(
 /// What comes before the properties: the class id, a weight of 0, the size of the body.
 #[tactic(auto, unfolding(amqp_types::specs::SlotBytes::slots_bytes, amqp_types::specs::SlotBytes::form_bytes, amqp_types::specs::ContentHeaders::header_slots))]
 fn header_start(class_id: Identifier, body_size: PayloadSize) -> [u8; 12]
-    ensures { result ≡ slots_bytes header_slots (number_item class_id ∷ number_item body_size ∷ []) }
+    ensures { result
+        ≡ slots_bytes header_slots (number_item class_id ∷ number_item body_size ∷ []) }
 {
     let class = class_id.to_be_bytes();
     let size = body_size.to_be_bytes();
@@ -98,7 +101,8 @@ pub(crate) fn size_content_header(header: &AMQPContentHeader) -> Result<u64, Gen
 /// Puts a content header's payload at a place of a slice, and returns the place after it.
 #[tactic(auto, unfolding(amqp_types::specs::PropertyBytes::properties_size, amqp_types::specs::ContentHeaders::content_header_bytes, amqp_types::specs::ContentHeaders::content_header_size))]
 pub(crate) fn put_content_header(buf: &mut [u8], at: usize, header: &AMQPContentHeader) -> usize
-    requires { HasRoom buf.old at (content_header_size (header_of header.now)) (content_header_bytes (header_of header.now)) }
+    requires { HasRoom buf.old at (content_header_size (header_of header.now))
+        (content_header_bytes (header_of header.now)) }
     ensures { Puts buf.old buf.new at (content_header_bytes (header_of header.now)) result }
 {
     let at = put_bytes(buf, at, &header_start(header.class_id, header.body_size));

@@ -50,8 +50,11 @@ pub fn frame_size(frame: &AMQPFrame) -> Result<u64, GenError>
 fn put_method(buf: &mut [u8], at: usize, channel_id: ChannelId, class: &AMQPClass) -> usize
     requires fits { IsOk (payload_size (method_of class.now)) }
     requires few { length (payload_bytes (method_of class.now)) < 2 ^ 32 }
-    requires room { at + length (framed method_byte channel_id (payload_bytes (method_of class.now))) ≤ length buf.old }
-    ensures { Puts buf.old buf.new at (framed method_byte channel_id (payload_bytes (method_of class.now))) result }
+    requires room { at
+        + length (framed method_byte channel_id (payload_bytes (method_of class.now)))
+        ≤ length buf.old }
+    ensures { Puts buf.old buf.new at
+        (framed method_byte channel_id (payload_bytes (method_of class.now))) result }
 {
     let end = put_class(buf, at + 7, class);
     put_around(buf, at, end, FRAME_METHOD, channel_id)
@@ -61,8 +64,11 @@ fn put_method(buf: &mut [u8], at: usize, channel_id: ChannelId, class: &AMQPClas
 fn put_header(buf: &mut [u8], at: usize, channel_id: ChannelId, header: &AMQPContentHeader) -> usize
     requires fits { IsOk (content_header_size (header_of header.now)) }
     requires few { length (content_header_bytes (header_of header.now)) < 2 ^ 32 }
-    requires room { at + length (framed header_byte channel_id (content_header_bytes (header_of header.now))) ≤ length buf.old }
-    ensures { Puts buf.old buf.new at (framed header_byte channel_id (content_header_bytes (header_of header.now))) result }
+    requires room { at
+        + length (framed header_byte channel_id (content_header_bytes (header_of header.now)))
+        ≤ length buf.old }
+    ensures { Puts buf.old buf.new at
+        (framed header_byte channel_id (content_header_bytes (header_of header.now))) result }
 {
     let end = put_content_header(buf, at + 7, header);
     put_around(buf, at, end, FRAME_HEADER, channel_id)
@@ -93,7 +99,8 @@ pub fn put_frame(buf: &mut [u8], at: usize, frame: &AMQPFrame) -> usize
 /// out of memory.
 #[tactic(auto, using(amqp_wire::proofs::Sizes::size_is_length))]
 pub fn gen_frame(_alloc: Global, out: &mut Vec<u8>, frame: &AMQPFrame) -> Result<(), GenError>
-    ensures { Appends out.old.items out.new.items (size_of (frame_of frame.now)) (canon (frame_of frame.now)) result }
+    ensures { Appends out.old.items out.new.items
+        (size_of (frame_of frame.now)) (canon (frame_of frame.now)) result }
 {
     let size = frame_size(frame)?;
     let at = grow(out, size)?;
@@ -105,7 +112,8 @@ pub fn gen_frame(_alloc: Global, out: &mut Vec<u8>, frame: &AMQPFrame) -> Result
 /// stays as it was; a slice that is too short is `BufferTooSmall`.
 #[tactic(auto, using(amqp_wire::proofs::Sizes::size_is_length, amqp_wire::proofs::Sizes::slice_refused))]
 pub fn gen_frame_slice(buf: &mut [u8], frame: &AMQPFrame) -> Result<usize, GenError>
-    ensures { SliceAnswers buf.old buf.new (size_of (frame_of frame.now)) (canon (frame_of frame.now)) result }
+    ensures { SliceAnswers buf.old buf.new (size_of (frame_of frame.now))
+        (canon (frame_of frame.now)) result }
 {
     match frame_size(frame) {
         Err(refusal) => Err(refusal),

@@ -12,7 +12,8 @@ use crate::held::frame_held;
 /// The bytes that are written for a frame are decoded to that frame at each level, whatever follows them, but that
 /// `InvalidHeartbeat(0)` is decoded to `Heartbeat`; and fewer of them are incomplete.
 pub fn frame_reads_back(frame: &AMQPFrame)
-    ensures { (level : Level) → IsOk (size_of (frame_of frame.now)) → ReadsBack level (frame_of frame.now) }
+    ensures { (level : Level) → IsOk (size_of (frame_of frame.now))
+        → ReadsBack level (frame_of frame.now) }
 {
     frame_held(frame);
 }

@@ -101,7 +101,9 @@ fn read_whole(
     ensures inside { IfErr result IsPayloadError }
     ensures memory { result ≡ Err ParserError.NoMemory → OwnsMemory frame_type }
     ensures within { length payload.now < 2 ^ 32
-        → IfOk result (λ frame. IsSizedWithin (size_of (frame_of frame)) (canon (frame_of frame)) (length payload.now + 8)) }
+        → IfOk result (λ frame.
+        IsSizedWithin (size_of (frame_of frame))
+        (canon (frame_of frame)) (length payload.now + 8)) }
 {
     read_as(alloc, frame_type, channel_id, payload)
 }
@@ -114,7 +116,9 @@ pub fn parse_payload(alloc: Global, raw: AMQPRawFrame<'_>) -> Result<AMQPFrame, 
 
     // The frame is neither long nor too deep, and is written in no more bytes than it was decoded from.
     ensures within { length raw.entry.payload.now < 2 ^ 32
-        → IfOk result (λ frame. IsSizedWithin (size_of (frame_of frame)) (canon (frame_of frame)) (length raw.entry.payload.now + 8)) }
+        → IfOk result (λ frame.
+        IsSizedWithin (size_of (frame_of frame))
+        (canon (frame_of frame)) (length raw.entry.payload.now + 8)) }
 {
     read_whole(alloc, raw.frame_type, raw.channel_id, raw.payload)
 }
@@ -147,7 +151,8 @@ pub fn parse_frame(alloc: Global, i: &[u8]) -> Result<(usize, AMQPFrame), Parser
     ensures memory { result ≡ Err ParserError.NoMemory → BeginsWith OwnsMemory None i.now }
 
     // The frame is neither long nor too deep, and is written in no more bytes than were used.
-    ensures within { IfOk result (λ found. IsSizedWithin (size_of (frame_of found.1)) (canon (frame_of found.1)) found.0) }
+    ensures within { IfOk result
+        (λ found. IsSizedWithin (size_of (frame_of found.1)) (canon (frame_of found.1)) found.0) }
 {
     read_frame(alloc, i)
 }

@@ -20,7 +20,7 @@ use Rattle.amqp_stream.specs.declared.errors.RunError.TheVariants as runs_end
 use Rattle.amqp_stream.specs.declared.errors.StreamError.TheVariants as streams
 use Rattle.amqp_stream.specs.Decisions.{TakesTo, RefusesTo}
 use Rattle.amqp_stream.specs.Ends.{Store}
-use Rattle.amqp_stream.specs.Errors.{faulty, cut_short, turns_spent, read_failed, write_failed, out_of_memory}
+use Rattle.amqp_stream.specs.Errors.{faulty, cut_short, budget_spent, read_failed, write_failed, out_of_memory}
 use Rattle.amqp_stream.specs.Steps.{Manner}
 use Rattle.amqp_stream.specs.Streaming.{Ending, finished, refused_by, stopped_by, error_ending, WritesBy}
 use Rattle.amqp_stream.specs.Writing.{IsFaulty}
@@ -32,7 +32,8 @@ use Rattle.amqp_in_turn.specs.Judging.{given, JudgesKept, RefusesFrame}
 -- ---- marks
 
 -- a frame outside of content is passed, whatever is kept of its channel
-pub passed_mark : (progress : Option Progress) (frame : Frame) → is_content (outline_of frame) ≡ false → mark_after greatest progress (outline_of frame) ≡ marks.Passed
+pub passed_mark : (progress : Option Progress) (frame : Frame) → is_content (outline_of frame) ≡ false
+    → mark_after greatest progress (outline_of frame) ≡ marks.Passed
 passed_mark progress (Meth channel m) h = absurd cc
 passed_mark progress (Head channel header) h = absurd cc
 passed_mark progress (Body channel content) h = absurd cc
@@ -55,31 +56,51 @@ module _ {S : Type 0} (w : Manner S Refusal) (level : w.level ≡ plain) (compac
   at_plain : (raw : Raw) → is_at w.level raw ≡ true
   at_plain raw = ap (λ l. is_at l raw) level
 
-  refused_as : (s : S) (raw : Raw) (bad : ContentFault) (ending : Ending Refusal) (a : Store) (x y : List ℕ) → y ≡ x → ((frame : Frame) → whole raw ≡ Ok frame → w.step s frame ≡ Err (refusals.BadContent bad)) → RefusesFrame raw bad ending → WritesBy w s s raw a a x y ending
-  refused_as s raw bad (refused_by (refusals.BadContent other)) a x y same steps h =
-      (record { frame = h.0; is_whole = h.1; at_level = at_plain _; refuses = steps h.0 h.1 ∙ ap (λ f. Err (refusals.BadContent f)) (sym h.2) }, kept a x y same, refl)
+  refused_as : (s : S) (raw : Raw) (bad : ContentFault) (ending : Ending Refusal) (a : Store) (x y : List ℕ)
+      → y ≡ x → ((frame : Frame) → whole raw ≡ Ok frame → w.step s frame ≡ Err (refusals.BadContent bad))
+      → RefusesFrame raw bad ending → WritesBy w s s raw a a x y ending
+  refused_as s raw bad (refused_by (refusals.BadContent other)) a x y same steps h = (
+    record { frame = h.0; is_whole = h.1; at_level = at_plain _; refuses = steps h.0 h.1 ∙ ap (λ f. Err (refusals.BadContent f)) (sym h.2) },
+    kept a x y same,
+    refl,
+  )
   refused_as s raw bad (refused_by refusals.OpenContent) a x y same steps h = absurd h
   refused_as s raw bad finished a x y same steps h = absurd h
   refused_as s raw bad (stopped_by (faulty worse)) a x y same steps h = (subst (λ l. IsFaulty l raw worse) (sym level) h, kept a x y same, refl)
   refused_as s raw bad (stopped_by cut_short) a x y same steps h = absurd h
-  refused_as s raw bad (stopped_by turns_spent) a x y same steps h = absurd h
+  refused_as s raw bad (stopped_by budget_spent) a x y same steps h = absurd h
   refused_as s raw bad (stopped_by read_failed) a x y same steps h = absurd h
   refused_as s raw bad (stopped_by write_failed) a x y same steps h = absurd h
   refused_as s raw bad (stopped_by out_of_memory) a x y same steps h = absurd h
 
   -- a frame that is not in turn, before anything is written for it
-  pub turn_refuses : (s : S) (raw : Raw) (bad : ContentFault) (error : RunError Refusal) → ((frame : Frame) → whole raw ≡ Ok frame → w.step s frame ≡ Err (refusals.BadContent bad)) → RefusesFrame raw bad (error_ending error) → RefusesTo w s s raw error
+  pub turn_refuses : (s : S) (raw : Raw) (bad : ContentFault) (error : RunError Refusal)
+      → ((frame : Frame) → whole raw ≡ Ok frame → w.step s frame ≡ Err (refusals.BadContent bad))
+      → RefusesFrame raw bad (error_ending error) → RefusesTo w s s raw error
   turn_refuses s raw bad error steps h = λ store pending. refused_as s raw bad (error_ending error) store pending pending refl steps h
 
   -- a frame that was taken, and what is kept then
-  pub judged_takes : (s t u : S) (keep : Bool) (raw : Raw) (decision : Decision) → u ≡ t → ((frame : Frame) → whole raw ≡ Ok frame → w.step s frame ≡ Ok (given keep frame, t)) → JudgesKept keep raw (Ok decision) → TakesTo w s u raw decision
+  pub judged_takes : (s t u : S) (keep : Bool) (raw : Raw) (decision : Decision) → u ≡ t
+      → ((frame : Frame) → whole raw ≡ Ok frame → w.step s frame ≡ Ok (given keep frame, t)) → JudgesKept keep raw (Ok decision) → TakesTo w s u raw decision
   judged_takes s t u keep raw (decisions.Kept judged) is steps h = record {
     is_judged = h.1;
-    step = record { frame = h.1.frame; is_whole = h.1.is; at_level = at_plain _; steps = steps h.1.frame h.1.is ∙ ap (λ k. Ok (given k h.1.frame, t)) h.0 ∙ ap (λ v. Ok (canon h.1.frame, v)) (sym is) };
+    step =
+        record {
+          frame = h.1.frame;
+          is_whole = h.1.is;
+          at_level = at_plain _;
+          steps = steps h.1.frame h.1.is ∙ ap (λ k. Ok (given k h.1.frame, t)) h.0 ∙ ap (λ v. Ok (canon h.1.frame, v)) (sym is);
+        };
     compact = compact;
   }
   judged_takes s t u keep raw decisions.Dropped is steps h = record {
-    step = record { frame = h.1.0; is_whole = h.1.1; at_level = at_plain _; steps = steps h.1.0 h.1.1 ∙ ap (λ k. Ok (given k h.1.0, t)) h.0 ∙ ap (λ v. Ok ([], v)) (sym is) };
+    step =
+        record {
+          frame = h.1.0;
+          is_whole = h.1.1;
+          at_level = at_plain _;
+          steps = steps h.1.0 h.1.1 ∙ ap (λ k. Ok (given k h.1.0, t)) h.0 ∙ ap (λ v. Ok ([], v)) (sym is);
+        };
     compact = compact;
   }
 

@@ -11,10 +11,15 @@ use Rattle.amqp_turns.proofs.Entries.{kept-set_same, kept-set_other}
 use Rattle.amqp_turns.proofs.Holding.{holding_of, get-holding, holding_updated}
 
 module _ {K : Type 0} where
-  set_there : (es : List (ℕ × K)) (channel : ℕ) (w : K) (found : Option K) → kept_at es channel ≡ found → IsSome found → holding_of (set_value (is_at (nat_cmp channel)) es w) ≡ finite.insert (holding_of es) channel w
-  set_there es channel w (Some v) e there = holding_updated es (set_value (is_at (nat_cmp channel)) es w) channel (Some w) (kept-set_same es channel v w e) (kept-set_other es channel w)
+  set_there : (es : List (ℕ × K)) (channel : ℕ) (w : K) (found : Option K) → kept_at es channel ≡ found
+      → IsSome found → holding_of (set_value (is_at (nat_cmp channel)) es w) ≡ finite.insert (holding_of es) channel w
+  set_there es channel w (Some v) e there =
+      holding_updated es (set_value (is_at (nat_cmp channel)) es w) channel (Some w) (kept-set_same es channel v w e) (kept-set_other es channel w)
   set_there es channel w None e there = absurd cc
 
-  pub holding_written : (es new : List (ℕ × K)) (holding : ByChannel K) (channel : ℕ) (w : K) → holding_of es ≡ holding → new ≡ set_value (is_at (nat_cmp channel)) es w → IsSome (finite.get holding channel) → holding_of new ≡ finite.insert holding channel w
+  -- A value that is written in the place of the one that is kept of a channel is kept of it then, and of others what was.
+  pub holding_written : (es new : List (ℕ × K)) (holding : ByChannel K) (channel : ℕ) (w : K) → holding_of es ≡ holding
+      → new ≡ set_value (is_at (nat_cmp channel)) es w → IsSome (finite.get holding channel) → holding_of new ≡ finite.insert holding channel w
   holding_written es new holding channel w view is there =
-      ap holding_of is ∙ set_there es channel w (finite.get holding channel) (sym (get-holding es channel) ∙ ap (λ m. finite.get m channel) view) there ∙ ap (λ m. finite.insert m channel w) view
+      ap holding_of is ∙ set_there es channel w (finite.get holding channel) (sym (get-holding es channel) ∙ ap (λ m. finite.get m channel) view) there
+      ∙ ap (λ m. finite.insert m channel w) view

@@ -16,7 +16,7 @@ use Rattle.amqp_stream.specs.declared.errors.StreamError.TheVariants as streams
 use Rattle.amqp_stream.specs.declared.errors.RunError.{RunError}
 use Rattle.amqp_stream.specs.declared.errors.RunError.TheVariants as runs_end
 use Rattle.amqp_stream.specs.declared.report.RunReport.{RunReport}
-use Rattle.amqp_stream.specs.Errors.{Cause, faulty, cut_short, turns_spent, read_failed, write_failed, out_of_memory, cause_of}
+use Rattle.amqp_stream.specs.Errors.{Cause, faulty, cut_short, budget_spent, read_failed, write_failed, out_of_memory, cause_of}
 use Rattle.amqp_stream.specs.Ends.{Supply, Store}
 use Rattle.amqp_stream.specs.Steps.{Manner}
 use Rattle.amqp_stream.specs.Transcribing.{IsSequence}
@@ -32,6 +32,7 @@ use Rattle.amqp_in_turn.specs.Turning.{frames_at, TurnRun}
 use Rattle.amqp_in_turn.specs.Reports.{IsRestOf, IsRestInTurn, IsTurnReport, TurnReport, as_turned_report}
 use Rattle.amqp_in_turn.proofs.Turning.{plainly, Stepped, takes, refuses, GoesByTurns, bad_is_not_open, whole_by, ran_all, whole_in_turn, turn_run}
 
+-- A run returns the same errors with its report as without it.
 pub unreported_turned : (r : Result (Unit {0}) (RunReport (RunError Refusal))) → unreported (as_turned_report r) ≡ as_turned (unreported r)
 unreported_turned (Ok done) = refl
 unreported_turned (Err report) = refl
@@ -43,9 +44,12 @@ started (Err report) h = record { place_is = h.place_is; no_channel = h.no_chann
 -- the frames of a sequence come before those of what follows it
 sequence_then : (m : ℕ) (sequence rest : List ℕ) → IsSequence plain m sequence → frames_at m (sequence ++ rest) ≡ frames_at m sequence ++ frames_at m rest
 sequence_then m sequence rest is =
-    (SpellsFrames-precedes plain (Some m) sequence is.0 is.1).sequence rest ∙ ap (λ (fs : List Frame). fs ++ frames_at m rest) (sym (sequence_front plain (Some m) sequence is.0 is.1))
+    (SpellsFrames-precedes plain (Some m) sequence is.0 is.1).sequence rest
+    ∙ ap (λ (fs : List Frame). fs ++ frames_at m rest) (sym (sequence_front plain (Some m) sequence is.0 is.1))
 
-module _ {S : Type 0} {step : S → Frame → Result (List ℕ × S) Refusal} {end : S → Option Refusal} (wants : AMQPFrameType → Bool) (compact : Bool) {StandsFor : S → List Frame → Type 0} {given : List Frame → Frame → List ℕ} {after : List Frame → List Frame → List ℕ} (by : GoesByTurns step end StandsFor given after) where
+module _ {S : Type 0} {step : S → Frame → Result (List ℕ × S) Refusal} {end : S → Option Refusal}
+    (wants : AMQPFrameType → Bool) (compact : Bool) {StandsFor : S → List Frame → Type 0} {given : List Frame → Frame → List ℕ}
+    {after : List Frame → List Frame → List ℕ} (by : GoesByTurns step end StandsFor given after) where
   -- the writer's manner
   abbrev w : Manner S Refusal
   w = plainly step end wants compact
@@ -53,13 +57,16 @@ module _ {S : Type 0} {step : S → Frame → Result (List ℕ × S) Refusal} {e
   -- ---- where it ended
 
   -- the state after frames of which none is refused stands for them
-  stands_after : (s : S) (m : ℕ) (sequence : List ℕ) → StandsFor s [] → refused_of w s m sequence ≡ None → StandsFor (state_of w s m sequence) (frames_at m sequence)
+  stands_after : (s : S) (m : ℕ) (sequence : List ℕ) → StandsFor s []
+      → refused_of w s m sequence ≡ None → StandsFor (state_of w s m sequence) (frames_at m sequence)
   stands_after s m sequence new none =
       let ran = ran_all wants compact by s (frames_at m sequence) new in
-      subst (λ (fs : List Frame). StandsFor (state_of w s m sequence) fs) (whole_by (frames_at m sequence) ran.front ran.rest (refused_of w s m sequence) ran.parts ran.ends none) ran.stands
+      subst (λ (fs : List Frame). StandsFor (state_of w s m sequence) fs)
+      (whole_by (frames_at m sequence) ran.front ran.rest (refused_of w s m sequence) ran.parts ran.ends none) ran.stands
 
   -- the frame after them, where it is refused
-  next_refused : (m : ℕ) (sequence rest : List ℕ) (t : S) (fault : ContentFault) → IsSequence plain m sequence → StandsFor t (frames_at m sequence) → IsRefusedThere w t m rest (refusals.BadContent fault) → IsNextFault (frames_at m (sequence ++ rest)) (frames_at m sequence) fault
+  next_refused : (m : ℕ) (sequence rest : List ℕ) (t : S) (fault : ContentFault) → IsSequence plain m sequence → StandsFor t (frames_at m sequence)
+      → IsRefusedThere w t m rest (refusals.BadContent fault) → IsNextFault (frames_at m (sequence ++ rest)) (frames_at m sequence) fault
   next_refused m sequence rest t fault is h there = by_step (by.steps t (frames_at m sequence) there.frame h)
     where
       by_step : Stepped step StandsFor given t (frames_at m sequence) there.frame → IsNextFault (frames_at m (sequence ++ rest)) (frames_at m sequence) fault
@@ -69,8 +76,14 @@ module _ {S : Type 0} {step : S → Frame → Result (List ℕ × S) Refusal} {e
           record {
             next = there.frame;
             rest = front plain (Some m) (drop there.used rest);
-            parts = sequence_then m sequence rest is ∙ ap (λ (fs : List Frame). frames_at m sequence ++ fs) (front-got plain (Some m) rest there.frame there.used there.found).sequence;
-            wrong = subst (λ (f : ContentFault). IsLastAnswer outline_of greatest (of_channel outline_of (channel_id_of there.frame) (frames_at m sequence ++ there.frame ∷ [])) (Wrong f)) same last;
+            parts =
+                sequence_then m sequence rest is
+                ∙ ap (λ (fs : List Frame). frames_at m sequence ++ fs) (front-got plain (Some m) rest there.frame there.used there.found).sequence;
+            wrong =
+                subst
+                (λ (f : ContentFault).
+                IsLastAnswer outline_of greatest (of_channel outline_of (channel_id_of there.frame) (frames_at m sequence ++ there.frame ∷ [])) (Wrong f))
+                same last;
           }
 
   never_refused_open : (m : ℕ) (rest : List ℕ) (t : S) (earlier : List Frame) → StandsFor t earlier → IsRefusedThere w t m rest refusals.OpenContent → ⊥
@@ -85,18 +98,24 @@ module _ {S : Type 0} {step : S → Frame → Result (List ℕ × S) Refusal} {e
   rest_of t m taken rest out_of_memory h = h
   rest_of t m taken rest (faulty bad) h = h
   rest_of t m taken rest cut_short h = h
-  rest_of t m taken rest turns_spent h = h
+  rest_of t m taken rest budget_spent h = h
   rest_of t m taken rest read_failed h = h
 
-  rest_in_turn : (s : S) (m : ℕ) (taken sequence rest : List ℕ) (error : RunError Refusal) → StandsFor s [] → taken ≡ sequence ++ rest → IsSequence plain m sequence → refused_of w s m sequence ≡ None → IsRestBy w (state_of w s m sequence) m taken rest (error_ending error) → IsRestInTurn wants m taken sequence rest (turn_error error)
+  rest_in_turn : (s : S) (m : ℕ) (taken sequence rest : List ℕ) (error : RunError Refusal) → StandsFor s []
+      → taken ≡ sequence ++ rest → IsSequence plain m sequence → refused_of w s m sequence ≡ None
+      → IsRestBy w (state_of w s m sequence) m taken rest (error_ending error) → IsRestInTurn wants m taken sequence rest (turn_error error)
   rest_in_turn s m taken sequence rest (runs_end.Stream error) new parts is none h = rest_of (state_of w s m sequence) m taken rest (cause_of error) h
   rest_in_turn s m taken sequence rest (runs_end.Refused (refusals.BadContent fault)) new parts is none (inl there) =
-      subst (λ (xs : List ℕ). IsNextFault (frames_at m xs) (frames_at m sequence) fault) (sym parts) (next_refused m sequence rest (state_of w s m sequence) fault is (stands_after s m sequence new none) there)
-  rest_in_turn s m taken sequence rest (runs_end.Refused (refusals.BadContent fault)) new parts is none (inr h) = absurd (bad_is_not_open fault (by.only_open _ (refusals.BadContent fault) h.1))
-  rest_in_turn s m taken sequence rest (runs_end.Refused refusals.OpenContent) new parts is none (inl there) = absurd (never_refused_open m rest (state_of w s m sequence) (frames_at m sequence) (stands_after s m sequence new none) there)
+      subst (λ (xs : List ℕ). IsNextFault (frames_at m xs) (frames_at m sequence) fault) (sym parts)
+      (next_refused m sequence rest (state_of w s m sequence) fault is (stands_after s m sequence new none) there)
+  rest_in_turn s m taken sequence rest (runs_end.Refused (refusals.BadContent fault)) new parts is none (inr h) =
+      absurd (bad_is_not_open fault (by.only_open _ (refusals.BadContent fault) h.1))
+  rest_in_turn s m taken sequence rest (runs_end.Refused refusals.OpenContent) new parts is none (inl there) =
+      absurd (never_refused_open m rest (state_of w s m sequence) (frames_at m sequence) (stands_after s m sequence new none) there)
   rest_in_turn s m taken sequence rest (runs_end.Refused refusals.OpenContent) new parts is none (inr h) = h.0
 
-  reports_in_turn : (s : S) (m : ℕ) (a b : Supply) (r : Result (Unit {0}) (RunReport (RunError Refusal))) → StandsFor s [] → IfErr r (IsReportBy w s m a b) → IfErr (as_turned_report r) (IsTurnReport wants m a b)
+  reports_in_turn : (s : S) (m : ℕ) (a b : Supply) (r : Result (Unit {0}) (RunReport (RunError Refusal)))
+      → StandsFor s [] → IfErr r (IsReportBy w s m a b) → IfErr (as_turned_report r) (IsTurnReport wants m a b)
   reports_in_turn s m a b (Ok done) new h = tt
   reports_in_turn s m a b (Err report) new h = record {
     taken = h.taken;
@@ -107,19 +126,35 @@ module _ {S : Type 0} {step : S → Frame → Result (List ℕ × S) Refusal} {e
     parts = h.parts;
     is_sequence = h.is_sequence;
     few = h.few;
-    there = ((whole_in_turn wants compact by s m h.sequence new h.there.0).in_turn, rest_in_turn s m h.taken h.sequence h.rest report.error new h.parts h.is_sequence h.there.0 h.there.1);
+    there = (
+      (whole_in_turn wants compact by s m h.sequence new h.there.0).in_turn,
+      rest_in_turn s m h.taken h.sequence h.rest report.error new h.parts h.is_sequence h.there.0 h.there.1,
+    );
     place_is = h.place_is;
     channel_is = h.channel_is;
   }
 
   -- a call that ran, or never began, with its report
-  abbrev pub ReportedOrNever : {A K : Type 0} → S → S → (A → Supply) → (K → Store) → ℕ → ℕ → A → A → K → K → Result (Unit {0}) (RunReport (RunError Refusal)) → Type 0
-  ReportedOrNever s t supply store m turns source source' sink sink' r = WriterReport w s t supply store m turns source source' sink sink' r ⊎ NeverRanReport s t source source' sink sink' r
+  abbrev pub ReportedOrNever : {A K : Type 0} → S → S → (A → Supply) → (K → Store) → ℕ
+      → ℕ → A → A → K → K → Result (Unit {0}) (RunReport (RunError Refusal)) → Type 0
+  ReportedOrNever s t supply store m budget source source' sink sink' r =
+      WriterReport w s t supply store m budget source source' sink sink' r ⊎ NeverRanReport s t source source' sink sink' r
 
-  pub reported_run : {A K : Type 0} (s t : S) {supply : A → Supply} {store : K → Store} {m turns : ℕ} {source source' : A} {sink sink' : K} (r : Result (Unit {0}) (RunReport (RunError Refusal))) → StandsFor s [] → ReportedOrNever s t supply store m turns source source' sink sink' r
-      → TurnReport (after []) wants supply store m turns source source' sink sink' (as_turned_report r) ⊎ NeverBeganReport source source' sink sink' (errors.Stream streams.NoMemory) (as_turned_report r)
-  reported_run s t {supply = supply} {store = store} {m = m} {turns = turns} {source = source} {source' = source'} {sink = sink} {sink' = sink'} r new (inl run) =
-      let Run : Result (Unit {0}) TurnError → Type 0 = λ x. TurnRun (after []) wants supply store m turns source source' sink sink' x in
-      inl (subst Run (sym (unreported_turned r)) (turn_run wants compact by s t (unreported r) new run.0), reports_in_turn s m (supply source) (supply source') r new run.1)
+  -- From a new writer, a run with its report writes for the frames in turn and reports where it ended, or never began, out of memory.
+  pub reported_run : {A K : Type 0} (s t : S) {supply : A → Supply} {store : K → Store} {m budget : ℕ}
+      {source source' : A} {sink sink' : K} (r : Result (Unit {0}) (RunReport (RunError Refusal)))
+      → StandsFor s [] → ReportedOrNever s t supply store m budget source source' sink sink' r
+      → TurnReport (after []) wants supply store m budget source source' sink sink' (as_turned_report r)
+      ⊎ NeverBeganReport source source' sink sink' (errors.Stream streams.NoMemory) (as_turned_report r)
+  reported_run s t {supply = supply} {store = store} {m = m} {budget = budget}
+      {source = source} {source' = source'} {sink = sink} {sink' = sink'} r new (inl run) =
+      let Run : Result (Unit {0}) TurnError → Type 0 = λ x. TurnRun (after []) wants supply store m budget source source' sink sink' x in
+      inl (
+        subst Run (sym (unreported_turned r)) (turn_run wants compact by s t (unreported r) new run.0),
+        reports_in_turn s m (supply source) (supply source') r new run.1,
+      )
   reported_run s t r new (inr h) =
-      inr (record { no_memory = unreported_turned r ∙ ap as_turned h.0.0.no_memory; source_stays = h.0.0.source_stays; sink_stays = h.0.0.sink_stays }, started r h.1)
+      inr (
+        record { no_memory = unreported_turned r ∙ ap as_turned h.0.0.no_memory; source_stays = h.0.0.source_stays; sink_stays = h.0.0.sink_stays },
+        started r h.1,
+      )

@@ -1,5 +1,6 @@
 -- A run of a writer that goes by the turns of the channels, as a call that writes for the frames of its stream as far as they are in turn.
-use Rattle.std.proofs.Common.{◌≡◌, ◌≢◌, ℕ, ◌<◌, ◌≤◌, Bool, append-nil, append_assoc, List, [], ◌∷◌, ◌++◌, length, refl, sym, ap, subst, ◌∙◌, arith, inl, inr, ◌⊎◌, Option, Some, None, Result, Ok, Err}
+use Rattle.std.proofs.Common.{◌≡◌, ◌≢◌, ℕ, ◌<◌, ◌≤◌, Bool, append-nil, append_assoc, List, [], ◌∷◌, ◌++◌, length, refl, sym, ap, subst, ◌∙◌, arith, inl, inr}
+use Rattle.std.proofs.Common.{◌⊎◌, Option, Some, None, Result, Ok, Err}
 use Rattle.std.specs.List.{AllByRecursion}
 use Rattle.std.proofs.lemmas.List.{length-append}
 use Rattle.amqp_types.specs.Levels.{plain}
@@ -19,12 +20,13 @@ use Rattle.amqp_stream.specs.declared.errors.StreamError.{StreamError}
 use Rattle.amqp_stream.specs.declared.errors.StreamError.TheVariants as streams
 use Rattle.amqp_stream.specs.declared.errors.RunError.{RunError}
 use Rattle.amqp_stream.specs.declared.errors.RunError.TheVariants as runs_end
-use Rattle.amqp_stream.specs.Errors.{Cause, faulty, cut_short, turns_spent, read_failed, write_failed, out_of_memory, cause_of}
+use Rattle.amqp_stream.specs.Errors.{Cause, faulty, cut_short, budget_spent, read_failed, write_failed, out_of_memory, cause_of}
 use Rattle.amqp_stream.specs.Ends.{Supply, Store}
 use Rattle.amqp_stream.specs.Steps.{Manner, text, refused, state, text_at, refused_at, state_at}
 use Rattle.amqp_stream.specs.Writing.{IsPrefix}
 use Rattle.amqp_stream.specs.Transcribing.{NeverBegan, answer_to}
-use Rattle.amqp_stream.specs.Streaming.{Ending, finished, refused_by, stopped_by, ending_of, text_of, refused_of, state_of, AtWanting, HasWrittenBy, HasCauseBy, Streams, answer_at_end, answer_of, IsExactRun, UnlessStoppedBy, StreamsExactly, IsWelcome, IsDoneOrWanting}
+use Rattle.amqp_stream.specs.Streaming.{Ending, finished, refused_by, stopped_by, ending_of, text_of, refused_of, state_of, AtWanting, HasWrittenBy, HasCauseBy}
+use Rattle.amqp_stream.specs.Streaming.{Streams, answer_at_end, answer_of, IsExactRun, UnlessStoppedBy, StreamsExactly, IsWelcome, IsDoneOrWanting}
 use Rattle.amqp_stream.specs.Runs.{WriterRun, NeverRan}
 use Rattle.amqp_stream.proofs.Transcribing.{error_by, error_by-cause, unless, caused_by, written_unless}
 use Rattle.amqp_stream.proofs.Runs.{run_by}
@@ -34,7 +36,8 @@ use Rattle.amqp_in_turn.specs.declared.errors.Refusal.{Refusal}
 use Rattle.amqp_in_turn.specs.declared.errors.Refusal.TheVariants as refusals
 use Rattle.amqp_in_turn.specs.Errors.{as_turned}
 use Rattle.amqp_turns.specs.InTurn.{greatest, AreInTurn, IsLongestInTurn, IsNextFault, IsOpen, NoneIsOpen, state_on}
-use Rattle.amqp_in_turn.specs.Turning.{frames_at, AtWanted, IsAllInTurn, HasCauseInTurn, HasWrittenInTurn, GoesInTurn, IsAnsweredTo, IsExactlyInTurn, UnlessStoppedInTurn, GoesExactly, IsComplete, IsOkOrNoMemory, TurnRun}
+use Rattle.amqp_in_turn.specs.Turning.{frames_at, AtWanted, IsAllInTurn, HasCauseInTurn, HasWrittenInTurn, GoesInTurn, IsAnsweredTo, IsExactlyInTurn}
+use Rattle.amqp_in_turn.specs.Turning.{UnlessStoppedInTurn, GoesExactly, IsComplete, IsOkOrNoMemory, TurnRun}
 use Rattle.amqp_turns.proofs.Turns.{are_in_turn, none_lost, lost_later, before_or_with}
 
 -- ---- one frame
@@ -49,15 +52,20 @@ pub record IsFresh (bad : ContentFault) (frame : Frame) : Type 0 where
   pub large : bad ≡ faults.BodyTooLarge → greatest < size_in (outline_of frame)
 
 -- A frame after these gives its bytes, and the state stands for one frame more; or it is refused, since it is not in turn.
-pub data Stepped {S : Type 0} (step : S → Frame → Result (List ℕ × S) Refusal) (StandsFor : S → List Frame → Type 0) (given : List Frame → Frame → List ℕ) (s : S) (earlier : List Frame) (frame : Frame) : Type 0 where
+pub data Stepped {S : Type 0} (step : S → Frame → Result (List ℕ × S) Refusal) (StandsFor : S → List Frame → Type 0)
+    (given : List Frame → Frame → List ℕ) (s : S) (earlier : List Frame) (frame : Frame) : Type 0 where
   takes : (t : S) → step s frame ≡ Ok (given earlier frame, t) → StandsFor t (earlier ++ frame ∷ []) → Stepped step StandsFor given s earlier frame
-  refuses : (bad : ContentFault) → step s frame ≡ Err (refusals.BadContent bad) → state_on (earlier ++ frame ∷ []) (channel_id_of frame) ≡ Lost → IsLastAnswer outline_of greatest (of_channel outline_of (channel_id_of frame) (earlier ++ frame ∷ [])) (Wrong bad) → IsFresh bad frame → Stepped step StandsFor given s earlier frame
+  refuses : (bad : ContentFault) → step s frame ≡ Err (refusals.BadContent bad) → state_on (earlier ++ frame ∷ []) (channel_id_of frame) ≡ Lost
+      → IsLastAnswer outline_of greatest (of_channel outline_of (channel_id_of frame) (earlier ++ frame ∷ [])) (Wrong bad)
+      → IsFresh bad frame → Stepped step StandsFor given s earlier frame
 
 -- What a writer that goes by the turns of the channels has to show: its states stand for frames that are in turn, a step gives what is written for one
 -- frame more or refuses the one that is not in turn, and a stream may end where no message is open.
-pub record GoesByTurns {S : Type 0} (step : S → Frame → Result (List ℕ × S) Refusal) (end : S → Option Refusal) (StandsFor : S → List Frame → Type 0) (given : List Frame → Frame → List ℕ) (after : List Frame → List Frame → List ℕ) : Type 0 where
+pub record GoesByTurns {S : Type 0} (step : S → Frame → Result (List ℕ × S) Refusal) (end : S → Option Refusal)
+    (StandsFor : S → List Frame → Type 0) (given : List Frame → Frame → List ℕ) (after : List Frame → List Frame → List ℕ) : Type 0 where
   pub none : (earlier : List Frame) → after earlier [] ≡ []
-  pub more : (earlier : List Frame) (frame : Frame) (frames : List Frame) → after earlier (frame ∷ frames) ≡ given earlier frame ++ after (earlier ++ frame ∷ []) frames
+  pub more : (earlier : List Frame) (frame : Frame) (frames : List Frame)
+      → after earlier (frame ∷ frames) ≡ given earlier frame ++ after (earlier ++ frame ∷ []) frames
   pub steps : (s : S) (earlier : List Frame) (frame : Frame) → StandsFor s earlier → Stepped step StandsFor given s earlier frame
   pub in_turn : (s : S) (earlier : List Frame) → StandsFor s earlier → (channel : ℕ) → state_on earlier channel ≢ Lost
   pub only_open : (s : S) (why : Refusal) → end s ≡ Some why → why ≡ refusals.OpenContent
@@ -76,21 +84,27 @@ pub data Ends (earlier front rest : List Frame) (why : Option Refusal) : Type 0 
       → IsFresh bad frame
       → Ends earlier front rest why
 
-ends_on : (earlier front rest : List Frame) (frame : Frame) (why : Option Refusal) → Ends (earlier ++ frame ∷ []) front rest why → Ends earlier (frame ∷ front) rest why
+ends_on : (earlier front rest : List Frame) (frame : Frame) (why : Option Refusal)
+    → Ends (earlier ++ frame ∷ []) front rest why → Ends earlier (frame ∷ front) rest why
 ends_on earlier front rest frame why (all none e) = all none e
 ends_on earlier front rest frame why (fault next more bad is e lost last other) =
     let same : (earlier ++ frame ∷ []) ++ front ≡ earlier ++ frame ∷ front = append_assoc earlier (frame ∷ []) front in
-    fault next more bad is e (subst (λ (fs : List Frame). state_on (fs ++ next ∷ []) (channel_id_of next) ≡ Lost) same lost) (subst (λ (fs : List Frame). IsLastAnswer outline_of greatest (of_channel outline_of (channel_id_of next) (fs ++ next ∷ [])) (Wrong bad)) same last) other
+    fault next more bad is e (subst (λ (fs : List Frame). state_on (fs ++ next ∷ []) (channel_id_of next) ≡ Lost) same lost)
+    (subst (λ (fs : List Frame). IsLastAnswer outline_of greatest (of_channel outline_of (channel_id_of next) (fs ++ next ∷ [])) (Wrong bad)) same last) other
 
-longest_by : (frames front rest : List Frame) (why : Option Refusal) → frames ≡ front ++ rest → Ends [] front rest why → (other back : List Frame) → frames ≡ other ++ back → AreInTurn other → length other ≤ length front
+longest_by : (frames front rest : List Frame) (why : Option Refusal) → frames ≡ front ++ rest → Ends [] front rest why
+    → (other back : List Frame) → frames ≡ other ++ back → AreInTurn other → length other ≤ length front
 longest_by frames front rest why parts (all none e) other back are turn =
     let whole : front ≡ other ++ back = sym (append-nil front) ∙ ap (λ r. front ++ r) (sym none) ∙ sym parts ∙ are in
     omega (arith, ap length whole, length-append other back)
-longest_by frames front rest why parts (fault next more bad is e lost last unfaulted) other back are turn = by_place (before_or_with front next more other back (ap (λ r. front ++ r) (sym is) ∙ sym parts ∙ are))
+longest_by frames front rest why parts (fault next more bad is e lost last unfaulted) other back are turn =
+    by_place (before_or_with front next more other back (ap (λ r. front ++ r) (sym is) ∙ sym parts ∙ are))
   where
     by_place : (length other ≤ length front) ⊎ ((middle : List Frame) × (other ≡ (front ++ next ∷ []) ++ middle)) → length other ≤ length front
     by_place (inl short) = short
-    by_place (inr found) = absurd (none_lost other (channel_id_of next) turn (ap (λ fs. state_on fs (channel_id_of next)) found.1 ∙ lost_later (front ++ next ∷ []) found.0 (channel_id_of next) lost))
+    by_place (inr found) =
+        absurd (none_lost other (channel_id_of next) turn
+        (ap (λ fs. state_on fs (channel_id_of next)) found.1 ∙ lost_later (front ++ next ∷ []) found.0 (channel_id_of next) lost))
 
 -- ---- results
 
@@ -103,6 +117,7 @@ bad_is_none bad e = cc
 bad_is_open : (bad : ContentFault) → Some (refusals.BadContent bad) ≡ Some refusals.OpenContent → ⊥
 bad_is_open bad e = cc
 
+-- A fault of content is no message that is open at the end.
 pub bad_is_not_open : (bad : ContentFault) → refusals.BadContent bad ≡ refusals.OpenContent → ⊥
 bad_is_not_open bad e = cc
 
@@ -128,7 +143,8 @@ unless_turned (Err (runs_end.Stream error)) g h = unless (cause_of error) g h
 unless_turned (Err (runs_end.Refused (refusals.BadContent bad))) g h = g h
 unless_turned (Err (runs_end.Refused refusals.OpenContent)) g h = g h
 
-turns_by : (r : Result (Unit {0}) (RunError Refusal)) (error : StreamError) → as_turned r ≡ Err (errors.Stream error) → ending_of r ≡ stopped_by (cause_of error)
+turns_by : (r : Result (Unit {0}) (RunError Refusal)) (error : StreamError)
+    → as_turned r ≡ Err (errors.Stream error) → ending_of r ≡ stopped_by (cause_of error)
 turns_by (Ok done) error e = absurd cc
 turns_by (Err (runs_end.Stream other)) error e = let same : other ≡ error = cc in ap (λ x. stopped_by (cause_of x)) same
 turns_by (Err (runs_end.Refused (refusals.BadContent bad))) error e = absurd cc
@@ -142,17 +158,21 @@ done_or_memory (Err (runs_end.Refused refusals.OpenContent)) h = absurd h
 
 -- ---- where the frames end
 
+-- Where nothing is refused, the frames in front are all.
 pub whole_by : (frames front rest : List Frame) (why : Option Refusal) → frames ≡ front ++ rest → Ends [] front rest why → why ≡ None → front ≡ frames
 whole_by frames front rest why parts (all none e) h = sym (parts ∙ ap (λ r. front ++ r) none ∙ append-nil front)
 whole_by frames front rest why parts (fault next more bad is e lost last news) h = absurd (bad_is_none bad (sym e ∙ h))
 
-next_by : (frames front rest : List Frame) (why : Option Refusal) (bad : ContentFault) → frames ≡ front ++ rest → Ends [] front rest why → why ≡ Some (refusals.BadContent bad) → IsNextFault frames front bad
+next_by : (frames front rest : List Frame) (why : Option Refusal) (bad : ContentFault) → frames ≡ front ++ rest
+    → Ends [] front rest why → why ≡ Some (refusals.BadContent bad) → IsNextFault frames front bad
 next_by frames front rest why bad parts (all none e) h = absurd (none_is_some (refusals.BadContent bad) (sym e ∙ h))
 next_by frames front rest why bad parts (fault next more worse is e lost last news) h = record {
   next = next;
   rest = more;
   parts = parts ∙ ap (λ r. front ++ r) is;
-  wrong = subst (λ (f : ContentFault). IsLastAnswer outline_of greatest (of_channel outline_of (channel_id_of next) (front ++ next ∷ [])) (Wrong f)) (same_bad worse bad (sym e ∙ h)) last;
+  wrong =
+      subst (λ (f : ContentFault). IsLastAnswer outline_of greatest (of_channel outline_of (channel_id_of next) (front ++ next ∷ [])) (Wrong f))
+      (same_bad worse bad (sym e ∙ h)) last;
 }
 
 never_open : (front rest : List Frame) (why : Option Refusal) → Ends [] front rest why → why ≡ Some refusals.OpenContent → ⊥
@@ -184,21 +204,26 @@ fits_at : (front : List Frame) (next : Frame) (more : List Frame) → AllByRecur
 fits_at [] next more h = h.0
 fits_at (f ∷ fs) next more h = fits_at fs next more h.1
 
-fresh_by : (frames front rest : List Frame) (why : Option Refusal) (bad : ContentFault) → frames ≡ front ++ rest → AllByRecursion Fits frames → Ends [] front rest why → why ≡ Some (refusals.BadContent bad) → (bad ≢ faults.BodyTooLarge) × (bad ≢ faults.Faulted)
+fresh_by : (frames front rest : List Frame) (why : Option Refusal) (bad : ContentFault) → frames ≡ front ++ rest → AllByRecursion Fits frames
+    → Ends [] front rest why → why ≡ Some (refusals.BadContent bad) → (bad ≢ faults.BodyTooLarge) × (bad ≢ faults.Faulted)
 unfolding Fits
 fresh_by frames front rest why bad parts fits (all none e) h = absurd (none_is_some (refusals.BadContent bad) (sym e ∙ h))
 fresh_by frames front rest why bad parts fits (fault next more worse is e lost last news) h =
     let same = same_bad worse bad (sym e ∙ h) in
-    let fit : size_in (outline_of next) ≤ greatest = fits_at front next more (subst (λ (fs : List Frame). AllByRecursion Fits fs) (parts ∙ ap (λ r. front ++ r) is) fits) in
+    let fit : size_in (outline_of next) ≤ greatest =
+    fits_at front next more (subst (λ (fs : List Frame). AllByRecursion Fits fs) (parts ∙ ap (λ r. front ++ r) is) fits) in
     (λ large. absurd (omega (arith, news.large (same ∙ large), fit)), λ lost. news.other (same ∙ lost))
 
 refused_never : (frames front rest : List Frame) (why : Option Refusal) → frames ≡ front ++ rest → AreInTurn frames → Ends [] front rest why → why ≡ None
 refused_never frames front rest why parts turn (all none e) = e
 refused_never frames front rest why parts turn (fault next more bad is e lost last news) =
     let same : (front ++ next ∷ []) ++ more ≡ frames = append_assoc front (next ∷ []) more ∙ ap (λ r. front ++ r) (sym is) ∙ sym parts in
-    absurd (none_lost frames (channel_id_of next) turn (ap (λ fs. state_on fs (channel_id_of next)) (sym same) ∙ lost_later (front ++ next ∷ []) more (channel_id_of next) lost))
+    absurd (none_lost frames (channel_id_of next) turn
+    (ap (λ fs. state_on fs (channel_id_of next)) (sym same) ∙ lost_later (front ++ next ∷ []) more (channel_id_of next) lost))
 
-module _ {S : Type 0} {step : S → Frame → Result (List ℕ × S) Refusal} {end : S → Option Refusal} (wants : AMQPFrameType → Bool) (compact : Bool) {StandsFor : S → List Frame → Type 0} {given : List Frame → Frame → List ℕ} {after : List Frame → List Frame → List ℕ} (by : GoesByTurns step end StandsFor given after) where
+module _ {S : Type 0} {step : S → Frame → Result (List ℕ × S) Refusal} {end : S → Option Refusal}
+    (wants : AMQPFrameType → Bool) (compact : Bool) {StandsFor : S → List Frame → Type 0} {given : List Frame → Frame → List ℕ}
+    {after : List Frame → List Frame → List ℕ} (by : GoesByTurns step end StandsFor given after) where
   -- the writer's manner
   abbrev w : Manner S Refusal
   w = plainly step end wants compact
@@ -212,7 +237,8 @@ module _ {S : Type 0} {step : S → Frame → Result (List ℕ × S) Refusal} {e
     pub stands : StandsFor (state w s frames) (earlier ++ front)
     pub ends : Ends earlier front rest (refused w s frames)
 
-  ran_more : (s t : S) (earlier : List Frame) (frame : Frame) (frames : List Frame) → step s frame ≡ Ok (given earlier frame, t) → Ran t (earlier ++ frame ∷ []) frames → Ran s earlier (frame ∷ frames)
+  ran_more : (s t : S) (earlier : List Frame) (frame : Frame) (frames : List Frame)
+      → step s frame ≡ Ok (given earlier frame, t) → Ran t (earlier ++ frame ∷ []) frames → Ran s earlier (frame ∷ frames)
   unfolding text refused state
   ran_more s t earlier frame frames e ran =
       let bytes = given earlier frame in
@@ -223,11 +249,18 @@ module _ {S : Type 0} {step : S → Frame → Result (List ℕ × S) Refusal} {e
         rest = ran.rest;
         parts = ap (λ fs. frame ∷ fs) ran.parts;
         text_is = ap (λ r. text_at r (λ u. text w u frames)) e ∙ ap (λ (bs : List ℕ). bytes ++ bs) ran.text_is ∙ sym (by.more earlier frame ran.front);
-        stands = subst (λ (u : S). StandsFor u (earlier ++ frame ∷ ran.front)) (sym state_is) (subst (λ (fs : List Frame). StandsFor (state w t frames) fs) (append_assoc earlier (frame ∷ []) ran.front) ran.stands);
-        ends = subst (λ (why : Option Refusal). Ends earlier (frame ∷ ran.front) ran.rest why) (sym why_is) (ends_on earlier ran.front ran.rest frame (refused w t frames) ran.ends);
+        stands =
+            subst (λ (u : S). StandsFor u (earlier ++ frame ∷ ran.front)) (sym state_is)
+            (subst (λ (fs : List Frame). StandsFor (state w t frames) fs) (append_assoc earlier (frame ∷ []) ran.front) ran.stands);
+        ends =
+            subst (λ (why : Option Refusal). Ends earlier (frame ∷ ran.front) ran.rest why)
+            (sym why_is) (ends_on earlier ran.front ran.rest frame (refused w t frames) ran.ends);
       }
 
-  ran_stopped : (s : S) (earlier : List Frame) (frame : Frame) (frames : List Frame) (bad : ContentFault) → StandsFor s earlier → step s frame ≡ Err (refusals.BadContent bad) → state_on (earlier ++ frame ∷ []) (channel_id_of frame) ≡ Lost → IsLastAnswer outline_of greatest (of_channel outline_of (channel_id_of frame) (earlier ++ frame ∷ [])) (Wrong bad) → IsFresh bad frame → Ran s earlier (frame ∷ frames)
+  ran_stopped : (s : S) (earlier : List Frame) (frame : Frame) (frames : List Frame) (bad : ContentFault) → StandsFor s earlier
+      → step s frame ≡ Err (refusals.BadContent bad) → state_on (earlier ++ frame ∷ []) (channel_id_of frame) ≡ Lost
+      → IsLastAnswer outline_of greatest (of_channel outline_of (channel_id_of frame) (earlier ++ frame ∷ [])) (Wrong bad)
+      → IsFresh bad frame → Ran s earlier (frame ∷ frames)
   unfolding text refused state
   ran_stopped s earlier frame frames bad h e lost last other =
       let same : earlier ≡ earlier ++ [] = sym (append-nil earlier) in
@@ -238,7 +271,12 @@ module _ {S : Type 0} {step : S → Frame → Result (List ℕ × S) Refusal} {e
         parts = refl;
         text_is = ap (λ r. text_at r (λ u. text w u frames)) e ∙ sym (by.none earlier);
         stands = subst (λ (u : S). StandsFor u (earlier ++ [])) (sym state_is) (subst (λ (fs : List Frame). StandsFor s fs) same h);
-        ends = fault frame frames bad refl (ap (λ r. refused_at r (λ u. refused w u frames)) e) (subst (λ (fs : List Frame). state_on (fs ++ frame ∷ []) (channel_id_of frame) ≡ Lost) same lost) (subst (λ (fs : List Frame). IsLastAnswer outline_of greatest (of_channel outline_of (channel_id_of frame) (fs ++ frame ∷ [])) (Wrong bad)) same last) other;
+        ends =
+            fault frame frames bad refl (ap (λ r. refused_at r (λ u. refused w u frames)) e)
+            (subst (λ (fs : List Frame). state_on (fs ++ frame ∷ []) (channel_id_of frame) ≡ Lost) same lost)
+            (subst
+            (λ (fs : List Frame). IsLastAnswer outline_of greatest (of_channel outline_of (channel_id_of frame) (fs ++ frame ∷ [])) (Wrong bad)) same last)
+            other;
       }
 
   ran_nothing : (s : S) (earlier : List Frame) → StandsFor s earlier → Ran s earlier []
@@ -252,11 +290,13 @@ module _ {S : Type 0} {step : S → Frame → Result (List ℕ × S) Refusal} {e
     ends = all refl refl;
   }
 
+  -- A writer that stands for earlier frames writes for more frames as far as they are in turn, and refuses the first that is not.
   pub runs : (s : S) (earlier frames : List Frame) → StandsFor s earlier → Ran s earlier frames
   runs s earlier [] h = ran_nothing s earlier h
   runs s earlier (frame ∷ frames) h = by_step (by.steps s earlier frame h) (λ t g. runs t (earlier ++ frame ∷ []) frames g)
     where
-      by_step : Stepped step StandsFor given s earlier frame → ((t : S) → StandsFor t (earlier ++ frame ∷ []) → Ran t (earlier ++ frame ∷ []) frames) → Ran s earlier (frame ∷ frames)
+      by_step : Stepped step StandsFor given s earlier frame
+          → ((t : S) → StandsFor t (earlier ++ frame ∷ []) → Ran t (earlier ++ frame ∷ []) frames) → Ran s earlier (frame ∷ frames)
       by_step (takes t e g) on = ran_more s t earlier frame frames e (on t g)
       by_step (refuses bad e lost last other) on = ran_stopped s earlier frame frames bad h e lost last other
 
@@ -268,6 +308,7 @@ module _ {S : Type 0} {step : S → Frame → Result (List ℕ × S) Refusal} {e
     longest = longest_by frames ran.front ran.rest (refused w s frames) ran.parts ran.ends;
   }
 
+  -- A new writer writes for frames as far as they are in turn, and refuses the first that is not.
   pub ran_all : (s : S) (frames : List Frame) → StandsFor s [] → Ran s [] frames
   ran_all s frames h = runs s [] frames h
 
@@ -278,6 +319,7 @@ module _ {S : Type 0} {step : S → Frame → Result (List ℕ × S) Refusal} {e
     pub in_turn : AreInTurn (frames_at m sequence)
     pub text_is : text_of w s m sequence ≡ after [] (frames_at m sequence)
 
+  -- Where a new writer refuses none of a sequence of frames, all are in turn, and it wrote for all.
   pub whole_in_turn : (s : S) (m : ℕ) (sequence : List ℕ) → StandsFor s [] → refused_of w s m sequence ≡ None → IsWholeInTurn s m sequence
   whole_in_turn s m sequence new none =
       let ran = ran_all s (frames_at m sequence) new in
@@ -287,18 +329,20 @@ module _ {S : Type 0} {step : S → Frame → Result (List ℕ × S) Refusal} {e
         text_is = ran.text_is ∙ ap (after []) whole;
       }
 
-  writes_by : (s : S) (m : ℕ) (taken written text_is : List ℕ) (r : Result (Unit {0}) (RunError Refusal)) → HasWrittenBy w s m taken written (ending_of r) → text_of w s m taken ≡ text_is → HasWrittenInTurn text_is written (as_turned r)
+  writes_by : (s : S) (m : ℕ) (taken written text_is : List ℕ) (r : Result (Unit {0}) (RunError Refusal))
+      → HasWrittenBy w s m taken written (ending_of r) → text_of w s m taken ≡ text_is → HasWrittenInTurn text_is written (as_turned r)
   writes_by s m taken written text_is (Ok done) h e = h.text_is ∙ e
   writes_by s m taken written text_is (Err (runs_end.Stream error)) h e = written_unless w s m taken text_is written (cause_of error) e h
   writes_by s m taken written text_is (Err (runs_end.Refused (refusals.BadContent bad))) h e = h ∙ e
   writes_by s m taken written text_is (Err (runs_end.Refused refusals.OpenContent)) h e = h ∙ e
 
-  in_turn_by : (s : S) (m : ℕ) (taken written : List ℕ) (frames : List Frame) (cause : Cause) → HasWrittenBy w s m taken written (stopped_by cause) → (refused_of w s m taken ≡ None → frames ≡ frames_at m taken) → IsAllInTurn (frames_at m taken) frames cause
+  in_turn_by : (s : S) (m : ℕ) (taken written : List ℕ) (frames : List Frame) (cause : Cause) → HasWrittenBy w s m taken written (stopped_by cause)
+      → (refused_of w s m taken ≡ None → frames ≡ frames_at m taken) → IsAllInTurn (frames_at m taken) frames cause
   in_turn_by s m taken written frames write_failed h whole = tt
   in_turn_by s m taken written frames out_of_memory h whole = tt
   in_turn_by s m taken written frames (faulty bad) h whole = whole h.none_refused
   in_turn_by s m taken written frames cut_short h whole = whole h.none_refused
-  in_turn_by s m taken written frames turns_spent h whole = whole h.none_refused
+  in_turn_by s m taken written frames budget_spent h whole = whole h.none_refused
   in_turn_by s m taken written frames read_failed h whole = whole h.none_refused
 
   at_wanted : (s : S) (m : ℕ) (taken written : List ℕ) → StandsFor s [] → AtWanting w s m taken written → AtWanted (after []) wants m taken written
@@ -314,22 +358,35 @@ module _ {S : Type 0} {step : S → Frame → Result (List ℕ × S) Refusal} {e
         written_is = h.written_is ∙ whole.text_is;
       }
 
-  cause_by : (s : S) (m turns : ℕ) (taken written : List ℕ) (a b : Supply) (k l : Store) (r : Result (Unit {0}) (RunError Refusal)) → StandsFor s [] → (ran : Ran s [] (frames_at m taken)) → HasWrittenBy w s m taken written (ending_of r) → HasCauseBy w s m turns taken written a b k l (ending_of r) → HasCauseInTurn (after []) wants m turns taken written ran.front a b k l (as_turned r)
-  cause_by s m turns taken written a b k l (Ok done) new ran wrote h =
-      (h.0, h.1, whole_by (frames_at m taken) ran.front ran.rest (refused_of w s m taken) ran.parts ran.ends wrote.none_refused, by.ends_none (state_of w s m taken) ran.front ran.stands h.2)
-  cause_by s m turns taken written a b k l (Err (runs_end.Stream error)) new ran wrote h =
-      (caused_by plain m turns taken a b k l (cause_of error) (at_wanted s m taken written new) h, in_turn_by s m taken written ran.front (cause_of error) wrote (whole_by (frames_at m taken) ran.front ran.rest (refused_of w s m taken) ran.parts ran.ends))
-  cause_by s m turns taken written a b k l (Err (runs_end.Refused (refusals.BadContent bad))) new ran wrote (inl is) =
+  cause_by : (s : S) (m budget : ℕ) (taken written : List ℕ) (a b : Supply) (k l : Store) (r : Result (Unit {0}) (RunError Refusal))
+      → StandsFor s [] → (ran : Ran s [] (frames_at m taken)) → HasWrittenBy w s m taken written (ending_of r)
+      → HasCauseBy w s m budget taken written a b k l (ending_of r) → HasCauseInTurn (after []) wants m budget taken written ran.front a b k l (as_turned r)
+  cause_by s m budget taken written a b k l (Ok done) new ran wrote h = (
+    h.0,
+    h.1,
+    whole_by (frames_at m taken) ran.front ran.rest (refused_of w s m taken) ran.parts ran.ends wrote.none_refused,
+    by.ends_none (state_of w s m taken) ran.front ran.stands h.2,
+  )
+  cause_by s m budget taken written a b k l (Err (runs_end.Stream error)) new ran wrote h = (
+    caused_by plain m budget taken a b k l (cause_of error) (at_wanted s m taken written new) h,
+    in_turn_by s m taken written ran.front (cause_of error) wrote (whole_by (frames_at m taken) ran.front ran.rest (refused_of w s m taken) ran.parts ran.ends),
+  )
+  cause_by s m budget taken written a b k l (Err (runs_end.Refused (refusals.BadContent bad))) new ran wrote (inl is) =
       next_by (frames_at m taken) ran.front ran.rest (refused_of w s m taken) bad ran.parts ran.ends is
-  cause_by s m turns taken written a b k l (Err (runs_end.Refused (refusals.BadContent bad))) new ran wrote (inr h) =
+  cause_by s m budget taken written a b k l (Err (runs_end.Refused (refusals.BadContent bad))) new ran wrote (inr h) =
       absurd (bad_is_not_open bad (by.only_open _ (refusals.BadContent bad) h.ends))
-  cause_by s m turns taken written a b k l (Err (runs_end.Refused refusals.OpenContent)) new ran wrote (inl is) =
+  cause_by s m budget taken written a b k l (Err (runs_end.Refused refusals.OpenContent)) new ran wrote (inl is) =
       absurd (never_open ran.front ran.rest (refused_of w s m taken) ran.ends is)
-  cause_by s m turns taken written a b k l (Err (runs_end.Refused refusals.OpenContent)) new ran wrote (inr h) =
-      (h.sequence, h.empty, whole_by (frames_at m taken) ran.front ran.rest (refused_of w s m taken) ran.parts ran.ends h.none_refused, by.ends_open (state_of w s m taken) ran.front refusals.OpenContent ran.stands h.ends)
+  cause_by s m budget taken written a b k l (Err (runs_end.Refused refusals.OpenContent)) new ran wrote (inr h) = (
+    h.sequence,
+    h.empty,
+    whole_by (frames_at m taken) ran.front ran.rest (refused_of w s m taken) ran.parts ran.ends h.none_refused,
+    by.ends_open (state_of w s m taken) ran.front refusals.OpenContent ran.stands h.ends,
+  )
 
-  goes : (s t : S) (m turns : ℕ) (a b : Supply) (k l : Store) (r : Result (Unit {0}) (RunError Refusal)) → StandsFor s [] → Streams w s t m turns a b k l (ending_of r) → GoesInTurn (after []) wants m turns a b k l (as_turned r)
-  goes s t m turns a b k l r new run =
+  goes : (s t : S) (m budget : ℕ) (a b : Supply) (k l : Store) (r : Result (Unit {0}) (RunError Refusal)) → StandsFor s []
+      → Streams w s t m budget a b k l (ending_of r) → GoesInTurn (after []) wants m budget a b k l (as_turned r)
+  goes s t m budget a b k l r new run =
       let ran = ran_all s (frames_at m run.taken) new in
       let short = run.short_by in
       let behind = whole_in_turn s m short.sequence new short.none_refused in
@@ -339,13 +396,13 @@ module _ {S : Type 0} {step : S → Frame → Result (List ℕ × S) Refusal} {e
         reads = run.reads;
         takes = run.takes;
         at_most = run.at_most;
-        all_turns = λ e. run.all_turns (turns_by r streams.TurnsSpent e);
+        all_spent = λ e. run.all_spent (turns_by r streams.TurnsSpent e);
         written = run.written;
         gains = run.gains;
         frames = ran.front;
         in_turn = longest_ran s (frames_at m run.taken) ran;
         writes = writes_by s m run.taken run.written (after [] ran.front) r run.writes ran.text_is;
-        cause = cause_by s m turns run.taken run.written a b k l r new ran run.writes run.cause;
+        cause = cause_by s m budget run.taken run.written a b k l r new ran run.writes run.cause;
         behind = record {
           sequence = short.sequence;
           rest = short.rest;
@@ -361,34 +418,49 @@ module _ {S : Type 0} {step : S → Frame → Result (List ℕ × S) Refusal} {e
 
   -- a call that ran, or never began
   abbrev pub RanOrNever : {A K : Type 0} → S → S → (A → Supply) → (K → Store) → ℕ → ℕ → A → A → K → K → Result (Unit {0}) (RunError Refusal) → Type 0
-  RanOrNever s t supply store m turns source source' sink sink' r = WriterRun w s t supply store m turns source source' sink sink' r ⊎ NeverRan s t source source' sink sink' r
+  RanOrNever s t supply store m budget source source' sink sink' r =
+      WriterRun w s t supply store m budget source source' sink sink' r ⊎ NeverRan s t source source' sink sink' r
 
-  pub never_untidy : {A K : Type 0} {s t : S} {supply : A → Supply} {store : K → Store} {m turns : ℕ} {source source' : A} {sink sink' : K} (r : Result (Unit {0}) (RunError Refusal)) → RanOrNever s t supply store m turns source source' sink sink' r → as_turned r ≢ Err (errors.Stream streams.NotTidy)
+  -- No run ends with the error that an encoding is not tidy.
+  pub never_untidy : {A K : Type 0} {s t : S} {supply : A → Supply} {store : K → Store}
+      {m budget : ℕ} {source source' : A} {sink sink' : K} (r : Result (Unit {0}) (RunError Refusal))
+      → RanOrNever s t supply store m budget source source' sink sink' r → as_turned r ≢ Err (errors.Stream streams.NotTidy)
   never_untidy r (inl run) e = run.stream.tidy_only (turns_by r streams.NotTidy e)
   never_untidy r (inr h) e = let other = sym (turns_by r streams.NotTidy e) ∙ ap ending_of h.0.no_memory in absurd cc
 
-  fresh_run : (s t : S) (m turns : ℕ) (a b : Supply) (k l : Store) (bad : ContentFault) → StandsFor s [] → Streams w s t m turns a b k l (refused_by (refusals.BadContent bad)) → (bad ≢ faults.BodyTooLarge) × (bad ≢ faults.Faulted)
-  fresh_run s t m turns a b k l bad new run = by_cause run.cause
+  fresh_run : (s t : S) (m budget : ℕ) (a b : Supply) (k l : Store) (bad : ContentFault) → StandsFor s []
+      → Streams w s t m budget a b k l (refused_by (refusals.BadContent bad)) → (bad ≢ faults.BodyTooLarge) × (bad ≢ faults.Faulted)
+  fresh_run s t m budget a b k l bad new run = by_cause run.cause
     where
-      by_cause : HasCauseBy w s m turns run.taken run.written a b k l (refused_by (refusals.BadContent bad)) → (bad ≢ faults.BodyTooLarge) × (bad ≢ faults.Faulted)
+      by_cause : HasCauseBy w s m budget run.taken run.written a b k l (refused_by (refusals.BadContent bad))
+          → (bad ≢ faults.BodyTooLarge) × (bad ≢ faults.Faulted)
       by_cause (inl is) =
           let ran = ran_all s (frames_at m run.taken) new in
           let sequence = front-is_sequence plain (Some m) run.taken run.are_bytes in
-          fresh_by (frames_at m run.taken) ran.front ran.rest (refused_of w s m run.taken) bad ran.parts (sequence_fits (Some m) sequence.used (frames_at m run.taken) sequence.sequence) ran.ends is
+          fresh_by (frames_at m run.taken) ran.front ran.rest (refused_of w s m run.taken) bad ran.parts
+          (sequence_fits (Some m) sequence.used (frames_at m run.taken) sequence.sequence) ran.ends is
       by_cause (inr h) = absurd (bad_is_not_open bad (by.only_open _ (refusals.BadContent bad) h.ends))
 
-  pub fresh : {A K : Type 0} {s t : S} {supply : A → Supply} {store : K → Store} {m turns : ℕ} {source source' : A} {sink sink' : K} (r : Result (Unit {0}) (RunError Refusal)) (bad : ContentFault) → StandsFor s [] → RanOrNever s t supply store m turns source source' sink sink' r → as_turned r ≡ Err (errors.BadContent bad) → (bad ≢ faults.BodyTooLarge) × (bad ≢ faults.Faulted)
+  -- A fault of content that ends the run of a new writer is neither a body above the limit nor a fault that came before.
+  pub fresh : {A K : Type 0} {s t : S} {supply : A → Supply} {store : K → Store} {m budget : ℕ}
+      {source source' : A} {sink sink' : K} (r : Result (Unit {0}) (RunError Refusal)) (bad : ContentFault)
+      → StandsFor s [] → RanOrNever s t supply store m budget source source' sink sink' r
+      → as_turned r ≡ Err (errors.BadContent bad) → (bad ≢ faults.BodyTooLarge) × (bad ≢ faults.Faulted)
   fresh (Ok done) bad new h e = absurd cc
   fresh (Err (runs_end.Stream error)) bad new h e = absurd cc
   fresh (Err (runs_end.Refused refusals.OpenContent)) bad new h e = absurd cc
-  fresh {s = s} {t = t} {supply = supply} {store = store} {m = m} {turns = turns} {source = source} {source' = source'} {sink = sink} {sink' = sink'} (Err (runs_end.Refused (refusals.BadContent worse))) bad new (inl run) e =
+  fresh {s = s} {t = t} {supply = supply} {store = store} {m = m} {budget = budget} {source = source} {source' = source'}
+      {sink = sink} {sink' = sink'} (Err (runs_end.Refused (refusals.BadContent worse))) bad new (inl run) e =
       let same : worse ≡ bad = cc in
-      subst (λ (f : ContentFault). (f ≢ faults.BodyTooLarge) × (f ≢ faults.Faulted)) same (fresh_run s t m turns (supply source) (supply source') (store sink) (store sink') worse new run.stream)
+      subst (λ (f : ContentFault). (f ≢ faults.BodyTooLarge) × (f ≢ faults.Faulted)) same
+      (fresh_run s t m budget (supply source) (supply source') (store sink) (store sink') worse new run.stream)
   fresh (Err (runs_end.Refused (refusals.BadContent worse))) bad new (inr h) e = let other = h.0.no_memory in absurd cc
 
   -- ---- the result by all of the bytes
 
-  answered_end : (m : ℕ) (bytes : List ℕ) (front : List Frame) (t : S) (last : Option Refusal) (answer : Result (Unit {0}) StreamError) → end t ≡ last → answer_to plain m bytes ≡ answer → front ≡ frames_at m bytes → StandsFor t front → IsAnsweredTo m bytes front (turned_ending (answer_at_end last answer))
+  answered_end : (m : ℕ) (bytes : List ℕ) (front : List Frame) (t : S) (last : Option Refusal) (answer : Result (Unit {0}) StreamError)
+      → end t ≡ last → answer_to plain m bytes ≡ answer → front ≡ frames_at m bytes
+      → StandsFor t front → IsAnsweredTo m bytes front (turned_ending (answer_at_end last answer))
   answered_end m bytes front t None (Ok done) e is whole h = (whole, is, by.ends_none t front h e)
   answered_end m bytes front t None (Err error) e is whole h = (whole, is ∙ ap (λ x. Err x) (sym (error_by-cause error)))
   answered_end m bytes front t (Some why) (Ok done) e is whole h =
@@ -396,23 +468,31 @@ module _ {S : Type 0} {step : S → Frame → Result (List ℕ × S) Refusal} {e
       subst (λ (w : Refusal). IsAnsweredTo m bytes front (turned_ending (refused_by w))) (sym open_is) (whole, is, by.ends_open t front why h e)
   answered_end m bytes front t (Some why) (Err error) e is whole h = (whole, is ∙ ap (λ x. Err x) (sym (error_by-cause error)))
 
-  answered : (m : ℕ) (bytes : List ℕ) (front rest : List Frame) (t : S) (why : Option Refusal) → Ends [] front rest why → frames_at m bytes ≡ front ++ rest → StandsFor t front → IsAnsweredTo m bytes front (turned_ending (answer_of why (end t) (answer_to plain m bytes)))
-  answered m bytes front rest t None ends parts h = answered_end m bytes front t (end t) (answer_to plain m bytes) refl refl (whole_by (frames_at m bytes) front rest None parts ends refl) h
-  answered m bytes front rest t (Some (refusals.BadContent bad)) ends parts h = next_by (frames_at m bytes) front rest (Some (refusals.BadContent bad)) bad parts ends refl
+  answered : (m : ℕ) (bytes : List ℕ) (front rest : List Frame) (t : S) (why : Option Refusal) → Ends [] front rest why → frames_at m bytes ≡ front ++ rest
+      → StandsFor t front → IsAnsweredTo m bytes front (turned_ending (answer_of why (end t) (answer_to plain m bytes)))
+  answered m bytes front rest t None ends parts h =
+      answered_end m bytes front t (end t) (answer_to plain m bytes) refl refl (whole_by (frames_at m bytes) front rest None parts ends refl) h
+  answered m bytes front rest t (Some (refusals.BadContent bad)) ends parts h =
+      next_by (frames_at m bytes) front rest (Some (refusals.BadContent bad)) bad parts ends refl
   answered m bytes front rest t (Some refusals.OpenContent) ends parts h = absurd (never_open front rest (Some refusals.OpenContent) ends refl)
 
-  exactly : (s : S) (m : ℕ) (bytes written : List ℕ) (r : Result (Unit {0}) (RunError Refusal)) → StandsFor s [] → IsExactRun w s m bytes written (ending_of r) → IsExactlyInTurn (after []) m bytes written (as_turned r)
+  exactly : (s : S) (m : ℕ) (bytes written : List ℕ) (r : Result (Unit {0}) (RunError Refusal)) → StandsFor s []
+      → IsExactRun w s m bytes written (ending_of r) → IsExactlyInTurn (after []) m bytes written (as_turned r)
   exactly s m bytes written r new h =
       let ran = ran_all s (frames_at m bytes) new in
       record {
         frames = ran.front;
         in_turn = longest_ran s (frames_at m bytes) ran;
-        answered = subst (λ (x : Result (Unit {0}) TurnError). IsAnsweredTo m bytes ran.front x) (sym (back r ∙ ap turned_ending h.answer)) (answered m bytes ran.front ran.rest (state_of w s m bytes) (refused_of w s m bytes) ran.ends ran.parts ran.stands);
+        answered =
+            subst (λ (x : Result (Unit {0}) TurnError). IsAnsweredTo m bytes ran.front x) (sym (back r ∙ ap turned_ending h.answer))
+            (answered m bytes ran.front ran.rest (state_of w s m bytes) (refused_of w s m bytes) ran.ends ran.parts ran.stands);
         written_is = h.text_is ∙ ran.text_is;
       }
 
-  goes_exactly : (s : S) (m : ℕ) (bytes : List ℕ) (k l : Store) (r : Result (Unit {0}) (RunError Refusal)) → StandsFor s [] → StreamsExactly w s m bytes k l (ending_of r) → GoesExactly (after []) m bytes k l (as_turned r)
-  goes_exactly s m bytes k l r new run = record { written = run.written; gains = run.gains; answer = unless_turned r (exactly s m bytes run.written r new) run.answer }
+  goes_exactly : (s : S) (m : ℕ) (bytes : List ℕ) (k l : Store) (r : Result (Unit {0}) (RunError Refusal))
+      → StandsFor s [] → StreamsExactly w s m bytes k l (ending_of r) → GoesExactly (after []) m bytes k l (as_turned r)
+  goes_exactly s m bytes k l r new run =
+      record { written = run.written; gains = run.gains; answer = unless_turned r (exactly s m bytes run.written r new) run.answer }
 
   -- ---- input that is complete
 
@@ -421,16 +501,30 @@ module _ {S : Type 0} {step : S → Frame → Result (List ℕ × S) Refusal} {e
       let ran = ran_all s (frames_at m bytes) new in
       let none = refused_never (frames_at m bytes) ran.front ran.rest (refused_of w s m bytes) ran.parts h.in_turn ran.ends in
       let whole = whole_by (frames_at m bytes) ran.front ran.rest (refused_of w s m bytes) ran.parts ran.ends none in
-      record { none_refused = none; ends = by.may_end (state_of w s m bytes) (frames_at m bytes) (subst (λ (fs : List Frame). StandsFor (state_of w s m bytes) fs) whole ran.stands) h.none_open }
+      record {
+        none_refused = none;
+        ends =
+            by.may_end (state_of w s m bytes) (frames_at m bytes)
+            (subst (λ (fs : List Frame). StandsFor (state_of w s m bytes) fs) whole ran.stands) h.none_open;
+      }
 
   -- ---- a whole call
 
-  pub turn_run : {A K : Type 0} (s t : S) {supply : A → Supply} {store : K → Store} {m turns : ℕ} {source source' : A} {sink sink' : K} (r : Result (Unit {0}) (RunError Refusal)) → StandsFor s []
-      → WriterRun w s t supply store m turns source source' sink sink' r → TurnRun (after []) wants supply store m turns source source' sink sink' (as_turned r)
-  turn_run s t {supply = supply} {store = store} {m = m} {turns = turns} {source = source} {source' = source'} {sink = sink} {sink' = sink'} r new run =
-      run_by (goes s t m turns (supply source) (supply source') (store sink) (store sink') r new) (ap as_turned) (λ bytes. goes_exactly s m bytes (store sink) (store sink') r new) (λ bytes accepted. (accepted.0, welcome s m bytes new accepted.1)) (λ goes. done_or_memory r) run
+  -- From a new writer, a run writes for the frames in turn, and ends by the first that is not, by an open message, or by the stream.
+  pub turn_run : {A K : Type 0} (s t : S) {supply : A → Supply} {store : K → Store} {m budget : ℕ}
+      {source source' : A} {sink sink' : K} (r : Result (Unit {0}) (RunError Refusal))
+      → StandsFor s []
+      → WriterRun w s t supply store m budget source source' sink sink' r
+      → TurnRun (after []) wants supply store m budget source source' sink sink' (as_turned r)
+  turn_run s t {supply = supply} {store = store} {m = m} {budget = budget} {source = source} {source' = source'} {sink = sink} {sink' = sink'} r new run =
+      run_by (goes s t m budget (supply source) (supply source') (store sink) (store sink') r new)
+      (ap as_turned) (λ bytes. goes_exactly s m bytes (store sink) (store sink') r new)
+      (λ bytes accepted. (accepted.0, welcome s m bytes new accepted.1)) (λ goes. done_or_memory r) run
 
-  pub goes_run : {A K : Type 0} (s t : S) {supply : A → Supply} {store : K → Store} {m turns : ℕ} {source source' : A} {sink sink' : K} (r : Result (Unit {0}) (RunError Refusal)) → StandsFor s [] → RanOrNever s t supply store m turns source source' sink sink' r
-      → TurnRun (after []) wants supply store m turns source source' sink sink' (as_turned r) ⊎ NeverBegan source source' sink sink' (errors.Stream streams.NoMemory) (as_turned r)
+  pub goes_run : {A K : Type 0} (s t : S) {supply : A → Supply} {store : K → Store} {m budget : ℕ}
+      {source source' : A} {sink sink' : K} (r : Result (Unit {0}) (RunError Refusal))
+      → StandsFor s [] → RanOrNever s t supply store m budget source source' sink sink' r
+      → TurnRun (after []) wants supply store m budget source source' sink sink' (as_turned r)
+      ⊎ NeverBegan source source' sink sink' (errors.Stream streams.NoMemory) (as_turned r)
   goes_run s t r new (inl run) = inl (turn_run s t r new run)
   goes_run s t r new (inr h) = inr (record { no_memory = ap as_turned h.0.no_memory; source_stays = h.0.source_stays; sink_stays = h.0.sink_stays })

@@ -28,12 +28,14 @@ IsFaultyBy raw cause = ⊥
 -- What is decided of a whole frame that is kept, or is not; or why it is none.
 abbrev pub JudgesKept : Bool → Raw → Result Decision StreamError → Type 0
 JudgesKept kept raw (Ok (decisions.Kept judged)) = (kept ≡ true) × IsJudged raw judged
-JudgesKept kept raw (Ok decisions.Dropped) = (kept ≡ false) × ((frame : Frame) × (whole raw ≡ Ok frame))
+JudgesKept kept raw (Ok decisions.Dropped) =
+    (kept ≡ false) × ((frame : Frame) × (whole raw ≡ Ok frame))
 JudgesKept kept raw (Err error) = IsFaultyBy raw (cause_of error)
 
 -- A frame is refused for this fault, or for a fault of its payload.
 abbrev pub RefusesFrame : Raw → ContentFault → Ending Refusal → Type 0
-RefusesFrame raw fault (refused_by (refusals.BadContent bad)) = (frame : Frame) × (whole raw ≡ Ok frame) × (bad ≡ fault)
+RefusesFrame raw fault (refused_by (refusals.BadContent bad)) =
+    (frame : Frame) × (whole raw ≡ Ok frame) × (bad ≡ fault)
 RefusesFrame raw fault (refused_by refusals.OpenContent) = ⊥
 RefusesFrame raw fault (stopped_by (faulty bad)) = IsFaulty plain raw bad
 RefusesFrame raw fault (stopped_by cause) = ⊥

@@ -1,6 +1,9 @@
--- What a call does that writes for the frames of a stream as far as they are in turn: which bytes are taken, which are written, and why it ends.
--- `text` is what is written for frames, and `wants` the types of frames at which memory may run out.
-use Rattle.std.specs.Prelude.{◌≡◌, ℕ, Bool, ◌+◌, ◌≤◌, IsTrue, List, ◌++◌, length, Some, Result, Ok, Err}
+-- What a call does that writes for the frames of a stream as far as they are in turn: which bytes
+-- are taken, which are written, and why it ends.
+-- `text` is what is written for frames, and `wants` the types of frames at which
+-- memory may run out.
+use Rattle.std.specs.Prelude.{◌≡◌, ℕ, Bool, ◌+◌, ◌≤◌, IsTrue, List, ◌++◌}
+use Rattle.std.specs.Prelude.{length, Some, Result, Ok, Err}
 use Rattle.amqp_types.specs.Levels.{plain}
 use Rattle.amqp_types.specs.Judging.{IsBytes}
 use Rattle.amqp_wire.specs.declared.frame_type.AMQPFrameType.{AMQPFrameType}
@@ -11,7 +14,8 @@ use Rattle.amqp_stream.specs.declared.errors.StreamError.TheVariants as streams
 use Rattle.amqp_stream.specs.Errors.{Cause, write_failed, out_of_memory, cause_of}
 use Rattle.amqp_stream.specs.Ends.{Supply, Store, Takes, Gains, IsEmpty}
 use Rattle.amqp_stream.specs.Writing.{IsPrefix}
-use Rattle.amqp_stream.specs.Transcribing.{IsSequence, IsCausedBy, IsValid, UnlessStopped, IsOutOfMemory, answer_to, IsWrittenUnless}
+use Rattle.amqp_stream.specs.Transcribing.{IsSequence, IsCausedBy, IsValid, UnlessStopped}
+use Rattle.amqp_stream.specs.Transcribing.{IsOutOfMemory, answer_to, IsWrittenUnless}
 use Rattle.amqp_stream.specs.Runs.{Runs}
 use Rattle.amqp_in_turn.specs.declared.errors.TurnError.{TurnError}
 use Rattle.amqp_in_turn.specs.declared.errors.TurnError.TheVariants as errors
@@ -21,8 +25,10 @@ use Rattle.amqp_turns.specs.InTurn.{IsLongestInTurn, IsNextFault, IsOpen, NoneIs
 abbrev pub frames_at : ℕ → List ℕ → List Frame
 frames_at m bytes = front plain (Some m) bytes
 
--- A sequence of frames that are in turn was written for, and then a frame of a type that is wanted has come.
-pub record AtWanted (text : List Frame → List ℕ) (wants : AMQPFrameType → Bool) (m : ℕ) (taken written : List ℕ) : Type 0 where
+-- A sequence of frames that are in turn was written for, and then a frame of a type that is
+-- wanted has come.
+pub record AtWanted (text : List Frame → List ℕ) (wants : AMQPFrameType → Bool)
+    (m : ℕ) (taken written : List ℕ) : Type 0 where
   pub sequence : List ℕ
   pub rest : List ℕ
   pub parts : taken ≡ sequence ++ rest
@@ -31,9 +37,10 @@ pub record AtWanted (text : List Frame → List ℕ) (wants : AMQPFrameType → 
   pub wanted : BeginsWith (λ kind. IsTrue (wants kind)) (Some m) rest
   pub written_is : written ≡ text (frames_at m sequence)
 
--- At most n of the bytes taken come after a sequence of frames that are in turn and were written for. So of what follows a frame that is not in turn no more
--- is taken than was held with it.
-pub record IsTextBehindBy (text : List Frame → List ℕ) (m : ℕ) (taken written : List ℕ) (n : ℕ) : Type 0 where
+-- At most n of the bytes taken come after a sequence of frames that are in turn and were written
+-- for. So of what follows a frame that is not in turn no more is taken than was held with it.
+pub record IsTextBehindBy (text : List Frame → List ℕ)
+    (m : ℕ) (taken written : List ℕ) (n : ℕ) : Type 0 where
   pub sequence : List ℕ
   pub rest : List ℕ
   pub parts : taken ≡ sequence ++ rest
@@ -48,51 +55,62 @@ IsAllInTurn all frames write_failed = Unit {0}
 IsAllInTurn all frames out_of_memory = Unit {0}
 IsAllInTurn all frames cause = frames ≡ all
 
--- When each result comes. `frames` is the longest prefix in turn of the frames at the front of the bytes taken.
-abbrev pub HasCauseInTurn : (List Frame → List ℕ) → (AMQPFrameType → Bool) → ℕ → ℕ → List ℕ → List ℕ → List Frame → Supply → Supply → Store → Store
+-- When each result comes. `frames` is the longest prefix in turn of the frames at the front of
+-- the bytes taken.
+abbrev pub HasCauseInTurn : (List Frame → List ℕ) → (AMQPFrameType → Bool)
+    → ℕ → ℕ → List ℕ → List ℕ → List Frame → Supply → Supply → Store → Store
     → Result (Unit {0}) TurnError → Type 0
-HasCauseInTurn text wants m turns taken written frames a b k l (Ok done) =
+HasCauseInTurn text wants m budget taken written frames a b k l (Ok done) =
     IsSequence plain m taken × IsEmpty b.left × (frames ≡ frames_at m taken) × NoneIsOpen frames
-HasCauseInTurn text wants m turns taken written frames a b k l (Err (errors.BadContent fault)) = IsNextFault (frames_at m taken) frames fault
-HasCauseInTurn text wants m turns taken written frames a b k l (Err errors.OpenContent) =
+HasCauseInTurn text wants m budget taken written frames a b k l (Err (errors.BadContent fault)) =
+    IsNextFault (frames_at m taken) frames fault
+HasCauseInTurn text wants m budget taken written frames a b k l (Err errors.OpenContent) =
     IsSequence plain m taken × IsEmpty b.left × (frames ≡ frames_at m taken) × IsOpen frames
-HasCauseInTurn text wants m turns taken written frames a b k l (Err (errors.Stream error)) =
-    IsCausedBy plain m turns taken a b k l (AtWanted text wants m taken written) (cause_of error) × IsAllInTurn (frames_at m taken) frames (cause_of error)
+HasCauseInTurn text wants m budget taken written frames a b k l (Err (errors.Stream error)) =
+    IsCausedBy plain m budget taken a b k l (AtWanted text wants m taken written) (cause_of error)
+    × IsAllInTurn (frames_at m taken) frames (cause_of error)
 
 -- what was written of all that is to be, by the result: all of it, unless a write or memory failed
 abbrev pub HasWrittenInTurn : List ℕ → List ℕ → Result (Unit {0}) TurnError → Type 0
 HasWrittenInTurn all written (Ok done) = written ≡ all
 HasWrittenInTurn all written (Err (errors.BadContent fault)) = written ≡ all
 HasWrittenInTurn all written (Err errors.OpenContent) = written ≡ all
-HasWrittenInTurn all written (Err (errors.Stream error)) = IsWrittenUnless all written (cause_of error)
+HasWrittenInTurn all written (Err (errors.Stream error)) =
+    IsWrittenUnless all written (cause_of error)
 
 -- A whole call: a is the source before it and b after it, k and l the sink.
-pub record GoesInTurn (text : List Frame → List ℕ) (wants : AMQPFrameType → Bool) (m turns : ℕ) (a b : Supply) (k l : Store)
+pub record GoesInTurn (text : List Frame → List ℕ)
+    (wants : AMQPFrameType → Bool) (m budget : ℕ) (a b : Supply) (k l : Store)
     (result : Result (Unit {0}) TurnError) : Type 0 where
   pub taken : List ℕ
   pub are_bytes : IsBytes taken
   pub reads : ℕ
   pub takes : Takes a b taken reads
-  pub at_most : reads ≤ turns
-  pub all_turns : result ≡ Err (errors.Stream streams.TurnsSpent) → reads ≡ turns
+  pub at_most : reads ≤ budget
+  pub all_spent : result ≡ Err (errors.Stream streams.TurnsSpent) → reads ≡ budget
   pub written : List ℕ
   pub gains : Gains k l written
   pub frames : List Frame
   pub in_turn : IsLongestInTurn (frames_at m taken) frames
   pub writes : HasWrittenInTurn (text frames) written result
-  pub cause : HasCauseInTurn text wants m turns taken written frames a b k l result
+  pub cause : HasCauseInTurn text wants m budget taken written frames a b k l result
   pub behind : IsTextBehindBy text m taken written (m + 8)
 
--- What is returned for all the bytes of a source: the fault of the first frame that is not in turn; or else the result of canonicalizing them, and where
--- that is Ok, whether content is open.
+-- What is returned for all the bytes of a source: the fault of the first frame that is not in turn;
+-- or else the result of canonicalizing them, and where that is Ok, whether content is open.
 abbrev pub IsAnsweredTo : ℕ → List ℕ → List Frame → Result (Unit {0}) TurnError → Type 0
-IsAnsweredTo m bytes frames (Ok done) = (frames ≡ frames_at m bytes) × (answer_to plain m bytes ≡ Ok tt) × NoneIsOpen frames
-IsAnsweredTo m bytes frames (Err (errors.BadContent fault)) = IsNextFault (frames_at m bytes) frames fault
-IsAnsweredTo m bytes frames (Err errors.OpenContent) = (frames ≡ frames_at m bytes) × (answer_to plain m bytes ≡ Ok tt) × IsOpen frames
-IsAnsweredTo m bytes frames (Err (errors.Stream error)) = (frames ≡ frames_at m bytes) × (answer_to plain m bytes ≡ Err error)
+IsAnsweredTo m bytes frames (Ok done) =
+    (frames ≡ frames_at m bytes) × (answer_to plain m bytes ≡ Ok tt) × NoneIsOpen frames
+IsAnsweredTo m bytes frames (Err (errors.BadContent fault)) =
+    IsNextFault (frames_at m bytes) frames fault
+IsAnsweredTo m bytes frames (Err errors.OpenContent) =
+    (frames ≡ frames_at m bytes) × (answer_to plain m bytes ≡ Ok tt) × IsOpen frames
+IsAnsweredTo m bytes frames (Err (errors.Stream error)) =
+    (frames ≡ frames_at m bytes) × (answer_to plain m bytes ≡ Err error)
 
 -- what is written and returned, by the bytes alone
-pub record IsExactlyInTurn (text : List Frame → List ℕ) (m : ℕ) (bytes written : List ℕ) (result : Result (Unit {0}) TurnError) : Type 0 where
+pub record IsExactlyInTurn (text : List Frame → List ℕ) (m : ℕ)
+    (bytes written : List ℕ) (result : Result (Unit {0}) TurnError) : Type 0 where
   pub frames : List Frame
   pub in_turn : IsLongestInTurn (frames_at m bytes) frames
   pub answered : IsAnsweredTo m bytes frames result
@@ -106,7 +124,8 @@ UnlessStoppedInTurn (Err errors.OpenContent) So = So
 UnlessStoppedInTurn (Err (errors.Stream error)) So = UnlessStopped (cause_of error) So
 
 -- what a call returns over a source that reports its bytes
-pub record GoesExactly (text : List Frame → List ℕ) (m : ℕ) (bytes : List ℕ) (k l : Store) (result : Result (Unit {0}) TurnError) : Type 0 where
+pub record GoesExactly (text : List Frame → List ℕ) (m : ℕ) (bytes : List ℕ)
+    (k l : Store) (result : Result (Unit {0}) TurnError) : Type 0 where
   pub written : List ℕ
   pub gains : Gains k l written
   pub answer : UnlessStoppedInTurn result (IsExactlyInTurn text m bytes written result)
@@ -124,11 +143,14 @@ IsOkOrNoMemory (Err errors.OpenContent) = ⊥
 IsOkOrNoMemory (Err (errors.Stream error)) = IsOutOfMemory (cause_of error)
 
 -- a run that writes this text for the frames in turn
-abbrev pub TurnRun : {S K : Type 0} → (List Frame → List ℕ) → (AMQPFrameType → Bool) → (S → Supply) → (K → Store) → ℕ → ℕ → S → S → K → K
+abbrev pub TurnRun : {S K : Type 0} → (List Frame → List ℕ)
+    → (AMQPFrameType → Bool) → (S → Supply) → (K → Store) → ℕ → ℕ → S → S → K → K
     → Result (Unit {0}) TurnError → Type 0
-TurnRun text wants supply store m turns source source' sink sink' result = Runs supply store turns source source' sink sink'
-    (GoesInTurn text wants m turns (supply source) (supply source') (store sink) (store sink') result)
+TurnRun text wants supply store m budget source source' sink sink' result =
+    Runs supply store budget source source' sink sink'
+    (GoesInTurn text wants m budget (supply source)
+    (supply source') (store sink) (store sink') result)
     (result ≡ Err (errors.Stream streams.TurnsSpent))
     (λ bytes. GoesExactly text m bytes (store sink) (store sink') result)
-    (λ bytes. IsValid plain m turns bytes × IsComplete m bytes)
+    (λ bytes. IsValid plain m budget bytes × IsComplete m bytes)
     (IsOkOrNoMemory result)

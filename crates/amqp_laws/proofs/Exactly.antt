@@ -8,10 +8,13 @@ use Rattle.amqp_types.specs.Numbers.{bytes1, bytes4, judge_number, SpellsNumber}
 use Rattle.amqp_types.specs.Signed.{judge_signed, SpellsSigned}
 use Rattle.amqp_types.specs.Booleans.{judge_boolean, SpellsBoolean}
 use Rattle.amqp_types.specs.Strings.{judge_long_string, SpellsLongString}
-use Rattle.amqp_types.specs.Values.{FieldValue, SignedKind, UnsignedKind, BytesKind, short_short_int, short_int, long_int, long_long_int, short_short_uint, short_uint, long_uint, float, double, timestamp, long_string, byte_array, boolean_value, signed_value, unsigned_value, decimal_value, bytes_value, array_value, table_value, void_value, items, pairs, values_of, entries_of}
+use Rattle.amqp_types.specs.Values.{FieldValue, SignedKind, UnsignedKind, BytesKind, short_short_int, short_int, long_int, long_long_int, short_short_uint}
+use Rattle.amqp_types.specs.Values.{short_uint, long_uint, float, double, timestamp, long_string, byte_array, boolean_value, signed_value, unsigned_value}
+use Rattle.amqp_types.specs.Values.{decimal_value, bytes_value, array_value, table_value, void_value, items, pairs, values_of, entries_of}
 use Rattle.amqp_types.specs.ValueBytes.{signed_width, unsigned_width}
 use Rattle.amqp_types.specs.Tags.{tag_at, tag_of, SpellsTag}
-use Rattle.amqp_types.specs.ValueJudging.{judge_array, judge_table, judge_decimal, judge_signed_kind, judge_unsigned_kind, judge_bytes_kind, judge_behind, behind_tag, judge_tagged, nested, judge_value}
+use Rattle.amqp_types.specs.ValueJudging.{judge_array, judge_table, judge_decimal, judge_signed_kind, judge_unsigned_kind, judge_bytes_kind, judge_behind}
+use Rattle.amqp_types.specs.ValueJudging.{behind_tag, judge_tagged, nested, judge_value}
 use Rattle.amqp_types.specs.ValueSpelling.{SpellsDecimal, SpellsArray, SpellsTable, SpellsBehind, SpellsTagged, SpellsValue}
 use Rattle.amqp_types.specs.declared.tag.FieldTag.{FieldTag}
 use Rattle.amqp_types.specs.declared.tag.FieldTag.TheVariants as tag
@@ -24,18 +27,24 @@ use Rattle.amqp_laws.proofs.Conversions.{items-values_of, pairs-entries_of, valu
 use Rattle.amqp_laws.proofs.Tags.{tag_spelled, tag_read}
 use Rattle.amqp_laws.proofs.Filled.{HasBytes, array_exact, table_exact}
 
+-- Decoding a decimal value takes exactly what encodes it.
 pub decimal_exact : IsExact judge_decimal SpellsDecimal
 unfolding judge_decimal
-decimal_exact = both_exact (judge_number bytes1) (judge_number bytes4) (λ scale n. (scale, n)) (SpellsNumber bytes1) (SpellsNumber bytes4) (number_exact bytes1) (number_exact bytes4)
+decimal_exact =
+    both_exact (judge_number bytes1) (judge_number bytes4) (λ scale n. (scale, n))
+    (SpellsNumber bytes1) (SpellsNumber bytes4) (number_exact bytes1) (number_exact bytes4)
 
 -- ---- which tag a value has that was read after a tag
 
-pub mapped_tag : {A : Type 0} (make : A → FieldValue) (judge : Judge A) (t : FieldTag) → ((x : A) → tag_of (make x) ≡ t) → (bytes : List ℕ) (v : FieldValue) (n : ℕ) → judge_map make judge bytes ≡ took v n → tag_of v ≡ t
+pub mapped_tag : {A : Type 0} (make : A → FieldValue) (judge : Judge A) (t : FieldTag) → ((x : A) → tag_of (make x) ≡ t)
+    → (bytes : List ℕ) (v : FieldValue) (n : ℕ) → judge_map make judge bytes ≡ took v n → tag_of v ≡ t
 mapped_tag make judge t same bytes v n h =
     let found = bind_took (judge bytes) _ v n h in
     ap tag_of (sym (value_took (make found.0) v _ n found.3)) ∙ same found.0
 
-pub tag_behind : (nest : Option (Judge FieldValue)) (t : FieldTag) (bytes : List ℕ) (v : FieldValue) (n : ℕ) → judge_behind nest t bytes ≡ took v n → tag_of v ≡ t
+-- A value decoded after a tag has that tag.
+pub tag_behind : (nest : Option (Judge FieldValue)) (t : FieldTag) (bytes : List ℕ) (v : FieldValue) (n : ℕ)
+    → judge_behind nest t bytes ≡ took v n → tag_of v ≡ t
 unfolding judge_behind
 tag_behind nest tag.Boolean bytes v n h = mapped_tag boolean_value judge_boolean _ (λ x. refl) bytes v n h
 tag_behind nest tag.ShortShortInt bytes v n h = mapped_tag (signed_value short_short_int) (judge_signed bytes1) _ (λ x. refl) bytes v n h
@@ -73,11 +82,15 @@ module _ (room : ℕ) (Spells : List ℕ → FieldValue → Type 0) (some : HasB
 
   signed_sound : (kind : SignedKind) → IsSound (judge_signed_kind kind) Behind
   unfolding IsSound
-  signed_sound kind = map_spelled (signed_value kind) (judge_signed (signed_width kind)) (SpellsSigned (signed_width kind)) Behind (signed_exact (signed_width kind)) (λ bytes n h. h)
+  signed_sound kind =
+      map_spelled (signed_value kind) (judge_signed (signed_width kind))
+      (SpellsSigned (signed_width kind)) Behind (signed_exact (signed_width kind)) (λ bytes n h. h)
 
   unsigned_sound : (kind : UnsignedKind) → IsSound (judge_unsigned_kind kind) Behind
   unfolding IsSound
-  unsigned_sound kind = map_spelled (unsigned_value kind) (judge_number (unsigned_width kind)) (SpellsNumber (unsigned_width kind)) Behind (number_exact (unsigned_width kind)) (λ bytes n h. h)
+  unsigned_sound kind =
+      map_spelled (unsigned_value kind) (judge_number (unsigned_width kind))
+      (SpellsNumber (unsigned_width kind)) Behind (number_exact (unsigned_width kind)) (λ bytes n h. h)
 
   bytes_sound : (kind : BytesKind) → IsSound (judge_bytes_kind kind) Behind
   unfolding IsSound
@@ -120,22 +133,42 @@ module _ (room : ℕ) (Spells : List ℕ → FieldValue → Type 0) (some : HasB
   Holds : Option (Judge FieldValue) → Type 0
   Holds nest = 0 < room → (value : Judge FieldValue) × (nest ≡ Some value) × IsExact value Spells
 
-  behind_taken : (nest : Option (Judge FieldValue)) → Holds nest → (bytes rest : List ℕ) (v : FieldValue) → Behind bytes v → judge_behind nest (tag_of v) (bytes ++ rest) ≡ took v (length bytes)
+  behind_taken : (nest : Option (Judge FieldValue)) → Holds nest → (bytes rest : List ℕ) (v : FieldValue)
+      → Behind bytes v → judge_behind nest (tag_of v) (bytes ++ rest) ≡ took v (length bytes)
   unfolding judge_behind Holds
   behind_taken nest ok bytes rest (boolean_value b) h = map_taken boolean_value judge_boolean (SpellsBoolean plain) boolean_laws.exact bytes rest b h
-  behind_taken nest ok bytes rest (signed_value short_short_int n) h = map_taken (signed_value short_short_int) (judge_signed bytes1) (SpellsSigned bytes1) (signed_exact bytes1) bytes rest n h
-  behind_taken nest ok bytes rest (signed_value short_int n) h = map_taken (signed_value short_int) (judge_signed (signed_width short_int)) (SpellsSigned (signed_width short_int)) (signed_exact (signed_width short_int)) bytes rest n h
-  behind_taken nest ok bytes rest (signed_value long_int n) h = map_taken (signed_value long_int) (judge_signed (signed_width long_int)) (SpellsSigned (signed_width long_int)) (signed_exact (signed_width long_int)) bytes rest n h
-  behind_taken nest ok bytes rest (signed_value long_long_int n) h = map_taken (signed_value long_long_int) (judge_signed (signed_width long_long_int)) (SpellsSigned (signed_width long_long_int)) (signed_exact (signed_width long_long_int)) bytes rest n h
-  behind_taken nest ok bytes rest (unsigned_value short_short_uint n) h = map_taken (unsigned_value short_short_uint) (judge_number bytes1) (SpellsNumber bytes1) (number_exact bytes1) bytes rest n h
-  behind_taken nest ok bytes rest (unsigned_value short_uint n) h = map_taken (unsigned_value short_uint) (judge_number (unsigned_width short_uint)) (SpellsNumber (unsigned_width short_uint)) (number_exact (unsigned_width short_uint)) bytes rest n h
-  behind_taken nest ok bytes rest (unsigned_value long_uint n) h = map_taken (unsigned_value long_uint) (judge_number bytes4) (SpellsNumber bytes4) (number_exact bytes4) bytes rest n h
-  behind_taken nest ok bytes rest (unsigned_value float n) h = map_taken (unsigned_value float) (judge_number bytes4) (SpellsNumber bytes4) (number_exact bytes4) bytes rest n h
-  behind_taken nest ok bytes rest (unsigned_value double n) h = map_taken (unsigned_value double) (judge_number (unsigned_width double)) (SpellsNumber (unsigned_width double)) (number_exact (unsigned_width double)) bytes rest n h
-  behind_taken nest ok bytes rest (unsigned_value timestamp n) h = map_taken (unsigned_value timestamp) (judge_number (unsigned_width timestamp)) (SpellsNumber (unsigned_width timestamp)) (number_exact (unsigned_width timestamp)) bytes rest n h
-  behind_taken nest ok bytes rest (decimal_value scale n) h = map_taken (λ d. decimal_value d.0 d.1) judge_decimal SpellsDecimal decimal_exact bytes rest (scale, n) h
-  behind_taken nest ok bytes rest (bytes_value long_string s) h = map_taken (bytes_value long_string) judge_long_string SpellsLongString long_string_exact bytes rest s h
-  behind_taken nest ok bytes rest (bytes_value byte_array s) h = map_taken (bytes_value byte_array) judge_long_string SpellsLongString long_string_exact bytes rest s h
+  behind_taken nest ok bytes rest (signed_value short_short_int n) h =
+      map_taken (signed_value short_short_int) (judge_signed bytes1) (SpellsSigned bytes1) (signed_exact bytes1) bytes rest n h
+  behind_taken nest ok bytes rest (signed_value short_int n) h =
+      map_taken (signed_value short_int) (judge_signed (signed_width short_int))
+      (SpellsSigned (signed_width short_int)) (signed_exact (signed_width short_int)) bytes rest n h
+  behind_taken nest ok bytes rest (signed_value long_int n) h =
+      map_taken (signed_value long_int) (judge_signed (signed_width long_int))
+      (SpellsSigned (signed_width long_int)) (signed_exact (signed_width long_int)) bytes rest n h
+  behind_taken nest ok bytes rest (signed_value long_long_int n) h =
+      map_taken (signed_value long_long_int) (judge_signed (signed_width long_long_int))
+      (SpellsSigned (signed_width long_long_int)) (signed_exact (signed_width long_long_int)) bytes rest n h
+  behind_taken nest ok bytes rest (unsigned_value short_short_uint n) h =
+      map_taken (unsigned_value short_short_uint) (judge_number bytes1) (SpellsNumber bytes1) (number_exact bytes1) bytes rest n h
+  behind_taken nest ok bytes rest (unsigned_value short_uint n) h =
+      map_taken (unsigned_value short_uint) (judge_number (unsigned_width short_uint))
+      (SpellsNumber (unsigned_width short_uint)) (number_exact (unsigned_width short_uint)) bytes rest n h
+  behind_taken nest ok bytes rest (unsigned_value long_uint n) h =
+      map_taken (unsigned_value long_uint) (judge_number bytes4) (SpellsNumber bytes4) (number_exact bytes4) bytes rest n h
+  behind_taken nest ok bytes rest (unsigned_value float n) h =
+      map_taken (unsigned_value float) (judge_number bytes4) (SpellsNumber bytes4) (number_exact bytes4) bytes rest n h
+  behind_taken nest ok bytes rest (unsigned_value double n) h =
+      map_taken (unsigned_value double) (judge_number (unsigned_width double))
+      (SpellsNumber (unsigned_width double)) (number_exact (unsigned_width double)) bytes rest n h
+  behind_taken nest ok bytes rest (unsigned_value timestamp n) h =
+      map_taken (unsigned_value timestamp) (judge_number (unsigned_width timestamp))
+      (SpellsNumber (unsigned_width timestamp)) (number_exact (unsigned_width timestamp)) bytes rest n h
+  behind_taken nest ok bytes rest (decimal_value scale n) h =
+      map_taken (λ d. decimal_value d.0 d.1) judge_decimal SpellsDecimal decimal_exact bytes rest (scale, n) h
+  behind_taken nest ok bytes rest (bytes_value long_string s) h =
+      map_taken (bytes_value long_string) judge_long_string SpellsLongString long_string_exact bytes rest s h
+  behind_taken nest ok bytes rest (bytes_value byte_array s) h =
+      map_taken (bytes_value byte_array) judge_long_string SpellsLongString long_string_exact bytes rest s h
   behind_taken nest ok bytes rest (array_value vs) h =
       let deep = ok h.0 in
       ap (λ o. judge_behind o tag.FieldArray (bytes ++ rest)) deep.1
@@ -144,14 +177,16 @@ module _ (room : ℕ) (Spells : List ℕ → FieldValue → Type 0) (some : HasB
   behind_taken nest ok bytes rest (table_value es) h =
       let deep = ok h.0 in
       ap (λ o. judge_behind o tag.FieldTable (bytes ++ rest)) deep.1
-      ∙ map_taken (λ fs. table_value (entries_of fs)) (judge_table deep.0) (SpellsTable plain Spells) (table_exact deep.0 Spells deep.2 some) bytes rest (pairs es) h.1
+      ∙ map_taken (λ fs. table_value (entries_of fs)) (judge_table deep.0)
+      (SpellsTable plain Spells) (table_exact deep.0 Spells deep.2 some) bytes rest (pairs es) h.1
       ∙ ap (λ fs. took (table_value fs) (length bytes)) (entries_of-pairs es)
   behind_taken nest ok bytes rest void_value h = ap (took void_value) (sym (ap length h))
 
   -- ---- with the tag
 
   known_sound : (nest : Option (Judge FieldValue)) → IsNested room nest Spells → (o : Option FieldTag) (byte : ℕ) → tag_at byte ≡ o
-      → (bytes : List ℕ) (v : FieldValue) (n : ℕ) → IsBytes bytes → behind_tag nest o bytes ≡ took v n → SpellsTagged plain Behind (take n (byte ∷ bytes)) v × (n ≤ length (byte ∷ bytes))
+      → (bytes : List ℕ) (v : FieldValue) (n : ℕ) → IsBytes bytes → behind_tag nest o bytes ≡ took v n
+      → SpellsTagged plain Behind (take n (byte ∷ bytes)) v × (n ≤ length (byte ∷ bytes))
   unfolding IsSound
   known_sound nest ok None byte is bytes v n fits h = cc
   known_sound nest ok (Some t) byte is bytes v n fits h =
@@ -171,12 +206,14 @@ module _ (room : ℕ) (Spells : List ℕ → FieldValue → Type 0) (some : HasB
         omega (arith, one.1, count),
       )
 
-  tagged_spelled : (nest : Option (Judge FieldValue)) → IsNested room nest Spells → (bytes : List ℕ) (v : FieldValue) (n : ℕ) → IsBytes bytes → judge_tagged nest bytes ≡ took v n → SpellsTagged plain Behind (take n bytes) v × (n ≤ length bytes)
+  tagged_spelled : (nest : Option (Judge FieldValue)) → IsNested room nest Spells → (bytes : List ℕ) (v : FieldValue) (n : ℕ)
+      → IsBytes bytes → judge_tagged nest bytes ≡ took v n → SpellsTagged plain Behind (take n bytes) v × (n ≤ length bytes)
   unfolding judge_tagged
   tagged_spelled nest ok [] v n fits h = cc
   tagged_spelled nest ok (byte ∷ bytes) v n fits h = known_sound nest ok (tag_at byte) byte refl bytes v n (λ i. fits (suc i)) h
 
-  tagged_taken : (nest : Option (Judge FieldValue)) → Holds nest → (bytes rest : List ℕ) (v : FieldValue) → SpellsTagged plain Behind bytes v → judge_tagged nest (bytes ++ rest) ≡ took v (length bytes)
+  tagged_taken : (nest : Option (Judge FieldValue)) → Holds nest → (bytes rest : List ℕ) (v : FieldValue)
+      → SpellsTagged plain Behind bytes v → judge_tagged nest (bytes ++ rest) ≡ took v (length bytes)
   unfolding judge_tagged
   tagged_taken nest ok bytes rest v h =
       ap (λ bs. judge_tagged nest (bs ++ rest)) h.bytes_are ∙ ap (λ t. behind_tag nest t (h.behind ++ rest)) (tag_read h.byte (tag_of v) h.tag_is)
@@ -188,11 +225,13 @@ module _ (room : ℕ) (Spells : List ℕ → FieldValue → Type 0) (some : HasB
 tagged_some : (level : Level) (Spells : List ℕ → FieldValue → Type 0) → HasBytes (SpellsTagged level Spells)
 tagged_some level Spells bytes v h = omega (arith, ap length h.bytes_are)
 
+-- The encoding of a value has at least one byte, its tag.
 pub value_some : (level : Level) (room : ℕ) → HasBytes (SpellsValue level room)
 unfolding SpellsValue
 value_some level zero = tagged_some level _
 value_some level (suc room) = tagged_some level _
 
+-- Decoding a value takes exactly what encodes it at level plain.
 pub value_exact : (room : ℕ) → IsExact (judge_value room) (SpellsValue plain room)
 unfolding judge_value nested SpellsValue IsNested Holds
 value_exact zero = tagged_exact 0 (λ _ _. ⊥) (λ bytes v h. absurd h) None (λ value none. cc) (λ up. absurd (omega arith))

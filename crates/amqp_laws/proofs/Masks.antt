@@ -1,5 +1,6 @@
 -- The mask has the bit of each property that is set, and no other.
-use Rattle.std.proofs.Common.{◌≡◌, ℕ, suc, ◌+◌, ◌*◌, ◌^◌, ◌<◌, Bool, false, List, [], ◌∷◌, length, map, reverse, refl, sym, ap, ap₂, subst, ◌∙◌, arith, Option, Some, None}
+use Rattle.std.proofs.Common.{◌≡◌, ℕ, suc, ◌+◌, ◌*◌, ◌^◌, ◌<◌, Bool, false, List, [], ◌∷◌, length, map, reverse, refl, sym, ap, ap₂, subst}
+use Rattle.std.proofs.Common.{◌∙◌, arith, Option, Some, None}
 use Rattle.std.specs.Prelude.{is_some}
 use Rattle.std.proofs.lemmas.List.{length-reverse, reverse-reverse}
 use Rattle.amqp_types.specs.Flags.{flag_at, flags_from, bit_of, flags_byte}
@@ -28,6 +29,7 @@ unfolding worth_of
 worth_is worth None = omega arith
 worth_is worth (Some item) = omega arith
 
+-- The mask of properties depends only on which of them are set.
 pub mask_of-flags : (ps : List Property) (options : List (Option Item)) → mask_of ps options ≡ flags_mask ps (map is_some options)
 unfolding mask_of
 mask_of-flags [] options = refl
@@ -58,13 +60,15 @@ pub record IsMaskOf (mask : ℕ) (flags : List Bool) : Type 0 where
   pub second : flag_at mask 1 ≡ false
   pub set : set_flags mask properties ≡ flags
 
+-- The mask of 14 flags has the bit of each property whose flag is set, and no other.
 pub flags_mask_is : (flags : List Bool) → length flags ≡ 14 → IsMaskOf (flags_mask properties flags) flags
 flags_mask_is flags all =
     let mask = flags_mask properties flags in
     let is : mask ≡ flags_byte (mask_flags flags) = mask_is_byte flags all in
     let long : length (mask_flags flags) ≡ 16 = omega (arith, all, length-reverse flags) in
     let P : ℕ → Type 0 = λ n. mask < 2 ^ n in
-    let bits : flags_from 16 0 mask ≡ mask_flags flags = ap (flags_from 16 0) is ∙ ap (λ (n : ℕ). flags_from n 0 (flags_byte (mask_flags flags))) (sym long) ∙ flags_back (mask_flags flags) in
+    let bits : flags_from 16 0 mask ≡ mask_flags flags =
+    ap (flags_from 16 0) is ∙ ap (λ (n : ℕ). flags_from n 0 (flags_byte (mask_flags flags))) (sym long) ∙ flags_back (mask_flags flags) in
     let each = bits_behind _ _ _ _ _ _ (sym (mask_bits mask) ∙ bits) in
     record {
       fits = subst P long (let Q : ℕ → Type 0 = λ m. m < 2 ^ length (mask_flags flags) in subst Q (sym is) (flags_byte_below (mask_flags flags)));

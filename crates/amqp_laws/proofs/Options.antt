@@ -5,7 +5,8 @@ use Rattle.amqp_types.specs.Levels.{Level, plain, tidy, strict}
 use Rattle.amqp_types.specs.Judging.{Judge, took}
 use Rattle.amqp_types.specs.Flags.{flag_at}
 use Rattle.amqp_types.specs.FormLaws.{IsLawful}
-use Rattle.amqp_types.specs.Slots.{Item, number_item, text_item, bytes_item, entries_item, Form, number_form, flags_form, short_string_form, long_string_form, table_form}
+use Rattle.amqp_types.specs.Slots.{Item, number_item, text_item, bytes_item, entries_item, Form, number_form, flags_form}
+use Rattle.amqp_types.specs.Slots.{short_string_form, long_string_form, table_form}
 use Rattle.amqp_types.specs.SlotJudging.{judge_form}
 use Rattle.amqp_types.specs.SlotBytes.{item_count, form_bytes, is_deep_item, is_long_item, any_deep, any_long}
 use Rattle.amqp_types.specs.SlotSpelling.{SpellsForm}
@@ -38,7 +39,8 @@ first_bytes table_form one (item ∷ items) = refl
 first_bytes (flags_form count) one items = absurd cc
 
 -- nothing is read, and nothing written
-module _ {A : Type 0} (nothing : A) (judge : Judge A) (Spells : Level → List ℕ → A → Type 0) (canonical : A → List ℕ) (judged : (bytes : List ℕ) → judge bytes ≡ took nothing 0) (into : (level : Level) → Spells level [] nothing)
+module _ {A : Type 0} (nothing : A) (judge : Judge A) (Spells : Level → List ℕ → A → Type 0) (canonical : A → List ℕ)
+    (judged : (bytes : List ℕ) → judge bytes ≡ took nothing 0) (into : (level : Level) → Spells level [] nothing)
     (only : (level : Level) (bytes : List ℕ) (x : A) → Spells level bytes x → (bytes ≡ []) × (x ≡ nothing)) (none : canonical nothing ≡ []) where
   at : (level : Level) (bytes : List ℕ) (x : A) → bytes ≡ [] → x ≡ nothing → Spells level bytes x
   at level bytes x p q =
@@ -69,19 +71,28 @@ module _ {A : Type 0} (nothing : A) (judge : Judge A) (Spells : Level → List �
 
 -- ---- one form
 
-optional_lawful : (present : Bool) (form : Form) → gives_one form ≡ true → IsLawful (judge_optional present form) (λ level. SpellsOptional level present form) (optional_bytes form)
+optional_lawful : (present : Bool) (form : Form) → gives_one form ≡ true
+    → IsLawful (judge_optional present form) (λ level. SpellsOptional level present form) (optional_bytes form)
 unfolding judge_optional optional_bytes
-optional_lawful true form one = mapped_lawful first_item (judge_form form) (λ level. SpellsForm level form) (form_bytes form) (optional_bytes form) (forms_lawful form) (first_bytes form one)
-optional_lawful false form one = nothing_lawful None (judge_optional false form) (λ level. SpellsOptional level false form) (optional_bytes form) (λ bytes. refl) (λ level. (refl, refl)) (λ level bytes option h. h) refl
+optional_lawful true form one =
+    mapped_lawful first_item (judge_form form) (λ level. SpellsForm level form)
+    (form_bytes form) (optional_bytes form) (forms_lawful form) (first_bytes form one)
+optional_lawful false form one =
+    nothing_lawful None (judge_optional false form) (λ level. SpellsOptional level false form)
+    (optional_bytes form) (λ bytes. refl) (λ level. (refl, refl)) (λ level bytes option h. h) refl
 
 -- ---- lists of them
 
+-- The laws of a form of bytes hold of the properties that a mask says are set, where each gives one item.
 pub sets_lawful : SetsAreLawful
 unfolding judge_set set_bytes
-sets_lawful mask [] one = nothing_lawful [] (judge_set mask []) (λ level. SpellsSet level mask []) (set_bytes []) (λ bytes. refl) (λ level. (refl, refl)) (λ level bytes options h. h) refl
+sets_lawful mask [] one =
+    nothing_lawful [] (judge_set mask []) (λ level. SpellsSet level mask []) (set_bytes [])
+    (λ bytes. refl) (λ level. (refl, refl)) (λ level bytes options h. h) refl
 sets_lawful mask (p ∷ ps) one =
     let b = both_true (gives_one p.form) (give_one ps) one in
-    both_lawful (judge_optional (flag_at mask p.bit) p.form) (judge_set mask ps) (λ option options. option ∷ options) (λ level. SpellsOptional level (flag_at mask p.bit) p.form) (λ level. SpellsSet level mask ps) (optional_bytes p.form) (set_bytes ps) (set_bytes (p ∷ ps))
+    both_lawful (judge_optional (flag_at mask p.bit) p.form) (judge_set mask ps) (λ option options. option ∷ options)
+    (λ level. SpellsOptional level (flag_at mask p.bit) p.form) (λ level. SpellsSet level mask ps) (optional_bytes p.form) (set_bytes ps) (set_bytes (p ∷ ps))
     (optional_lawful (flag_at mask p.bit) p.form b.0) (sets_lawful mask ps b.1) (λ bytes option options h. refl)
 
 -- ---- what is there
@@ -92,6 +103,7 @@ record GivesOption (present : Bool) (option : Option Item) : Type 0 where
   not_deep : is_deep_option option ≡ false
   not_long : is_long_option option ≡ false
 
+-- A form that gives one item has an item count of 1.
 pub counted_one : (form : Form) → gives_one form ≡ true → item_count form ≡ 1
 counted_one (number_form width) one = refl
 counted_one (flags_form count) one = absurd cc
@@ -107,7 +119,8 @@ first_gives (item ∷ items) count deep long =
     let l = either (is_long_item item) (any_long items) long in
     record { there = refl; not_deep = d.0; not_long = l.0 }
 
-optional_gives : (level : Level) (present : Bool) (form : Form) (bytes : List ℕ) (option : Option Item) → gives_one form ≡ true → SpellsOptional level present form bytes option → GivesOption present option
+optional_gives : (level : Level) (present : Bool) (form : Form) (bytes : List ℕ) (option : Option Item)
+    → gives_one form ≡ true → SpellsOptional level present form bytes option → GivesOption present option
 unfolding is_deep_option is_long_option
 optional_gives level true form bytes option one h =
     let g = form_gives form bytes h.thing (form_is_plain level form bytes h.thing h.spelled) in
@@ -120,7 +133,9 @@ pub record GivesSet (mask : ℕ) (ps : List Property) (options : List (Option It
   pub not_deep : any_deep_option options ≡ false
   pub not_long : any_long_option options ≡ false
 
-pub set_gives : (level : Level) (mask : ℕ) (ps : List Property) (bytes : List ℕ) (options : List (Option Item)) → give_one ps ≡ true → SpellsSet level mask ps bytes options → GivesSet mask ps options
+-- Properties that are encoded are those whose bits are set in the mask, and none of them is long or too deep.
+pub set_gives : (level : Level) (mask : ℕ) (ps : List Property) (bytes : List ℕ) (options : List (Option Item))
+    → give_one ps ≡ true → SpellsSet level mask ps bytes options → GivesSet mask ps options
 unfolding any_deep_option any_long_option
 set_gives level mask [] bytes options one h = subst (GivesSet mask []) (sym h.1) (record { there = refl; not_deep = refl; not_long = refl })
 set_gives level mask (p ∷ ps) bytes options one h =
@@ -134,7 +149,8 @@ set_gives level mask (p ∷ ps) bytes options one h =
     })
 
 -- two masks in which the same properties are set
-pub same_set : (level : Level) (mask other : ℕ) (ps : List Property) (bytes : List ℕ) (options : List (Option Item)) → set_flags mask ps ≡ set_flags other ps → SpellsSet level mask ps bytes options → SpellsSet level other ps bytes options
+pub same_set : (level : Level) (mask other : ℕ) (ps : List Property) (bytes : List ℕ) (options : List (Option Item))
+    → set_flags mask ps ≡ set_flags other ps → SpellsSet level mask ps bytes options → SpellsSet level other ps bytes options
 same_set level mask other [] bytes options same h = h
 same_set level mask other (p ∷ ps) bytes options same h =
     let first : flag_at mask p.bit ≡ flag_at other p.bit = cc in

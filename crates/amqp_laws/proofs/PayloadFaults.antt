@@ -1,7 +1,9 @@
 -- Decoding what stands inside a payload finds no faults but those of the inside.
-use Rattle.std.proofs.Common.{◌≡◌, ℕ, zero, suc, ◌+◌, ◌-◌, nat_lt, Bool, true, false, cond, List, [], ◌∷◌, ◌++◌, length, take, drop, Option, Some, None, Result, Ok, Err, ap, subst}
+use Rattle.std.proofs.Common.{◌≡◌, ℕ, zero, suc, ◌+◌, ◌-◌, nat_lt, Bool, true, false, cond, List, [], ◌∷◌, ◌++◌, length, take, drop, Option, Some}
+use Rattle.std.proofs.Common.{None, Result, Ok, Err, ap, subst}
 use Rattle.std.specs.Str.{is_utf8}
-use Rattle.amqp_types.specs.Judging.{Fault, Judged, Judge, took, past, fault, unknown_class, unknown_method, short_payload, not_utf8, unknown_tag, too_deep, ◌>>=◌}
+use Rattle.amqp_types.specs.Judging.{Fault, Judged, Judge, took, past, fault, unknown_class, unknown_method, short_payload}
+use Rattle.amqp_types.specs.Judging.{not_utf8, unknown_tag, too_deep, ◌>>=◌}
 use Rattle.amqp_types.specs.PayloadFaults.{IsInside, FailsInside, PayloadsFailInside}
 use Rattle.amqp_types.specs.Sequences.{judge_map, judge_both}
 use Rattle.amqp_types.specs.Numbers.{NumberWidth, bytes1, bytes2, bytes4, judge_number}
@@ -9,11 +11,14 @@ use Rattle.amqp_types.specs.Signed.{judge_signed}
 use Rattle.amqp_types.specs.Booleans.{judge_boolean}
 use Rattle.amqp_types.specs.Flags.{judge_flags}
 use Rattle.amqp_types.specs.Strings.{judge_short_string, judge_long_string}
-use Rattle.amqp_types.specs.Values.{FieldValue, SignedKind, UnsignedKind, BytesKind, short_short_int, short_int, long_int, long_long_int, short_short_uint, short_uint, long_uint, float, double, timestamp, long_string, byte_array, boolean_value, signed_value, unsigned_value, decimal_value, bytes_value, array_value, table_value, void_value, values_of, entries_of}
+use Rattle.amqp_types.specs.Values.{FieldValue, SignedKind, UnsignedKind, BytesKind, short_short_int, short_int, long_int, long_long_int, short_short_uint}
+use Rattle.amqp_types.specs.Values.{short_uint, long_uint, float, double, timestamp, long_string, byte_array, boolean_value, signed_value, unsigned_value}
+use Rattle.amqp_types.specs.Values.{decimal_value, bytes_value, array_value, table_value, void_value, values_of, entries_of}
 use Rattle.amqp_types.specs.ValueBytes.{signed_width, unsigned_width}
 use Rattle.amqp_types.specs.Tags.{tag_at}
 use Rattle.amqp_types.specs.Settling.{settled}
-use Rattle.amqp_types.specs.ValueJudging.{filled, next_item, read_map, took_all, judge_entry, judge_array, judge_table, judge_decimal, judge_signed_kind, judge_unsigned_kind, judge_bytes_kind, judge_behind, behind_tag, judge_tagged, nested, judge_value, judge_field_table}
+use Rattle.amqp_types.specs.ValueJudging.{filled, next_item, read_map, took_all, judge_entry, judge_array, judge_table, judge_decimal, judge_signed_kind}
+use Rattle.amqp_types.specs.ValueJudging.{judge_unsigned_kind, judge_bytes_kind, judge_behind, behind_tag, judge_tagged, nested, judge_value, judge_field_table}
 use Rattle.amqp_types.specs.Slots.{Form, number_form, flags_form, short_string_form, long_string_form, table_form, Slot, kept_slot, reserved_slot}
 use Rattle.amqp_types.specs.SlotJudging.{judge_form, judge_dropped, judge_slot, judge_slots}
 use Rattle.amqp_types.specs.Rows.{rows_of, slots_at}
@@ -27,6 +32,7 @@ use Rattle.amqp_types.specs.declared.tag.FieldTag.TheVariants as tag
 abbrev pub Inside : {A : Type 0} → Judged A → Type 0
 Inside j = (bad : Fault) → j ≡ fault bad → IsInside bad
 
+-- What was decoded shows no fault.
 pub took_inside : {A : Type 0} (x : A) (n : ℕ) → Inside (took x n)
 took_inside x n bad h = cc
 
@@ -40,20 +46,25 @@ test_inside : {A : Type 0} (test : Bool) (j k : Judged A) → Inside j → Insid
 test_inside true j k one other = one
 test_inside false j k one other = other
 
+-- Decoding in two steps finds only faults of the inside where each of the steps does.
 pub bind_inside : {A B : Type 0} (j : Judged A) (f : A × ℕ → Judged B) → Inside j → ((x : A × ℕ) → Inside (f x)) → Inside (j >>= f)
 bind_inside (took x n) f one more bad h = more (x, n) bad h
 bind_inside past f one more bad h = cc
 bind_inside (fault first) f one more bad h = let same : first ≡ bad = cc in one bad (ap fault same)
 
+-- Decoding something and making a value of it finds only faults of the inside where the decoding does.
 pub map_inside : {A B : Type 0} (make : A → B) (judge : Judge A) → FailsInside judge → FailsInside (judge_map make judge)
 map_inside make judge one bytes = bind_inside (judge bytes) _ (one bytes) (λ x. took_inside (make x.0) x.1)
 
-pub both_inside : {A B C : Type 0} (first : Judge A) (second : Judge B) (join : A → B → C) → FailsInside first → FailsInside second → FailsInside (judge_both first second join)
+-- Decoding two things one after the other finds only faults of the inside where both decodings do.
+pub both_inside : {A B C : Type 0} (first : Judge A) (second : Judge B) (join : A → B → C)
+    → FailsInside first → FailsInside second → FailsInside (judge_both first second join)
 both_inside first second join one two bytes =
     bind_inside (first bytes) _ (one bytes) (λ x. bind_inside (second (drop x.1 bytes)) _ (two (drop x.1 bytes)) (λ y. took_inside (join x.0 y.0) (x.1 + y.1)))
 
 -- ---- numbers, truth values, flags and strings
 
+-- Decoding a number finds only faults of the inside of a payload.
 pub number_inside : (width : NumberWidth) → FailsInside (judge_number width)
 number_inside width bytes = test_inside _ past _ past_inside (took_inside _ _)
 
@@ -71,7 +82,8 @@ flags_inside count bytes = bind_inside (judge_number bytes1 bytes) _ (number_ins
 short_string_inside : FailsInside judge_short_string
 unfolding judge_short_string
 short_string_inside [] = past_inside
-short_string_inside (n ∷ bytes) = test_inside (nat_lt (length bytes) n) past _ past_inside (test_inside (is_utf8 (take n bytes)) _ _ (took_inside _ _) (fault_inside not_utf8 tt))
+short_string_inside (n ∷ bytes) =
+    test_inside (nat_lt (length bytes) n) past _ past_inside (test_inside (is_utf8 (take n bytes)) _ _ (took_inside _ _) (fault_inside not_utf8 tt))
 
 long_string_inside : FailsInside judge_long_string
 unfolding judge_long_string
@@ -96,7 +108,8 @@ filled_inside : {A : Type 0} (item : Judge A) → FailsInside item → (k : ℕ)
 unfolding filled
 filled_inside item one k [] bad h = cc
 filled_inside item one (suc k) (b ∷ bytes) bad h = filled_inside item one k bytes bad h
-filled_inside item one zero (b ∷ bytes) bad h = next_inside (item (b ∷ bytes)) (λ n. filled item (n - 1) bytes) (one (b ∷ bytes)) (λ n. filled_inside item one (n - 1) bytes) bad h
+filled_inside item one zero (b ∷ bytes) bad h =
+    next_inside (item (b ∷ bytes)) (λ n. filled item (n - 1) bytes) (one (b ∷ bytes)) (λ n. filled_inside item one (n - 1) bytes) bad h
 
 whole_inside : {A : Type 0} (n : ℕ) (r : Result A Fault) → ReadInside r → Inside (took_all n r)
 whole_inside n (Ok x) one bad h = took_inside x n bad h
@@ -107,7 +120,8 @@ whole_inside n (Err first) one bad h = let same : first ≡ bad = cc in one bad 
 module _ (value : Judge FieldValue) (one : FailsInside value) where
   array_inside : FailsInside (judge_array value)
   unfolding judge_array
-  array_inside bytes = bind_inside (judge_long_string bytes) _ (long_string_inside bytes) (λ content. whole_inside content.1 _ (filled_inside value one 0 content.0))
+  array_inside bytes =
+      bind_inside (judge_long_string bytes) _ (long_string_inside bytes) (λ content. whole_inside content.1 _ (filled_inside value one 0 content.0))
 
   entry_inside : FailsInside (judge_entry value)
   unfolding judge_entry
@@ -115,7 +129,9 @@ module _ (value : Judge FieldValue) (one : FailsInside value) where
 
   table_inside : FailsInside (judge_table value)
   unfolding judge_table
-  table_inside bytes = bind_inside (judge_long_string bytes) _ (long_string_inside bytes) (λ content. whole_inside content.1 _ (read_map_inside settled _ (filled_inside (judge_entry value) entry_inside 0 content.0)))
+  table_inside bytes =
+      bind_inside (judge_long_string bytes) _ (long_string_inside bytes)
+      (λ content. whole_inside content.1 _ (read_map_inside settled _ (filled_inside (judge_entry value) entry_inside 0 content.0)))
 
 decimal_inside : FailsInside judge_decimal
 unfolding judge_decimal
@@ -178,6 +194,7 @@ value_inside room = tagged_inside (nested room) (nested_inside room)
 
 -- ---- fields
 
+-- Decoding a form of a field finds only faults of the inside of a payload.
 pub form_inside : (form : Form) → FailsInside (judge_form form)
 unfolding judge_form
 form_inside (number_form width) = map_inside _ (judge_number width) (number_inside width)
@@ -191,6 +208,7 @@ unfolding judge_dropped
 slot_inside (kept_slot form) = form_inside form
 slot_inside (reserved_slot form constant) = map_inside _ (judge_form form) (form_inside form)
 
+-- Decoding fields finds only faults of the inside of a payload.
 pub slots_inside : (slots : List Slot) → FailsInside (judge_slots slots)
 unfolding judge_slots
 slots_inside [] = λ bytes. took_inside [] 0
@@ -215,6 +233,7 @@ in_class_inside class bytes =
     bind_inside (judge_number bytes2 bytes) _ (number_inside bytes2 bytes) (λ id.
     bind_inside (judge_method class id.0 (drop id.1 bytes)) _ (method_inside class id.0 (drop id.1 bytes)) (λ m. took_inside m.0 (id.1 + m.1))))
 
+-- The payload of a method is refused only for what stands inside it.
 pub payloads_inside : PayloadsFailInside
 unfolding judge_payload
 payloads_inside bytes =

@@ -1,5 +1,6 @@
 -- The laws of properties.
-use Rattle.std.proofs.Common.{◌≡◌, ℕ, suc, ◌+◌, ◌≤◌, Bool, true, false, ◌||◌, List, [], ◌∷◌, ◌++◌, length, take, drop, map, Option, Some, None, refl, sym, ap, ap₂, subst, ◌∙◌, append_assoc, arith}
+use Rattle.std.proofs.Common.{◌≡◌, ℕ, suc, ◌+◌, ◌≤◌, Bool, true, false, ◌||◌, List, [], ◌∷◌, ◌++◌, length, take, drop, map, Option, Some, None, refl, sym, ap}
+use Rattle.std.proofs.Common.{ap₂, subst, ◌∙◌, append_assoc, arith}
 use Rattle.std.specs.Prelude.{is_some}
 use Rattle.std.proofs.lemmas.List.{length-append, length-drop, drop_at}
 use Rattle.std.proofs.Math.Seq.{take-add}
@@ -12,7 +13,8 @@ use Rattle.amqp_types.specs.Slots.{Item}
 use Rattle.amqp_types.specs.SlotBytes.{form_bytes, is_deep_item, is_long_item}
 use Rattle.amqp_types.specs.Properties.{Property, properties, later_properties}
 use Rattle.amqp_types.specs.PropertyJudging.{judge_set, judge_properties}
-use Rattle.amqp_types.specs.PropertyBytes.{mask_of, optional_bytes, set_bytes, properties_bytes, properties_size, is_deep_option, is_long_option, any_deep_option, any_long_option}
+use Rattle.amqp_types.specs.PropertyBytes.{mask_of, optional_bytes, set_bytes, properties_bytes, properties_size, is_deep_option, is_long_option}
+use Rattle.amqp_types.specs.PropertyBytes.{any_deep_option, any_long_option}
 use Rattle.amqp_types.specs.PropertySpelling.{SpellsOptional, SpellsSet, SpellsProperties}
 use Rattle.amqp_types.specs.PropertyLaws.{give_one, PropertiesAreLawful, SpelledPropertiesAreBounded, AreOptionsHeld, HeldPropertiesAreReadBack}
 use Rattle.amqp_types.proofs.Bytes.{IsBytes-drop}
@@ -39,7 +41,8 @@ set_law mask = sets_lawful mask properties one_each
 
 -- ---- exactly what is encoded is taken
 
-properties_spelled : (bytes : List ℕ) (options : List (Option Item)) (n : ℕ) → IsBytes bytes → judge_properties bytes ≡ took options n → SpellsProperties plain (take n bytes) options × (n ≤ length bytes)
+properties_spelled : (bytes : List ℕ) (options : List (Option Item)) (n : ℕ) → IsBytes bytes
+    → judge_properties bytes ≡ took options n → SpellsProperties plain (take n bytes) options × (n ≤ length bytes)
 unfolding judge_properties
 properties_spelled bytes options n fits h =
     let mask = bind_took (judge_number bytes2 bytes) _ options n h in
@@ -63,7 +66,8 @@ properties_spelled bytes options n fits h =
       omega (arith, first.1, others.1, length-drop mask.1 bytes, count),
     )
 
-properties_taken : (bytes rest : List ℕ) (options : List (Option Item)) → SpellsProperties plain bytes options → judge_properties (bytes ++ rest) ≡ took options (length bytes)
+properties_taken : (bytes rest : List ℕ) (options : List (Option Item))
+    → SpellsProperties plain bytes options → judge_properties (bytes ++ rest) ≡ took options (length bytes)
 unfolding judge_properties
 properties_taken bytes rest options h =
     let front = number_bytes bytes2 h.mask in
@@ -73,7 +77,8 @@ properties_taken bytes rest options h =
     let law = set_law h.mask in
     let size : length front ≡ 2 = number_bytes-length bytes2 h.mask in
     let one : judge_number bytes2 (front ++ tail) ≡ took h.mask (length front) = number.taken front tail h.mask (record { fits = h.fits; bytes_are = refl }) in
-    let two : judge_set h.mask properties (drop (length front) (front ++ tail)) ≡ took options (length h.behind) = ap (judge_set h.mask properties) (drop_at front tail (length front) refl) ∙ law.exact.taken h.behind rest options h.set in
+    let two : judge_set h.mask properties (drop (length front) (front ++ tail)) ≡ took options (length h.behind) =
+    ap (judge_set h.mask properties) (drop_at front tail (length front) refl) ∙ law.exact.taken h.behind rest options h.set in
     let count : length front + length h.behind ≡ length bytes = sym (ap length h.bytes_are ∙ length-append front h.behind) in
     ap judge_properties all
     ∙ ap (λ j. j >>= λ m. judge_set m.0 properties (drop m.1 (front ++ tail)) >>= λ x. took x.0 (m.1 + x.1)) one
@@ -97,13 +102,15 @@ tidy_is_plain bytes options h =
 -- ---- the canonical bytes
 
 -- the mask of the properties that are set has their flags
-mask_flags_are : (level : Level) (mask : ℕ) (bytes : List ℕ) (options : List (Option Item)) → SpellsSet level mask properties bytes options → IsMaskOf (mask_of properties options) (set_flags mask properties)
+mask_flags_are : (level : Level) (mask : ℕ) (bytes : List ℕ) (options : List (Option Item))
+    → SpellsSet level mask properties bytes options → IsMaskOf (mask_of properties options) (set_flags mask properties)
 mask_flags_are level mask bytes options h =
     let gives = set_gives level mask properties bytes options one_each h in
     let P : ℕ → Type 0 = λ m. IsMaskOf m (set_flags mask properties) in
     subst P (sym (mask_of-flags properties options ∙ ap (flags_mask properties) (sym gives.there))) (flags_mask_is (set_flags mask properties) (count_is mask))
 
-canonical_is_strict : (bytes : List ℕ) (options : List (Option Item)) → SpellsProperties plain bytes options → SpellsProperties strict (properties_bytes options) options
+canonical_is_strict : (bytes : List ℕ) (options : List (Option Item))
+    → SpellsProperties plain bytes options → SpellsProperties strict (properties_bytes options) options
 unfolding properties_bytes form_bytes
 canonical_is_strict bytes options h =
     let law = set_law h.mask in
@@ -113,7 +120,9 @@ canonical_is_strict bytes options h =
       behind = set_bytes properties options;
       fits = is.fits;
       bytes_are = refl;
-      set = same_set strict h.mask (mask_of properties options) properties (set_bytes properties options) options (sym is.set) (law.canonical_is_strict h.behind options h.set);
+      set =
+          same_set strict h.mask (mask_of properties options) properties
+          (set_bytes properties options) options (sym is.set) (law.canonical_is_strict h.behind options h.set);
       unused = (is.second, is.lowest);
     }
 
@@ -132,8 +141,17 @@ unfolding properties_bytes form_bytes
 shortest bytes options h =
     let law = set_law h.mask in
     let mask = mask_of properties options in
-    omega (arith, ap length h.bytes_are, length-append (number_bytes bytes2 h.mask) h.behind, number_bytes-length bytes2 h.mask, length-append (number_bytes bytes2 mask) (set_bytes properties options), number_bytes-length bytes2 mask, law.shortest h.behind options h.set)
+    omega (
+      arith,
+      ap length h.bytes_are,
+      length-append (number_bytes bytes2 h.mask) h.behind,
+      number_bytes-length bytes2 h.mask,
+      length-append (number_bytes bytes2 mask) (set_bytes properties options),
+      number_bytes-length bytes2 mask,
+      law.shortest h.behind options h.set,
+    )
 
+-- The laws of a form of bytes hold of a mask and the properties that it says are set.
 pub properties_lawful : PropertiesAreLawful
 properties_lawful = record {
   exact = properties_exact;
@@ -145,6 +163,7 @@ properties_lawful = record {
   shortest = shortest;
 }
 
+-- Properties that are encoded are neither long nor too deep.
 pub properties_bounded : SpelledPropertiesAreBounded
 properties_bounded level bytes options h =
     let gives = set_gives level h.mask properties h.behind options one_each h.set in
@@ -163,7 +182,8 @@ beside : (a : Bool) → a ≡ false → (a || false) ≡ false
 beside true h = h
 beside false h = refl
 
-set_held : (mask : ℕ) (ps : List Property) (options : List (Option Item)) → set_flags mask ps ≡ map is_some options → AreOptionsHeld ps options → any_deep_option options ≡ false → any_long_option options ≡ false
+set_held : (mask : ℕ) (ps : List Property) (options : List (Option Item)) → set_flags mask ps ≡ map is_some options
+    → AreOptionsHeld ps options → any_deep_option options ≡ false → any_long_option options ≡ false
     → SpellsSet strict mask ps (set_bytes ps options) options
 unfolding set_bytes optional_bytes any_deep_option any_long_option is_deep_option is_long_option
 set_held mask [] [] set h deep long = (refl, refl)
@@ -195,7 +215,11 @@ set_held mask (p ∷ ps) (Some item ∷ options) set h deep long =
       one = Some item;
       two = options;
       bytes_are = refl;
-      first_is = subst P first (record { thing = item ∷ []; spelled = form_held p.form (item ∷ []) h.0 (beside (is_deep_item item) d.0) (beside (is_long_item item) l.0); made = refl });
+      first_is = subst P first (record {
+        thing = item ∷ [];
+        spelled = form_held p.form (item ∷ []) h.0 (beside (is_deep_item item) d.0) (beside (is_long_item item) l.0);
+        made = refl;
+      });
       second_is = set_held mask ps options others h.1 d.1 l.1;
       joined = refl;
     }
@@ -204,7 +228,9 @@ count_of_table : length properties ≡ 14
 unfolding properties later_properties
 count_of_table = refl
 
-pub properties_held : (options : List (Option Item)) → AreOptionsHeld properties options → any_deep_option options ≡ false → any_long_option options ≡ false → SpellsProperties strict (properties_bytes options) options
+-- The canonical bytes of properties that are neither long nor too deep encode them strictly.
+pub properties_held : (options : List (Option Item)) → AreOptionsHeld properties options → any_deep_option options ≡ false
+    → any_long_option options ≡ false → SpellsProperties strict (properties_bytes options) options
 unfolding properties_bytes form_bytes
 properties_held options h deep long =
     let flags = map is_some options in
@@ -219,6 +245,7 @@ properties_held options h deep long =
       unused = (is.second, is.lowest);
     }
 
+-- Canonical bytes of properties that are neither long nor too deep are read back, whatever follows.
 pub properties_read_back : HeldPropertiesAreReadBack
 unfolding properties_size
 properties_read_back options rest h size =

@@ -10,7 +10,8 @@ use Rattle.amqp_types.specs.declared.errors.ParserError.{ParserError}
 use Rattle.amqp_types.proofs.Judged.{refuses_next}
 
 -- what is refused after a property that was read is refused
-pub set_refuses : (error : ParserError) (mask n bit : ℕ) (form : Form) (ps : List Property) (old new : List ℕ) (option : Option Item) (present : Bool) → present ≡ flag_at mask bit → judge_optional present form old ≡ took option n → new ≡ drop n old
+pub set_refuses : (error : ParserError) (mask n bit : ℕ) (form : Form) (ps : List Property) (old new : List ℕ) (option : Option Item) (present : Bool)
+    → present ≡ flag_at mask bit → judge_optional present form old ≡ took option n → new ≡ drop n old
     → Refuses error (judge_set mask ps new) → Refuses error (judge_set mask (property bit form ∷ ps) old)
 unfolding judge_set
 set_refuses error mask n bit form ps old new option present set one behind h =

@@ -6,7 +6,8 @@ use Rattle.amqp_types.specs.Values.{Entry, entries_of, table_value, depth}
 use Rattle.amqp_types.specs.Settling.{IsRising}
 use Rattle.amqp_types.specs.ValueBytes.{table_bytes, is_deep_table, is_long_table}
 use Rattle.amqp_types.specs.ValueSpelling.{SpellsValue, SpellsFieldTable}
-use Rattle.amqp_types.specs.Slots.{Item, number_item, text_item, bytes_item, entries_item, Form, number_form, flags_form, short_string_form, long_string_form, table_form, Slot, kept_slot, reserved_slot}
+use Rattle.amqp_types.specs.Slots.{Item, number_item, text_item, bytes_item, entries_item, Form, number_form, flags_form, short_string_form, long_string_form}
+use Rattle.amqp_types.specs.Slots.{table_form, Slot, kept_slot, reserved_slot}
 use Rattle.amqp_types.specs.SlotBytes.{item_count, form_bytes, slots_bytes, is_deep_item, is_long_item, any_deep, any_long, items_size}
 use Rattle.amqp_types.specs.SlotSpelling.{SpellsForm, SpellsSlots}
 use Rattle.amqp_types.specs.SlotLaws.{is_least, are_least, IsFormHeld, AreSlotsHeld, HeldSlotsAreReadBack}
@@ -20,17 +21,23 @@ use Rattle.amqp_laws.proofs.SlotLaws.{both_true, either, constant_strict, flags_
 alone : (a : Bool) → (a || false) ≡ false → a ≡ false
 alone a h = let e = either a false h in e.0
 
-pub form_held : (form : Form) (items : List Item) → IsFormHeld form items → any_deep items ≡ false → any_long items ≡ false → SpellsForm strict form (form_bytes form items) items
+-- The canonical bytes of a form whose items are neither long nor too deep encode it strictly.
+pub form_held : (form : Form) (items : List Item) → IsFormHeld form items → any_deep items ≡ false
+    → any_long items ≡ false → SpellsForm strict form (form_bytes form items) items
 unfolding form_bytes table_bytes is_deep_table is_long_table
 form_held (number_form width) (number_item n ∷ []) h deep long = record { thing = n; spelled = record { fits = h; bytes_are = refl }; made = refl }
 form_held (flags_form count) items h deep long = flags_strict count items h.0 h.1
-form_held short_string_form (text_item text ∷ []) h deep long = record { thing = text; spelled = record { fits = h.0; utf8 = h.1; bytes_are = refl }; made = refl }
-form_held long_string_form (bytes_item bytes ∷ []) h deep long = record { thing = bytes; spelled = record { fits = fits_four false (length bytes) (alone _ long); bytes_are = refl }; made = refl }
+form_held short_string_form (text_item text ∷ []) h deep long =
+    record { thing = text; spelled = record { fits = h.0; utf8 = h.1; bytes_are = refl }; made = refl }
+form_held long_string_form (bytes_item bytes ∷ []) h deep long =
+    record { thing = bytes; spelled = record { fits = fits_four false (length bytes) (alone _ long); bytes_are = refl }; made = refl }
 form_held table_form (entries_item es ∷ []) h deep long =
     let few = low (depth (table_value (entries_of es))) (alone _ deep) in
     let P : List Entry → Type 0 = λ fs. SpellsFieldTable strict (table_bytes es) fs in
     let R : List Entry → Type 0 = λ fs. IsRising fs in
-    let spelled = subst P (pairs-entries_of es) (table_held 63 (SpellsValue strict 63) (value_held 63) (entries_of es) (subst R (sym (pairs-entries_of es)) h.0) h.1 (alone _ long) (omega (arith, few))) in
+    let spelled =
+    subst P (pairs-entries_of es)
+    (table_held 63 (SpellsValue strict 63) (value_held 63) (entries_of es) (subst R (sym (pairs-entries_of es)) h.0) h.1 (alone _ long) (omega (arith, few))) in
     record { thing = es; spelled = spelled; made = refl }
 form_held form items h deep long = absurd h
 
@@ -55,7 +62,9 @@ any_long-drop zero items h = h
 any_long-drop (suc n) [] h = refl
 any_long-drop (suc n) (x ∷ items) h = let b = either (is_long_item x) (any_long items) h in any_long-drop n items b.1
 
-pub slots_held : (slots : List Slot) (items : List Item) → are_least slots ≡ true → AreSlotsHeld slots items → any_deep items ≡ false → any_long items ≡ false → SpellsSlots strict slots (slots_bytes slots items) items
+-- The canonical bytes of fields whose items are neither long nor too deep encode them strictly.
+pub slots_held : (slots : List Slot) (items : List Item) → are_least slots ≡ true → AreSlotsHeld slots items
+    → any_deep items ≡ false → any_long items ≡ false → SpellsSlots strict slots (slots_bytes slots items) items
 unfolding slots_bytes
 slots_held [] items least h deep long = (refl, h)
 slots_held (kept_slot form ∷ slots) items least h deep long =
@@ -83,6 +92,7 @@ slots_held (reserved_slot form constant ∷ slots) items least h deep long =
       joined = refl;
     }
 
+-- Canonical bytes of fields that are neither long nor too deep are read back, whatever follows.
 pub slots_read_back : HeldSlotsAreReadBack
 unfolding items_size
 slots_read_back slots items rest least h size =

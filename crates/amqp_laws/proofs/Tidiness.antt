@@ -15,7 +15,8 @@ use Rattle.amqp_types.specs.SlotLaws.{is_least, are_least}
 use Rattle.amqp_types.specs.Rows.{slots_at}
 use Rattle.amqp_types.specs.Methods.{Method, judge_payload}
 use Rattle.amqp_types.specs.MethodSpelling.{SpellsPayload}
-use Rattle.amqp_types.specs.Tidiness.{begins_with, is_tidy_form, are_tidy_slots, are_tidy_known, short_at, is_tidy_payload, TidySlotsAreDecided, TidyPayloadsAreDecided}
+use Rattle.amqp_types.specs.Tidiness.{begins_with, is_tidy_form, are_tidy_slots, are_tidy_known, short_at, is_tidy_payload}
+use Rattle.amqp_types.specs.Tidiness.{TidySlotsAreDecided, TidyPayloadsAreDecided}
 use Rattle.amqp_types.proofs.Exact.{took_count}
 use Rattle.amqp_types.proofs.Numbers.{number_bytes-length}
 use Rattle.amqp_types.proofs.Deciding.{IsTest, decides, both_test}
@@ -26,14 +27,20 @@ use Rattle.amqp_laws.proofs.MethodLaws.{in_table, three_behind, at_level, payloa
 
 -- ---- forms
 
-flags_tidied : (count : ℕ) (bytes rest : List ℕ) (items : List Item) → SpellsForm plain (flags_form count) bytes items → is_tidy_form (flags_form count) (bytes ++ rest) ≡ true → SpellsForm tidy (flags_form count) bytes items
+flags_tidied : (count : ℕ) (bytes rest : List ℕ) (items : List Item) → SpellsForm plain (flags_form count) bytes items
+    → is_tidy_form (flags_form count) (bytes ++ rest) ≡ true → SpellsForm tidy (flags_form count) bytes items
 flags_tidied count bytes rest items h right =
     let flags = h.spelled in
     let P : List ℕ → Type 0 = λ bs. is_tidy_form (flags_form count) (bs ++ rest) ≡ true in
     let below : flags.byte < 2 ^ count = ltb-true flags.byte (2 ^ count) (subst P flags.bytes_are right) in
-    record { thing = h.thing; spelled = record { byte = flags.byte; fits = flags.fits; bytes_are = flags.bytes_are; flags_are = flags.flags_are; unused = below }; made = h.made }
+    record {
+      thing = h.thing;
+      spelled = record { byte = flags.byte; fits = flags.fits; bytes_are = flags.bytes_are; flags_are = flags.flags_are; unused = below };
+      made = h.made;
+    }
 
-flags_tested : (count : ℕ) (bytes rest : List ℕ) (items : List Item) → SpellsForm tidy (flags_form count) bytes items → is_tidy_form (flags_form count) (bytes ++ rest) ≡ true
+flags_tested : (count : ℕ) (bytes rest : List ℕ) (items : List Item)
+    → SpellsForm tidy (flags_form count) bytes items → is_tidy_form (flags_form count) (bytes ++ rest) ≡ true
 flags_tested count bytes rest items h =
     let flags = h.spelled in
     ap (λ bs. is_tidy_form (flags_form count) (bs ++ rest)) flags.bytes_are ∙ lt-ltb flags.byte (2 ^ count) flags.unused
@@ -63,11 +70,16 @@ begins [] rest = refl
 begins (want ∷ wanted) rest = and_from (want == want) (begins_with wanted (wanted ++ rest)) (eq-eqb want want refl) (begins wanted rest)
 
 -- a form that has a least constant has no tidy encoding but its strict ones
-least_strict : (form : Form) (constant : List Item) (bytes : List ℕ) (items : List Item) → is_least form constant ≡ true → SpellsForm tidy form bytes items → SpellsForm strict form bytes items
+least_strict : (form : Form) (constant : List Item) (bytes : List ℕ) (items : List Item)
+    → is_least form constant ≡ true → SpellsForm tidy form bytes items → SpellsForm strict form bytes items
 least_strict (number_form width) constant bytes items least h = h
 least_strict (flags_form count) constant bytes items least h =
     let flags = h.spelled in
-    record { thing = h.thing; spelled = record { byte = flags.byte; fits = flags.fits; bytes_are = flags.bytes_are; flags_are = flags.flags_are; unused = flags.unused }; made = h.made }
+    record {
+      thing = h.thing;
+      spelled = record { byte = flags.byte; fits = flags.fits; bytes_are = flags.bytes_are; flags_are = flags.flags_are; unused = flags.unused };
+      made = h.made;
+    }
 least_strict short_string_form constant bytes items least h = h
 least_strict long_string_form constant bytes items least h = h
 least_strict table_form constant bytes items least h = absurd cc
@@ -77,9 +89,12 @@ module _ (form : Form) (constant : List Item) (least : is_least form constant �
   constant_tidy = (forms_lawful form).strict_is_tidy (form_bytes form constant) constant (constant_strict form constant least)
 
   constant_taken : (rest : List ℕ) → judge_form form (form_bytes form constant ++ rest) ≡ took constant (length (form_bytes form constant))
-  constant_taken rest = (forms_lawful form).exact.taken (form_bytes form constant) rest constant ((forms_lawful form).tidy_is_plain (form_bytes form constant) constant constant_tidy)
+  constant_taken rest =
+      (forms_lawful form).exact.taken (form_bytes form constant) rest constant
+      ((forms_lawful form).tidy_is_plain (form_bytes form constant) constant constant_tidy)
 
-  reserved_tidied : (bytes rest : List ℕ) (items : List Item) → SpellsReserved plain form constant bytes items → begins_with (form_bytes form constant) (bytes ++ rest) ≡ true → SpellsReserved tidy form constant bytes items
+  reserved_tidied : (bytes rest : List ℕ) (items : List Item) → SpellsReserved plain form constant bytes items
+      → begins_with (form_bytes form constant) (bytes ++ rest) ≡ true → SpellsReserved tidy form constant bytes items
   reserved_tidied bytes rest items h right =
       let front = form_bytes form constant in
       let found = begun front (bytes ++ rest) right in
@@ -90,7 +105,8 @@ module _ (form : Form) (constant : List Item) (least : is_least form constant �
       let P : List ℕ → Type 0 = λ bs. SpellsForm tidy form bs constant in
       record { dropped = constant; spelled = subst P (sym same) constant_tidy; none = h.none; unused = refl }
 
-  reserved_tested : (bytes rest : List ℕ) (items : List Item) → SpellsReserved tidy form constant bytes items → begins_with (form_bytes form constant) (bytes ++ rest) ≡ true
+  reserved_tested : (bytes rest : List ℕ) (items : List Item) → SpellsReserved tidy form constant bytes items
+      → begins_with (form_bytes form constant) (bytes ++ rest) ≡ true
   reserved_tested bytes rest items h =
       let strictly = least_strict form constant bytes h.dropped least h.spelled in
       let same : bytes ≡ form_bytes form constant = (forms_lawful form).strict_is_canonical bytes h.dropped strictly ∙ ap (form_bytes form) h.unused in
@@ -101,30 +117,37 @@ module _ (form : Form) (constant : List Item) (least : is_least form constant �
 
 -- ---- lists of fields
 
+-- The test of fields whose constants are least is a test of tidiness.
 pub slots_test : (slots : List Slot) → are_least slots ≡ true → IsTest (λ level. SpellsSlots level slots) (are_tidy_slots slots)
 unfolding are_tidy_slots
 slots_test [] least = record { tidied = λ bytes rest items h right. h; tested = λ bytes rest items h. refl }
 slots_test (kept_slot form ∷ slots) least =
     let law = forms_lawful form in
-    both_test (judge_form form) (λ xs ys. xs ++ ys) (λ level. SpellsForm level form) (λ level. SpellsSlots level slots) (is_tidy_form form) (are_tidy_slots slots) law.exact law.tidy_is_plain (forms_test form) (slots_test slots least)
+    both_test (judge_form form) (λ xs ys. xs ++ ys) (λ level. SpellsForm level form) (λ level. SpellsSlots level slots)
+    (is_tidy_form form) (are_tidy_slots slots) law.exact law.tidy_is_plain (forms_test form) (slots_test slots least)
 slots_test (reserved_slot form constant ∷ slots) least =
     let b = and_parts (is_least form constant) (are_least slots) least in
     let law = reserved_lawful form constant b.0 in
-    both_test (judge_dropped form) (λ xs ys. xs ++ ys) (λ level. SpellsReserved level form constant) (λ level. SpellsSlots level slots) (begins_with (form_bytes form constant)) (are_tidy_slots slots) law.exact law.tidy_is_plain (reserved_test form constant b.0) (slots_test slots b.1)
+    both_test (judge_dropped form) (λ xs ys. xs ++ ys) (λ level. SpellsReserved level form constant) (λ level. SpellsSlots level slots)
+    (begins_with (form_bytes form constant)) (are_tidy_slots slots) law.exact law.tidy_is_plain (reserved_test form constant b.0) (slots_test slots b.1)
 
+-- The test of fields decides whether their encoding is tidy, where the constants of reserved ones are least.
 pub slots_decided : TidySlotsAreDecided
-slots_decided slots least = decides (judge_slots slots) (λ level. SpellsSlots level slots) (are_tidy_slots slots) (slots_lawful slots least).exact (slots_test slots least)
+slots_decided slots least =
+    decides (judge_slots slots) (λ level. SpellsSlots level slots) (are_tidy_slots slots) (slots_lawful slots least).exact (slots_test slots least)
 
 -- ---- payloads of methods
 
 short_length : (bytes : List ℕ) (n : ℕ) → SpellsNumber bytes2 bytes n → length bytes ≡ 2
 short_length bytes n h = ap length h.bytes_are ∙ number_bytes-length bytes2 n
 
+-- A number of two bytes is read from the front of its encoding, whatever follows.
 pub short_at_front : (bytes rest : List ℕ) (n : ℕ) → SpellsNumber bytes2 bytes n → from_be_bytes w16 (take 2 (bytes ++ rest)) ≡ n
 short_at_front bytes rest n h = ap (from_be_bytes w16) (take_at bytes rest 2 (short_length bytes n h) ∙ h.bytes_are) ∙ from_be_bytes-to_be_bytes_2 n h.fits
 
 -- after both ids the fields of the method are tested
-payload_slots : (level : Level) (bytes rest : List ℕ) (m : Method) (h : SpellsPayload level bytes m) → is_tidy_payload (bytes ++ rest) ≡ are_tidy_slots h.slots (h.slot_bytes ++ rest)
+payload_slots : (level : Level) (bytes rest : List ℕ) (m : Method) (h : SpellsPayload level bytes m)
+    → is_tidy_payload (bytes ++ rest) ≡ are_tidy_slots h.slots (h.slot_bytes ++ rest)
 unfolding is_tidy_payload
 payload_slots level bytes rest m h =
     let a = h.class_bytes in
@@ -134,7 +157,8 @@ payload_slots level bytes rest m h =
     let class_length = short_length a m.class h.class_is in
     let id_length = short_length b m.id h.id_is in
     let class : short_at 0 (a ++ (b ++ tail)) ≡ m.class = short_at_front a (b ++ tail) m.class h.class_is in
-    let id : short_at 2 (a ++ (b ++ tail)) ≡ m.id = ap (λ bs. from_be_bytes w16 (take 2 bs)) (drop_at a (b ++ tail) 2 class_length) ∙ short_at_front b tail m.id h.id_is in
+    let id : short_at 2 (a ++ (b ++ tail)) ≡ m.id =
+    ap (λ bs. from_be_bytes w16 (take 2 bs)) (drop_at a (b ++ tail) 2 class_length) ∙ short_at_front b tail m.id h.id_is in
     let both : length (a ++ b) ≡ 4 = omega (arith, length-append a b, class_length, id_length) in
     let behind : drop 4 (a ++ (b ++ tail)) ≡ tail = ap (drop 4) (sym (append_assoc a b tail)) ∙ drop_at (a ++ b) tail 4 both in
     ap is_tidy_payload all ∙ ap₂ (λ c i. are_tidy_known (slots_at c i) (drop 4 (a ++ (b ++ tail)))) class id ∙ ap₂ are_tidy_known h.known behind
@@ -149,5 +173,6 @@ payload_tested bytes rest m h =
     let test = slots_test h.slots (in_table m.class m.id h.slots h.known).least in
     payload_slots tidy bytes rest m h ∙ test.tested h.slot_bytes rest m.items h.slots_are
 
+-- The test of a payload decides whether the encoding of a method is tidy.
 pub payloads_decided : TidyPayloadsAreDecided
 payloads_decided = decides judge_payload SpellsPayload is_tidy_payload payloads_lawful.exact (record { tidied = payload_tidied; tested = payload_tested })

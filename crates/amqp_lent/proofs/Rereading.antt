@@ -21,7 +21,8 @@ use Rattle.amqp_lent.specs.Views.{taken}
 use Rattle.amqp_types.specs.Tidiness.{used_by}
 
 -- what is refused first is refused, whatever was to follow
-pub fully_next : {A B C D : Type 0} (view : A → C) (other : B → D) (error : ParserError) (j : Judged C) (f : C × ℕ → Judged D) → AnswersFully view (Err error) j → AnswersFully other (Err error) (j >>= f)
+pub fully_next : {A B C D : Type 0} (view : A → C) (other : B → D) (error : ParserError) (j : Judged C) (f : C × ℕ → Judged D)
+    → AnswersFully view (Err error) j → AnswersFully other (Err error) (j >>= f)
 fully_next view other errors.Incomplete j f h = ap (λ x. x >>= f) h
 fully_next view other errors.UnknownFrameType j f h = ap (λ x. x >>= f) h
 fully_next view other errors.BadProtocolHeader j f h = ap (λ x. x >>= f) h
@@ -48,7 +49,8 @@ whole_filled : {A : Type 0} (r : Result (List A) Fault) (n : ℕ) → IsRead (to
 whole_filled (Ok xs) n h = (tt, refl)
 whole_filled (Err bad) n h = absurd h
 
-whole_settled : (r : Result (List Entry) Fault) (n : ℕ) → IsRead (took_all n (read_map settled r)) → IsFilled r × (took_all n (read_map settled r) ≡ took (settled (items_of r)) n)
+whole_settled : (r : Result (List Entry) Fault) (n : ℕ) → IsRead (took_all n (read_map settled r))
+    → IsFilled r × (took_all n (read_map settled r) ≡ took (settled (items_of r)) n)
 whole_settled (Ok xs) n h = (tt, refl)
 whole_settled (Err bad) n h = absurd h
 
@@ -62,6 +64,7 @@ array_taken room bytes content n is h =
     let one = whole_filled (filled (judge_value room) 0 content) n (subst P all h) in
     (one.0, all ∙ one.1)
 
+-- The content of a decoded table is entries, and the table is these entries settled.
 pub table_taken : (room : ℕ) (bytes content : List ℕ) (n : ℕ) → judge_long_string bytes ≡ took content n → IsRead (judge_table (judge_value room) bytes)
     → AreEntries room content × (judge_table (judge_value room) bytes ≡ took (settled (entries_in room content)) n)
 unfolding judge_table
@@ -74,11 +77,13 @@ table_taken room bytes content n is h =
 -- ---- values and entries
 
 -- a value is what its tag says, and a count of one more
-pub value_took : (room : ℕ) (bytes : List ℕ) (t : FieldTag) (v : FieldValue) (n : ℕ) → 0 < length bytes → tag_at (get_or bytes 0 0) ≡ Some t → judge_behind (nested room) t (drop 1 bytes) ≡ took v n → judge_value room bytes ≡ took v (1 + n)
+pub value_took : (room : ℕ) (bytes : List ℕ) (t : FieldTag) (v : FieldValue) (n : ℕ) → 0 < length bytes
+    → tag_at (get_or bytes 0 0) ≡ Some t → judge_behind (nested room) t (drop 1 bytes) ≡ took v n → judge_value room bytes ≡ took v (1 + n)
 value_took room bytes t v n some is h = judged_tag room bytes (Some t) some is ∙ ap (λ j. j >>= λ w. took w.0 (1 + w.1)) h
 
 -- the value after the key of an entry that was read
-pub entry_value : (room : ℕ) (bytes key : List ℕ) (n : ℕ) → judge_short_string bytes ≡ took key n → IsRead (judge_entry (judge_value room) bytes) → IsRead (judge_value room (drop n bytes))
+pub entry_value : (room : ℕ) (bytes key : List ℕ) (n : ℕ) → judge_short_string bytes ≡ took key n
+    → IsRead (judge_entry (judge_value room) bytes) → IsRead (judge_value room (drop n bytes))
 unfolding judge_entry
 entry_value room bytes key n is h =
     let all = ap (λ j. j >>= λ k. (judge_value room (drop k.1 bytes)) >>= λ v. took (k.0, v.0) (k.1 + v.1)) is in
@@ -87,7 +92,9 @@ entry_value room bytes key n is h =
     let value = bind_took (judge_value room (drop n bytes)) _ one.0 one.1 one.2 in
     is_read (judge_value room (drop n bytes)) value.0 value.1 value.2
 
-pub entry_took : (room : ℕ) (bytes key : List ℕ) (v : FieldValue) (n m : ℕ) → judge_short_string bytes ≡ took key n → judge_value room (drop n bytes) ≡ took v m → judge_entry (judge_value room) bytes ≡ took (key, v) (n + m)
+-- Where a key is taken, and a value after it, both are taken as an entry.
+pub entry_took : (room : ℕ) (bytes key : List ℕ) (v : FieldValue) (n m : ℕ) → judge_short_string bytes ≡ took key n
+    → judge_value room (drop n bytes) ≡ took v m → judge_entry (judge_value room) bytes ≡ took (key, v) (n + m)
 unfolding judge_entry
 entry_took room bytes key v n m one two =
     ap (λ j. j >>= λ k. (judge_value room (drop k.1 bytes)) >>= λ v. took (k.0, v.0) (k.1 + v.1)) one ∙ ap (λ j. j >>= λ v. took (key, v.0) (n + v.1)) two
@@ -101,7 +108,9 @@ pub record FirstItem (room : ℕ) (content : List ℕ) (n : ℕ) : Type 0 where
   pub left : IsFilled (filled (judge_value room) 0 (drop n content))
   pub starts : StartsWith room content (Some (value, drop n content))
 
-pub item_here : (room : ℕ) (content : List ℕ) (n : ℕ) → IsBytes content → 0 < length content → IsFilled (filled (judge_value room) 0 content) → (IsRead (judge_value room content) → n ≡ used_by (judge_value room content)) → FirstItem room content n
+-- Where the content of an array is values, and not empty, the first one is decoded again, and those after it are values.
+pub item_here : (room : ℕ) (content : List ℕ) (n : ℕ) → IsBytes content → 0 < length content → IsFilled (filled (judge_value room) 0 content)
+    → (IsRead (judge_value room content) → n ≡ used_by (judge_value room content)) → FirstItem room content n
 item_here room content n fits some h sized =
     let one = first_value room content fits some h in
     let read = is_read (judge_value room content) one.thing one.size one.is in
@@ -115,5 +124,6 @@ item_here room content n fits some h sized =
       starts = one.all ∙ ap (λ k. one.thing ∷ items_of (filled (judge_value room) 0 (drop k content))) count;
     }
 
+-- An empty content has no first value.
 pub no_item : (room : ℕ) (content : List ℕ) → length content ≡ 0 → StartsWith room content None
 no_item room content none = none_filled (judge_value room) content 0 (omega (arith, none))

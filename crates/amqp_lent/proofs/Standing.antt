@@ -16,38 +16,47 @@ use Rattle.amqp_wire.specs.Verdicts.{all_of, filling, whole_as}
 use Rattle.amqp_wire.proofs.Payloads.{filled_took}
 use Rattle.amqp_wire.proofs.Rewritten.{canon_beat, mapped}
 
-pub method_canon : (channel : ℕ) (payload : List ℕ) (frame : Frame) → whole_as kinds.Method channel payload ≡ Ok frame → IsRead (judge_payload payload) × (framed 1 channel (canonical_of payload_bytes (judge_payload payload)) ≡ canon frame)
+-- The canonical bytes of the method in a payload, framed, are those of the frame that the payload is decoded to.
+pub method_canon : (channel : ℕ) (payload : List ℕ) (frame : Frame) → whole_as kinds.Method channel payload ≡ Ok frame
+    → IsRead (judge_payload payload) × (framed 1 channel (canonical_of payload_bytes (judge_payload payload)) ≡ canon frame)
 unfolding whole_as canon
 method_canon channel payload frame h =
     let one = mapped (λ m. Meth channel m) (all_of judge_payload payload) frame h in
     let is = filled_took (length payload) (judge_payload payload) one.0 one.1 in
     (is_read (judge_payload payload) one.0 (length payload) is, ap (λ j. framed 1 channel (canonical_of payload_bytes j)) is ∙ ap canon one.2)
 
-pub header_canon : (channel : ℕ) (payload : List ℕ) (frame : Frame) → whole_as kinds.Header channel payload ≡ Ok frame → IsRead (judge_content_header payload) × (framed 2 channel (canonical_of content_header_bytes (judge_content_header payload)) ≡ canon frame)
+-- The canonical bytes of the content header in a payload, framed, are those of the frame that the payload is decoded to.
+pub header_canon : (channel : ℕ) (payload : List ℕ) (frame : Frame) → whole_as kinds.Header channel payload ≡ Ok frame
+    → IsRead (judge_content_header payload) × (framed 2 channel (canonical_of content_header_bytes (judge_content_header payload)) ≡ canon frame)
 unfolding whole_as canon
 header_canon channel payload frame h =
     let one = mapped (λ header. Head channel header) (all_of judge_content_header payload) frame h in
     let is = filled_took (length payload) (judge_content_header payload) one.0 one.1 in
     (is_read (judge_content_header payload) one.0 (length payload) is, ap (λ j. framed 2 channel (canonical_of content_header_bytes j)) is ∙ ap canon one.2)
 
+-- The bytes of a body, framed, are the canonical bytes of the frame that it is decoded to.
 pub body_canon : (channel : ℕ) (content : List ℕ) (frame : Frame) → whole_as kinds.Body channel content ≡ Ok frame → framed 3 channel content ≡ canon frame
 unfolding whole_as canon
 body_canon channel content frame h = let same : Body channel content ≡ frame = cc in ap canon same
 
+-- A protocol header with the three bytes of its version is the canonical bytes of the frame that it is decoded to.
 pub version_canon : (channel a b c : ℕ) (frame : Frame) → whole_as kinds.ProtocolHeader channel (a ∷ b ∷ c ∷ []) ≡ Ok frame → proto a b c ≡ canon frame
 unfolding whole_as canon
 version_canon channel a b c frame h = let same : Proto a b c ≡ frame = cc in ap canon same
 
+-- An empty heartbeat, framed, is the canonical bytes of the frame that it is decoded to.
 pub beat_canon : (channel : ℕ) (frame : Frame) → whole_as kinds.Heartbeat channel [] ≡ Ok frame → framed 8 channel [] ≡ canon frame
 unfolding whole_as
 beat_canon channel frame h = let same : beat_on channel ≡ frame = cc in canon_beat channel ∙ ap canon same
 
 -- ---- what a payload is that is a frame
 
+-- A result that is no error is a value.
 pub ok_is : {A : Type 0} (r : Result A Fault) → IsOk r → (x : A) × (r ≡ Ok x)
 ok_is (Ok x) h = (x, refl)
 ok_is (Err bad) h = absurd (let e = h in cc)
 
+-- A result that is a value is no error.
 pub is_ok : {A : Type 0} (r : Result A Fault) (x : A) → r ≡ Ok x → IsOk r
 is_ok r x h = subst IsOk (sym h) refl
 
@@ -83,6 +92,9 @@ pub header_long : (channel : ℕ) (payload : List ℕ) (frame : Frame) → whole
 header_long channel payload frame h = let put = header_put payload (header_canon channel payload frame h).0 in put.long
 
 -- payloads of one length of which the same header is read are the same frame
-pub header_whole : (channel : ℕ) (one other : List ℕ) → judge_content_header one ≡ judge_content_header other → length one ≡ length other → whole_as kinds.Header channel one ≡ whole_as kinds.Header channel other
+pub header_whole : (channel : ℕ) (one other : List ℕ) → judge_content_header one ≡ judge_content_header other
+    → length one ≡ length other → whole_as kinds.Header channel one ≡ whole_as kinds.Header channel other
 unfolding whole_as
-header_whole channel one other same long = ap (λ j. read_map (λ header. Head channel header) (filling (length one) j)) same ∙ ap (λ n. read_map (λ header. Head channel header) (filling n (judge_content_header other))) long
+header_whole channel one other same long =
+    ap (λ j. read_map (λ header. Head channel header) (filling (length one) j)) same
+    ∙ ap (λ n. read_map (λ header. Head channel header) (filling n (judge_content_header other))) long

@@ -30,6 +30,9 @@ as_stream (Ok done) = Ok done
 as_stream (Err error) = Err (codec_error error)
 
 -- the same, with the report
-abbrev pub as_stream_reported : Result (Unit {0}) (RunReport LentError) → Result (Unit {0}) (RunReport StreamError)
+abbrev pub as_stream_reported : Result (Unit {0}) (RunReport LentError)
+    → Result (Unit {0}) (RunReport StreamError)
 as_stream_reported (Ok done) = Ok done
-as_stream_reported (Err report) = Err (record { error = codec_error report.error; place = report.place; channel = report.channel })
+as_stream_reported (Err report) =
+    Err
+    (record { error = codec_error report.error; place = report.place; channel = report.channel })

@@ -14,9 +14,12 @@ use Rattle.amqp_lent.specs.declared.frame.LentFrame.TheVariants as frames
 
 -- type, channel and payload; the channel is 0 where none is held
 abbrev pub raw_of : LentFrame → Raw
-raw_of (frames.ProtocolHeader version) = raw_as kinds.ProtocolHeader 0 (version.major ∷ version.minor ∷ version.revision ∷ [])
-raw_of (frames.Method channel class id slots) = raw_as kinds.Method channel (method_payload class id slots.now)
-raw_of (frames.Header channel class size properties) = raw_as kinds.Header channel (header_payload class size properties.now)
+raw_of (frames.ProtocolHeader version) =
+    raw_as kinds.ProtocolHeader 0 (version.major ∷ version.minor ∷ version.revision ∷ [])
+raw_of (frames.Method channel class id slots) =
+    raw_as kinds.Method channel (method_payload class id slots.now)
+raw_of (frames.Header channel class size properties) =
+    raw_as kinds.Header channel (header_payload class size properties.now)
 raw_of (frames.Body channel content) = raw_as kinds.Body channel content.now
 raw_of frames.Heartbeat = raw_as kinds.Heartbeat 0 []
 raw_of (frames.InvalidHeartbeat channel) = raw_as kinds.Heartbeat channel []
@@ -39,7 +42,8 @@ abbrev pub Lends : Result LentFrame ParserError → Result Frame Fault → Type 
 Lends (Ok lent) read = (frame : Frame) × (read ≡ Ok frame) × StandsFor lent frame
 Lends (Err error) read = (error ≢ errors.NoMemory) × RefusesWhole error read
 
--- A borrowed frame as equality sees it: the numbers that it holds, and its borrowed bytes, wherever they lie.
+-- A borrowed frame as equality sees it: the numbers that it holds, and its borrowed bytes,
+-- wherever they lie.
 pub data LentParts : Type 0 where
   protocol_header : (version : ProtocolVersion) → LentParts
   method : (channel class id : ℕ) (slots : List ℕ) → LentParts
@@ -52,7 +56,8 @@ pub data LentParts : Type 0 where
 abbrev pub parts_of : LentFrame → LentParts
 parts_of (frames.ProtocolHeader version) = protocol_header version
 parts_of (frames.Method channel class id slots) = method channel class id slots.now
-parts_of (frames.Header channel class size properties) = content_header channel class size properties.now
+parts_of (frames.Header channel class size properties) =
+    content_header channel class size properties.now
 parts_of (frames.Body channel content) = body channel content.now
 parts_of frames.Heartbeat = heartbeat
 parts_of (frames.InvalidHeartbeat channel) = invalid_heartbeat channel

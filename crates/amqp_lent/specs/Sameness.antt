@@ -1,4 +1,5 @@
--- Whether borrowed values, arrays and tables stand for the same: a test on their codes, which decides whether they are equal.
+-- Whether borrowed values, arrays and tables stand for the same: a test on their codes, which
+-- decides whether they are equal.
 use Rattle.std.specs.Prelude.{◌&&◌, nat_eq, List, Bool, true, false}
 use Rattle.std.specs.Bool.{Decides}
 use Rattle.std.specs.Coded.{Coded, coded_list, coded×, coded_ℕ}
@@ -40,7 +41,9 @@ same_entries es fs = same_tree (entries_code.code es) (entries_code.code fs)
 trees_same : (a b : Gv) → same_tree a b ≡ true → a ≡ b
 trees_same gnil gnil h = refl
 trees_same (gnum m) (gnum n) h = ap gnum ((unsigned_Decides m n).0 h)
-trees_same (gcons a b) (gcons c d) h = ap₂ gcons (trees_same a c (first_so (same_tree a c) (same_tree b d) h)) (trees_same b d (second_so (same_tree a c) (same_tree b d) h))
+trees_same (gcons a b) (gcons c d) h =
+    ap₂ gcons (trees_same a c (first_so (same_tree a c) (same_tree b d) h))
+    (trees_same b d (second_so (same_tree a c) (same_tree b d) h))
 trees_same a b h = absurd (true≢false (sym h))
 
 tree_itself : (a : Gv) → same_tree a a ≡ true
@@ -48,8 +51,13 @@ tree_itself gnil = refl
 tree_itself (gnum n) = (unsigned_Decides n n).1 refl
 tree_itself (gcons a b) = ap₂ ◌&&◌ (tree_itself a) (tree_itself b)
 
-code_decides : {A : Type 0} (c : Coded A) (x y : A) → Decides (same_tree (c.code x) (c.code y)) (x ≡ y)
-code_decides {A} c x y = (λ h. c.inj x y (trees_same _ _ h), λ e. let P : A → Type 0 = λ z. same_tree (c.code x) (c.code z) ≡ true in subst P e (tree_itself (c.code x)))
+code_decides : {A : Type 0} (c : Coded A) (x y : A)
+    → Decides (same_tree (c.code x) (c.code y)) (x ≡ y)
+code_decides {A} c x y = (
+  λ h. c.inj x y (trees_same _ _ h),
+  λ e. let P : A → Type 0 = λ z. same_tree (c.code x) (c.code z) ≡ true in
+      subst P e (tree_itself (c.code x)),
+)
 
 -- the test on values holds exactly where they are equal
 pub same_value-decides : (v w : FieldValue) → Decides (same_value v w) (v ≡ w)

@@ -1,7 +1,11 @@
 -- What borrowed values stand for. The arrays and tables in them are seen as their lists already.
 use Rattle.std.specs.Prelude.{ℕ, List, Option, Some, None}
 use Rattle.amqp_types.specs.Judging.{Judged, took, past, fault}
-use Rattle.amqp_types.specs.Values.{FieldValue, Entry, short_short_int, short_int, long_int, long_long_int, short_short_uint, short_uint, long_uint, float, double, timestamp, long_string, byte_array, boolean_value, signed_value, unsigned_value, decimal_value, bytes_value, array_value, table_value, void_value, values_of, entries_of}
+use Rattle.amqp_types.specs.Values.{FieldValue, Entry, short_short_int, short_int, long_int}
+use Rattle.amqp_types.specs.Values.{long_long_int, short_short_uint, short_uint, long_uint, float}
+use Rattle.amqp_types.specs.Values.{double, timestamp, long_string, byte_array, boolean_value}
+use Rattle.amqp_types.specs.Values.{signed_value, unsigned_value, decimal_value, bytes_value}
+use Rattle.amqp_types.specs.Values.{array_value, table_value, void_value, values_of, entries_of}
 use Rattle.std.specs.Borrow.{Bor}
 use Rattle.amqp_lent.specs.declared.value.LentValue.{LentValue}
 use Rattle.amqp_lent.specs.declared.value.LentValue.TheVariants as variant

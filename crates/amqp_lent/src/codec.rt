@@ -100,14 +100,15 @@ impl LentCodec {
         &mut self,
         source: &mut S,
         sink: &mut K,
-        turns: u64,
+        budget: u64,
     ) -> Result<(), RunReport<LentError>>
         ensures limit { self.new ≡ self.old }
-        ensures run { CanonicalReport plain S.supply K.store self.old turns source.old source.new sink.old sink.new (as_stream_reported result) }
+        ensures run { CanonicalReport plain S.supply K.store self.old budget
+            source.old source.new sink.old sink.new (as_stream_reported result) }
     {
         lent_reported(
             self.codec
-                .rewrite_reported(Profile::Plain, source, sink, turns),
+                .rewrite_reported(Profile::Plain, source, sink, budget),
         )
     }
 
@@ -116,12 +117,13 @@ impl LentCodec {
         &mut self,
         source: &mut S,
         sink: &mut K,
-        turns: u64,
+        budget: u64,
     ) -> Result<(), LentError>
         ensures limit { self.new ≡ self.old }
-        ensures run { CanonicalRun plain S.supply K.store self.old turns source.old source.new sink.old sink.new (as_stream result) }
+        ensures run { CanonicalRun plain S.supply K.store self.old budget
+            source.old source.new sink.old sink.new (as_stream result) }
     {
-        unreported(self.canonicalize_reported(source, sink, turns))
+        unreported(self.canonicalize_reported(source, sink, budget))
     }
 }
 
@@ -132,16 +134,17 @@ pub fn canonicalize_lent_reported<S: Source, K: Sink>(
     source: &mut S,
     sink: &mut K,
     max_payload: ChunkSize,
-    turns: u64,
+    budget: u64,
 ) -> Result<(), RunReport<StreamError>>
-    ensures run { CanonicalReport plain S.supply K.store max_payload turns source.old source.new sink.old sink.new result
+    ensures run { CanonicalReport plain S.supply K.store max_payload
+        budget source.old source.new sink.old sink.new result
         ⊎ NeverBeganReport source.old source.new sink.old sink.new StreamError.NoMemory result }
     ensures never_untidy { unreported result ≢ Err StreamError.NotTidy }
 {
     match LentCodec::open(alloc, max_payload) {
         Ok(codec) => {
             let mut codec = codec;
-            stream_reported(codec.canonicalize_reported(source, sink, turns))
+            stream_reported(codec.canonicalize_reported(source, sink, budget))
         }
         Err(_) => Err(RunReport::at_start(StreamError::NoMemory)),
     }
@@ -153,11 +156,12 @@ pub fn canonicalize_lent<S: Source, K: Sink>(
     source: &mut S,
     sink: &mut K,
     max_payload: ChunkSize,
-    turns: u64,
+    budget: u64,
 ) -> Result<(), StreamError>
-    ensures run { CanonicalRun plain S.supply K.store max_payload turns source.old source.new sink.old sink.new result
+    ensures run { CanonicalRun plain S.supply K.store max_payload
+        budget source.old source.new sink.old sink.new result
         ⊎ NeverBegan source.old source.new sink.old sink.new StreamError.NoMemory result }
     ensures never_untidy { result ≢ Err StreamError.NotTidy }
 {
-    unreported(canonicalize_lent_reported(alloc, source, sink, max_payload, turns))
+    unreported(canonicalize_lent_reported(alloc, source, sink, max_payload, budget))
 }

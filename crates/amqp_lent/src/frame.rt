@@ -126,7 +126,8 @@ fn lent_as<'a>(frame_type: AMQPFrameType, channel: ChannelId, payload: &'a [u8])
 /// Borrows a frame from its whole payload, and refuses it as `parse_payload` does. No memory is taken.
 pub fn lent_frame<'a>(frame: AMQPRawFrame<'a>) -> Result<LentFrame<'a>, ParserError>
     ensures judged { Lends result (whole (raw_of frame.entry)) }
-    ensures within { IfOk result (λ lent. length (payload_of lent) ≤ length frame.entry.payload.now) }
+    ensures within { IfOk result
+        (λ lent. length (payload_of lent) ≤ length frame.entry.payload.now) }
 {
     match judge_frame(frame) {
         Ok(_) => Ok(lent_as(frame.frame_type, frame.channel_id, frame.payload)),

@@ -2,7 +2,8 @@
 
 ghost use Rattle.std.specs.Prelude.{◌≡◌, ◌≤◌, length, option_map, IfOk, IfSome};
 ghost use Rattle.amqp_types.specs.Answers.{AnswersFully};
-ghost use Rattle.amqp_types.specs.ValueJudging.{filled, judge_array, judge_behind, judge_entry, judge_table, judge_value, nested};
+ghost use Rattle.amqp_types.specs.ValueJudging.{filled, judge_array, judge_behind, judge_entry};
+ghost use Rattle.amqp_types.specs.ValueJudging.{judge_table, judge_value, nested};
 ghost use Rattle.amqp_canonical.specs.Writes.{IsFilled, IsRead};
 ghost use Rattle.amqp_lent.specs.Finding.{StartsWith};
 ghost use Rattle.amqp_lent.specs.Views.{entry_of, taken, value_of};
@@ -20,7 +21,8 @@ use amqp_types::{
 #[tactic(auto, using(crate::proofs::Rereading::fully_next), unfolding(amqp_types::specs::ValueJudging::judge_array))]
 fn read_array<'a>(i: &'a [u8], depth_left: usize) -> Result<(usize, LentArray<'a>), ParserError>
     requires read { IsRead (judge_array (judge_value depth_left) i.now) }
-    ensures judged { AnswersFully (λ array. array) result (judge_array (judge_value depth_left) i.now) }
+    ensures judged { AnswersFully (λ array. array) result
+        (judge_array (judge_value depth_left) i.now) }
     ensures used { IfOk result (λ found. found.0 ≤ length i.now) }
 {
     let (n, content) = parse_long_bytes(i)?;
@@ -40,7 +42,8 @@ pub(crate) fn read_table<'a>(
     depth_left: usize,
 ) -> Result<(usize, LentTable<'a>), ParserError>
     requires read { IsRead (judge_table (judge_value depth_left) i.now) }
-    ensures judged { AnswersFully (λ table. table) result (judge_table (judge_value depth_left) i.now) }
+    ensures judged { AnswersFully (λ table. table) result
+        (judge_table (judge_value depth_left) i.now) }
     ensures used { IfOk result (λ found. found.0 ≤ length i.now) }
 {
     let (n, content) = parse_long_bytes(i)?;
@@ -188,8 +191,10 @@ pub(crate) fn first_item<'a>(
     depth_left: usize,
 ) -> Option<(LentValue<'a>, &'a [u8])>
     requires read { IsFilled (filled (judge_value depth_left) 0 content.now) }
-    ensures left { IfSome result (λ found. IsFilled (filled (judge_value depth_left) 0 found.1.now)) }
-    ensures first { StartsWith depth_left content.now (option_map (λ found. (value_of found.0, found.1.now)) result) }
+    ensures left { IfSome result
+        (λ found. IsFilled (filled (judge_value depth_left) 0 found.1.now)) }
+    ensures first { StartsWith depth_left content.now
+        (option_map (λ found. (value_of found.0, found.1.now)) result) }
 {
     match content {
         [] => None,

@@ -70,7 +70,8 @@ pub(crate) fn is_same_table(a: &LentTable<'_>, b: &LentTable<'_>) -> bool
 fn are_same_entries(a: &[u8], a_room: usize, b: &[u8], b_room: usize) -> bool
     requires read { AreEntries a_room a.now }
     requires other_read { AreEntries b_room b.now }
-    ensures { IsTrue result ↔ (settled (entries_in a_room a.now) ≡ settled (entries_in b_room b.now)) }
+    ensures { IsTrue result
+        ↔ (settled (entries_in a_room a.now) ≡ settled (entries_in b_room b.now)) }
 {
     let mut last: Option<&[u8]> = None;
     while let Some((key, value)) = entry_after(a, a_room, last) {

@@ -35,7 +35,8 @@ fn has_key(entry: &[u8], key: &[u8]) -> bool
 
 /// The place of the last of the entries that fill a table with this key.
 fn last_entry(content: &[u8], key: &[u8]) -> Option<usize>
-    ensures { (depth_left : ℕ) → AreEntries depth_left content.now → FindsLast depth_left content.now key.now (entries_in depth_left content.now) result }
+    ensures { (depth_left : ℕ) → AreEntries depth_left content.now
+        → FindsLast depth_left content.now key.now (entries_in depth_left content.now) result }
 {
     let mut found = None;
     let mut at = 0;
@@ -74,7 +75,8 @@ pub(crate) fn entry_after<'a>(
     last: Option<&[u8]>,
 ) -> Option<(&'a str, LentValue<'a>)>
     requires read { AreEntries depth_left content.now }
-    ensures { FindsAfter (option_map (λ key. key.now) last.entry) (settled (entries_in depth_left content.now)) (option_map entry_of result) }
+    ensures { FindsAfter (option_map (λ key. key.now) last.entry)
+        (settled (entries_in depth_left content.now)) (option_map entry_of result) }
 {
     match next_entry(content, last) {
         Some((place, _)) => entry_in(bytes_from(content, place), depth_left),

@@ -110,7 +110,8 @@ impl<'a> Model for LentArray<'a> {
 
     ghost view = { λ array. items_of (filled (judge_value array.depth_left) 0 array.content.now) };
 
-    ghost invariant = { λ array. IsFilled (filled (judge_value array.depth_left) 0 array.content.now) };
+    ghost invariant = { λ array.
+        IsFilled (filled (judge_value array.depth_left) 0 array.content.now) };
 }
 
 impl<'a> Model for LentTable<'a> {
@@ -144,7 +145,8 @@ impl<'a> Model for LentItems<'a> {
 
     ghost view = { λ items. items_of (filled (judge_value items.depth_left) 0 items.content.now) };
 
-    ghost invariant = { λ items. IsFilled (filled (judge_value items.depth_left) 0 items.content.now) };
+    ghost invariant = { λ items.
+        IsFilled (filled (judge_value items.depth_left) 0 items.content.now) };
 }
 
 impl<'a> Clone for LentArray<'a> {
@@ -214,7 +216,8 @@ impl<'a> LentTable<'a> {
     /// The entry with the least key above a given one, or with the least of all, if there is one. The entries are
     /// walked over once.
     pub fn next_after(&self, key: Option<&str>) -> Option<(&'a str, LentValue<'a>)>
-        ensures { FindsAfter (option_map (λ text. text.now) key.entry) self.now (option_map entry_of result) }
+        ensures { FindsAfter (option_map (λ text. text.now) key.entry) self.now
+            (option_map entry_of result) }
     {
         let last = match key {
             Some(text) => Some(text.as_bytes()),

@@ -8,7 +8,8 @@ ghost use Rattle.amqp_wire.specs.Canonical.{SliceAnswers, canon};
 ghost use Rattle.amqp_wire.specs.Frames.{Frame};
 ghost use Rattle.amqp_wire.specs.Spelling.{framed};
 ghost use Rattle.amqp_lent.specs.Frames.{IsFrame, StandsFor, payload_of};
-ghost use Rattle.amqp_canonical.specs.Payloads.{header_payload, method_payload, canonical_header, canonical_method};
+ghost use Rattle.amqp_canonical.specs.Payloads.{header_payload, method_payload};
+ghost use Rattle.amqp_canonical.specs.Payloads.{canonical_header, canonical_method};
 ghost use Rattle.amqp_types.specs.Constants.{body_byte, header_byte, method_byte};
 
 use crate::frame::LentFrame;
@@ -43,7 +44,8 @@ fn put_method_frame(
 ) -> usize
     requires read { IsRead (judge_payload (method_payload class id slots.now)) }
     requires few { length (method_payload class id slots.now) < 2 ^ 32 }
-    ensures { PutsIfRoom buf.old buf.new 0 (framed method_byte channel (canonical_method (method_payload class id slots.now))) result }
+    ensures { PutsIfRoom buf.old buf.new 0
+        (framed method_byte channel (canonical_method (method_payload class id slots.now))) result }
 {
     let end = put_method::<Tested>(buf, 7, &mut [], class, id, slots);
     put_frame(buf, end, FRAME_METHOD, channel)
@@ -60,7 +62,9 @@ fn put_header_frame(
     requires read { IsRead (judge_content_header (header_payload class body_size properties.now)) }
     requires few { length (header_payload class body_size properties.now) < 2 ^ 32 }
     ensures { PutsIfRoom buf.old buf.new 0
-        (framed header_byte channel (canonical_header (header_payload class body_size properties.now))) result }
+        (framed header_byte channel
+        (canonical_header (header_payload class body_size properties.now)))
+        result }
 {
     let end = put_header::<Tested>(buf, 7, &mut [], class, body_size, properties);
     put_frame(buf, end, FRAME_HEADER, channel)
@@ -79,7 +83,8 @@ fn put_body_frame(buf: &mut [u8], channel: ChannelId, content: &[u8]) -> usize
 fn put_lent(buf: &mut [u8], frame: LentFrame<'_>) -> usize
     requires stands { IsFrame frame }
     requires few { length (payload_of frame) < 2 ^ 32 }
-    ensures { (read : Frame) → StandsFor frame.entry read → PutsIfRoom buf.old buf.new 0 (canon read) result }
+    ensures { (read : Frame) → StandsFor frame.entry read
+        → PutsIfRoom buf.old buf.new 0 (canon read) result }
 {
     match frame {
         LentFrame::Method {
@@ -119,7 +124,8 @@ pub fn lent_size(frame: LentFrame<'_>) -> u64
 pub fn write_lent(buf: &mut [u8], frame: LentFrame<'_>) -> Result<usize, GenError>
     requires stands { IsFrame frame }
     requires few { length (payload_of frame) < 2 ^ 32 }
-    ensures { (read : Frame) → StandsFor frame.entry read → SliceAnswers buf.old buf.new (Ok (length (canon read))) (canon read) result }
+    ensures { (read : Frame) → StandsFor frame.entry read
+        → SliceAnswers buf.old buf.new (Ok (length (canon read))) (canon read) result }
 {
     let size = lent_size(frame);
     if size > buf.len() as u64 {

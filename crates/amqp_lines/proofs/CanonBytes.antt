@@ -7,13 +7,15 @@ use Rattle.amqp_types.specs.Sequences.{SpellsMapped, SpellsBoth}
 use Rattle.amqp_types.specs.Numbers.{NumberWidth, bytes1, bytes2, bytes4, bytes8, number_bytes, SpellsNumber}
 use Rattle.amqp_types.specs.Flags.{flag_at, flags_bytes, SpellsFlags}
 use Rattle.amqp_types.specs.Strings.{short_string_bytes, with_length, SpellsShortString, SpellsLongString}
-use Rattle.amqp_types.specs.Values.{FieldValue, FieldValues, FieldEntries, Entry, boolean_value, signed_value, unsigned_value, decimal_value, bytes_value, array_value, table_value, void_value, items, pairs, values_of, entries_of}
+use Rattle.amqp_types.specs.Values.{FieldValue, FieldValues, FieldEntries, Entry, boolean_value, signed_value, unsigned_value, decimal_value, bytes_value}
+use Rattle.amqp_types.specs.Values.{array_value, table_value, void_value, items, pairs, values_of, entries_of}
 use Rattle.amqp_types.specs.ValueBytes.{signed_width, unsigned_width, value_bytes, tagged_bytes, values_bytes, entries_bytes, table_bytes}
 use Rattle.amqp_types.specs.ValueSpelling.{SpellsEach, SpellsEntry, SpellsArray, SpellsTable, SpellsBehind, SpellsTagged, SpellsValue, SpellsFieldTable}
 use Rattle.amqp_types.specs.Tags.{tag_byte, tag_of}
 use Rattle.amqp_types.specs.declared.tag.FieldTag.{FieldTag}
 use Rattle.amqp_types.specs.declared.tag.FieldTag.TheVariants as tag
-use Rattle.amqp_types.specs.Slots.{Item, number_item, flag_item, text_item, bytes_item, entries_item, Form, number_form, flags_form, short_string_form, long_string_form, table_form, Slot, kept_slot, reserved_slot}
+use Rattle.amqp_types.specs.Slots.{Item, number_item, flag_item, text_item, bytes_item, entries_item, Form, number_form, flags_form, short_string_form}
+use Rattle.amqp_types.specs.Slots.{long_string_form, table_form, Slot, kept_slot, reserved_slot}
 use Rattle.amqp_types.specs.SlotBytes.{form_bytes, slots_bytes}
 use Rattle.amqp_types.specs.SlotSpelling.{SpellsForm, SpellsReserved, SpellsSlots}
 use Rattle.amqp_types.specs.SlotLaws.{is_least, are_least}
@@ -61,6 +63,7 @@ all_back (x ∷ xs) ys h = all_back xs ys h.1
 along : (xs ys : List ℕ) → xs ≡ ys → All xs → All ys
 along xs ys e h = subst All e h
 
+-- What stands at any place of a list of one byte, and 0 beside it, is below 256.
 pub one_byte : (x i : ℕ) → x < 256 → get_or (x ∷ []) i 0 < 256
 one_byte x zero h = h
 one_byte x (suc i) h = omega arith
@@ -89,13 +92,16 @@ long_inner bytes content fits h = all_back (number_bytes bytes4 (length content)
 abbrev Keeps : {A : Type 0} → (List ℕ → A → Type 0) → (A → List ℕ) → Type 0
 Keeps {A} Spelled canonical = (bytes : List ℕ) (x : A) → All bytes → Spelled bytes x → All (canonical x)
 
-mapped_keeps : {A B : Type 0} (make : A → B) (Spelled : List ℕ → A → Type 0) (canonical : A → List ℕ) (other : B → List ℕ) → ((x : A) → other (make x) ≡ canonical x) → Keeps Spelled canonical → Keeps (SpellsMapped Spelled make) other
+mapped_keeps : {A B : Type 0} (make : A → B) (Spelled : List ℕ → A → Type 0) (canonical : A → List ℕ) (other : B → List ℕ)
+    → ((x : A) → other (make x) ≡ canonical x) → Keeps Spelled canonical → Keeps (SpellsMapped Spelled make) other
 mapped_keeps make Spelled canonical other same h bytes y fits s = subst All (sym (ap other s.made ∙ same s.thing)) (h bytes s.thing fits s.spelled)
 
-both_keep : {A B C : Type 0} (First : List ℕ → A → Type 0) (Second : List ℕ → B → Type 0) (join : A → B → C) (a : A → List ℕ) (b : B → List ℕ) (c : C → List ℕ) → ((bytes : List ℕ) (x : A) (y : B) → First bytes x → c (join x y) ≡ a x ++ b y) → Keeps First a → Keeps Second b → Keeps (SpellsBoth First Second join) c
+both_keep : {A B C : Type 0} (First : List ℕ → A → Type 0) (Second : List ℕ → B → Type 0) (join : A → B → C) (a : A → List ℕ) (b : B → List ℕ) (c : C → List ℕ)
+    → ((bytes : List ℕ) (x : A) (y : B) → First bytes x → c (join x y) ≡ a x ++ b y) → Keeps First a → Keeps Second b → Keeps (SpellsBoth First Second join) c
 both_keep First Second join a b c same h k bytes z fits s =
     let parts = along bytes (s.front ++ s.behind) s.bytes_are fits in
-    subst All (sym (ap c s.joined ∙ same s.front s.one s.two s.first_is)) (all_both (a s.one) (b s.two) (h s.front s.one (all_front s.front s.behind parts) s.first_is) (k s.behind s.two (all_back s.front s.behind parts) s.second_is))
+    subst All (sym (ap c s.joined ∙ same s.front s.one s.two s.first_is)) (all_both (a s.one) (b s.two)
+    (h s.front s.one (all_front s.front s.behind parts) s.first_is) (k s.behind s.two (all_back s.front s.behind parts) s.second_is))
 
 -- ---- values
 
@@ -128,7 +134,9 @@ IsGood v = All (tagged_bytes v)
 each_bytes : (es : List Entry) → EachEntry IsKey IsGood es → All (entries_bytes (entries_of es))
 unfolding EachEntry IsKey IsGood
 each_bytes [] h = tt
-each_bytes (e ∷ es) h = all_both (short_string_bytes e.0 ++ tagged_bytes e.1) (entries_bytes (entries_of es)) (all_both (short_string_bytes e.0) (tagged_bytes e.1) h.0 h.1) (each_bytes es h.2)
+each_bytes (e ∷ es) h =
+    all_both (short_string_bytes e.0 ++ tagged_bytes e.1) (entries_bytes (entries_of es))
+    (all_both (short_string_bytes e.0) (tagged_bytes e.1) h.0 h.1) (each_bytes es h.2)
 
 module _ (Spelled : List ℕ → FieldValue → Type 0) (good : Keeps Spelled tagged_bytes) where
   values_keep : (bytes : List ℕ) (vs : List FieldValue) → All bytes → SpellsEach Spelled bytes vs → All (values_bytes (values_of vs))
@@ -161,17 +169,24 @@ module _ (Spelled : List ℕ → FieldValue → Type 0) (good : Keeps Spelled ta
       let kept = subst P (settled_is h.entries es h.counts) (each-settled_on IsKey IsGood [] h.entries (each-nil IsKey IsGood) read) in
       long_all (entries_bytes (entries_of es)) (each_bytes es kept)
 
-module _ (room : ℕ) (Spelled : List ℕ → FieldValue → Type 0) (arrays : (bytes : List ℕ) (vs : List FieldValue) → 0 < room → All bytes → SpellsArray Spelled bytes vs → All (value_bytes (array_value (values_of vs))))
-    (tables : (bytes : List ℕ) (es : List Entry) → 0 < room → All bytes → SpellsTable plain Spelled bytes es → All (value_bytes (table_value (entries_of es)))) where
+module _ (room : ℕ) (Spelled : List ℕ → FieldValue → Type 0)
+    (arrays : (bytes : List ℕ) (vs : List FieldValue) → 0 < room → All bytes → SpellsArray Spelled bytes vs → All (value_bytes (array_value (values_of vs))))
+    (tables : (bytes : List ℕ) (es : List Entry) → 0 < room → All bytes
+    → SpellsTable plain Spelled bytes es → All (value_bytes (table_value (entries_of es)))) where
   behind_keeps : Keeps (SpellsBehind plain room Spelled) value_bytes
   behind_keeps bytes (boolean_value true) fits h = (omega arith, tt)
   behind_keeps bytes (boolean_value false) fits h = (omega arith, tt)
   behind_keeps bytes (signed_value kind n) fits h = number_all (signed_width kind) _
   behind_keeps bytes (unsigned_value kind n) fits h = number_all (unsigned_width kind) n
-  behind_keeps bytes (decimal_value scale n) fits h = all_both (number_bytes bytes1 scale) (number_bytes bytes4 n) (number_all bytes1 scale) (number_all bytes4 n)
+  behind_keeps bytes (decimal_value scale n) fits h =
+      all_both (number_bytes bytes1 scale) (number_bytes bytes4 n) (number_all bytes1 scale) (number_all bytes4 n)
   behind_keeps bytes (bytes_value kind content) fits h = along bytes (with_length content) h.bytes_are fits
-  behind_keeps bytes (array_value vs) fits h = let P : FieldValues → Type 0 = λ ws. All (value_bytes (array_value ws)) in subst P (values_of-items vs) (arrays bytes (items vs) h.0 fits h.1)
-  behind_keeps bytes (table_value es) fits h = let P : FieldEntries → Type 0 = λ fs. All (value_bytes (table_value fs)) in subst P (entries_of-pairs es) (tables bytes (pairs es) h.0 fits h.1)
+  behind_keeps bytes (array_value vs) fits h =
+      let P : FieldValues → Type 0 = λ ws. All (value_bytes (array_value ws)) in
+      subst P (values_of-items vs) (arrays bytes (items vs) h.0 fits h.1)
+  behind_keeps bytes (table_value es) fits h =
+      let P : FieldEntries → Type 0 = λ fs. All (value_bytes (table_value fs)) in
+      subst P (entries_of-pairs es) (tables bytes (pairs es) h.0 fits h.1)
   behind_keeps bytes void_value fits h = tt
 
 tagged_keeps : (Spelled : List ℕ → FieldValue → Type 0) → Keeps Spelled value_bytes → Keeps (SpellsTagged plain Spelled) tagged_bytes
@@ -179,10 +194,13 @@ tagged_keeps Spelled keeps bytes v fits h = (tag_below (tag_of v), keeps h.behin
 
 value_keeps : (room : ℕ) → Keeps (SpellsValue plain room) tagged_bytes
 unfolding SpellsValue
-value_keeps zero = tagged_keeps (SpellsBehind plain 0 (λ _ _. ⊥)) (behind_keeps 0 (λ _ _. ⊥) (λ bytes vs up fits h. absurd (omega (arith, up))) (λ bytes es up fits h. absurd (omega (arith, up))))
+value_keeps zero =
+    tagged_keeps (SpellsBehind plain 0 (λ _ _. ⊥))
+    (behind_keeps 0 (λ _ _. ⊥) (λ bytes vs up fits h. absurd (omega (arith, up))) (λ bytes es up fits h. absurd (omega (arith, up))))
 value_keeps (suc room) =
     tagged_keeps (SpellsBehind plain (suc room) (SpellsValue plain room))
-    (behind_keeps (suc room) (SpellsValue plain room) (λ bytes vs up fits h. array_keeps (SpellsValue plain room) (value_keeps room) bytes vs fits h) (λ bytes es up fits h. table_keeps (SpellsValue plain room) (value_keeps room) bytes es fits h))
+    (behind_keeps (suc room) (SpellsValue plain room) (λ bytes vs up fits h. array_keeps (SpellsValue plain room) (value_keeps room) bytes vs fits h)
+    (λ bytes es up fits h. table_keeps (SpellsValue plain room) (value_keeps room) bytes es fits h))
 
 tables_keep : Keeps (SpellsFieldTable plain) table_bytes
 unfolding table_bytes
@@ -197,16 +215,26 @@ flags_keep count bytes flags fits h =
 
 forms_keep : (form : Form) → Keeps (SpellsForm plain form) (form_bytes form)
 unfolding form_bytes
-forms_keep (number_form width) = mapped_keeps (λ n. number_item n ∷ []) (SpellsNumber width) (number_bytes width) (form_bytes (number_form width)) (λ n. refl) (λ bytes n fits h. number_all width n)
-forms_keep (flags_form count) = mapped_keeps (map flag_item) (SpellsFlags plain count) flags_bytes (form_bytes (flags_form count)) (λ flags. ap flags_bytes (flags_of-map flags)) (flags_keep count)
-forms_keep short_string_form = mapped_keeps (λ text. text_item text ∷ []) SpellsShortString short_string_bytes (form_bytes short_string_form) (λ text. refl) (λ bytes text fits h. along bytes (short_string_bytes text) h.bytes_are fits)
-forms_keep long_string_form = mapped_keeps (λ content. bytes_item content ∷ []) SpellsLongString with_length (form_bytes long_string_form) (λ content. refl) (λ bytes content fits h. along bytes (with_length content) h.bytes_are fits)
+forms_keep (number_form width) =
+    mapped_keeps (λ n. number_item n ∷ []) (SpellsNumber width) (number_bytes width)
+    (form_bytes (number_form width)) (λ n. refl) (λ bytes n fits h. number_all width n)
+forms_keep (flags_form count) =
+    mapped_keeps (map flag_item) (SpellsFlags plain count) flags_bytes
+    (form_bytes (flags_form count)) (λ flags. ap flags_bytes (flags_of-map flags)) (flags_keep count)
+forms_keep short_string_form =
+    mapped_keeps (λ text. text_item text ∷ []) SpellsShortString short_string_bytes (form_bytes short_string_form)
+    (λ text. refl) (λ bytes text fits h. along bytes (short_string_bytes text) h.bytes_are fits)
+forms_keep long_string_form =
+    mapped_keeps (λ content. bytes_item content ∷ []) SpellsLongString with_length (form_bytes long_string_form)
+    (λ content. refl) (λ bytes content fits h. along bytes (with_length content) h.bytes_are fits)
 forms_keep table_form = mapped_keeps (λ es. entries_item es ∷ []) (SpellsFieldTable plain) table_bytes (form_bytes table_form) (λ es. refl) tables_keep
 
 constant_all : (form : Form) (constant : List Item) → is_least form constant ≡ true → All (form_bytes form constant)
 unfolding form_bytes
 constant_all (number_form width) (number_item n ∷ []) least = number_all width n
-constant_all (flags_form count) constant least = let s = (constant_strict (flags_form count) constant least).spelled in along (s.byte ∷ []) _ (sym s.bytes_are) (s.fits, tt)
+constant_all (flags_form count) constant least =
+    let s = (constant_strict (flags_form count) constant least).spelled in
+    along (s.byte ∷ []) _ (sym s.bytes_are) (s.fits, tt)
 constant_all short_string_form (text_item [] ∷ []) least = (omega arith, tt)
 constant_all long_string_form (bytes_item [] ∷ []) least = long_all [] tt
 constant_all form constant least = absurd cc
@@ -215,11 +243,14 @@ slots_keep : (slots : List Slot) → are_least slots ≡ true → Keeps (SpellsS
 unfolding slots_bytes
 slots_keep [] least = λ bytes items fits h. tt
 slots_keep (kept_slot form ∷ slots) least =
-    both_keep (SpellsForm plain form) (SpellsSlots plain slots) (λ xs ys. xs ++ ys) (form_bytes form) (slots_bytes slots) (slots_bytes (kept_slot form ∷ slots)) (λ bytes xs ys h. let g = form_gives form bytes xs h in kept_bytes form slots xs ys g.count) (forms_keep form) (slots_keep slots least)
+    both_keep (SpellsForm plain form) (SpellsSlots plain slots) (λ xs ys. xs ++ ys) (form_bytes form) (slots_bytes slots) (slots_bytes (kept_slot form ∷ slots))
+    (λ bytes xs ys h. let g = form_gives form bytes xs h in kept_bytes form slots xs ys g.count) (forms_keep form) (slots_keep slots least)
 slots_keep (reserved_slot form constant ∷ slots) least =
     let b = both_true (is_least form constant) (are_least slots) least in
-    both_keep (SpellsReserved plain form constant) (SpellsSlots plain slots) (λ xs ys. xs ++ ys) (λ items. form_bytes form constant) (slots_bytes slots) (slots_bytes (reserved_slot form constant ∷ slots))
-    (λ bytes xs ys h. ap (λ zs. form_bytes form constant ++ slots_bytes slots (zs ++ ys)) h.none) (λ bytes items fits h. constant_all form constant b.0) (slots_keep slots b.1)
+    both_keep (SpellsReserved plain form constant) (SpellsSlots plain slots) (λ xs ys. xs ++ ys)
+    (λ items. form_bytes form constant) (slots_bytes slots) (slots_bytes (reserved_slot form constant ∷ slots))
+    (λ bytes xs ys h. ap (λ zs. form_bytes form constant ++ slots_bytes slots (zs ++ ys)) h.none)
+    (λ bytes items fits h. constant_all form constant b.0) (slots_keep slots b.1)
 
 -- ---- payloads
 
@@ -227,9 +258,11 @@ payloads_keep : Keeps (SpellsPayload plain) payload_bytes
 payloads_keep bytes m fits h =
     let least = (in_table m.class m.id h.slots h.known).least in
     let tail = along bytes (h.class_bytes ++ (h.id_bytes ++ h.slot_bytes)) h.bytes_are fits in
-    let slots = slots_keep h.slots least h.slot_bytes m.items (all_back h.id_bytes h.slot_bytes (all_back h.class_bytes (h.id_bytes ++ h.slot_bytes) tail)) h.slots_are in
+    let slots =
+    slots_keep h.slots least h.slot_bytes m.items (all_back h.id_bytes h.slot_bytes (all_back h.class_bytes (h.id_bytes ++ h.slot_bytes) tail)) h.slots_are in
     let method = number_bytes bytes2 m.id ++ slots_bytes h.slots m.items in
-    along (number_bytes bytes2 m.class ++ method) (payload_bytes m) (sym (payload_of_slots m h.slots h.known)) (all_both (number_bytes bytes2 m.class) method (number_all bytes2 m.class) (all_both (number_bytes bytes2 m.id) (slots_bytes h.slots m.items) (number_all bytes2 m.id) slots))
+    along (number_bytes bytes2 m.class ++ method) (payload_bytes m) (sym (payload_of_slots m h.slots h.known)) (all_both (number_bytes bytes2 m.class) method
+    (number_all bytes2 m.class) (all_both (number_bytes bytes2 m.id) (slots_bytes h.slots m.items) (number_all bytes2 m.id) slots))
 
 optional_keeps : (present : Bool) (form : Form) → gives_one form ≡ true → Keeps (SpellsOptional plain present form) (optional_bytes form)
 unfolding optional_bytes
@@ -241,39 +274,53 @@ unfolding set_bytes
 sets_keep mask [] one = λ bytes options fits h. tt
 sets_keep mask (p ∷ ps) one =
     let b = both_true (gives_one p.form) (give_one ps) one in
-    both_keep (SpellsOptional plain (flag_at mask p.bit) p.form) (SpellsSet plain mask ps) (λ option options. option ∷ options) (optional_bytes p.form) (set_bytes ps) (set_bytes (p ∷ ps)) (λ bytes option options h. refl) (optional_keeps (flag_at mask p.bit) p.form b.0) (sets_keep mask ps b.1)
+    both_keep (SpellsOptional plain (flag_at mask p.bit) p.form) (SpellsSet plain mask ps) (λ option options. option ∷ options) (optional_bytes p.form)
+    (set_bytes ps) (set_bytes (p ∷ ps)) (λ bytes option options h. refl) (optional_keeps (flag_at mask p.bit) p.form b.0) (sets_keep mask ps b.1)
 
 properties_keep : Keeps (SpellsProperties plain) properties_bytes
 unfolding properties_bytes form_bytes
 properties_keep bytes options fits h =
-    all_both (number_bytes bytes2 (mask_of properties options)) (set_bytes properties options) (number_all bytes2 (mask_of properties options)) (sets_keep h.mask properties one_each h.behind options (all_back (number_bytes bytes2 h.mask) h.behind (along bytes _ h.bytes_are fits)) h.set)
+    all_both (number_bytes bytes2 (mask_of properties options)) (set_bytes properties options) (number_all bytes2 (mask_of properties options))
+    (sets_keep h.mask properties one_each h.behind options (all_back (number_bytes bytes2 h.mask) h.behind (along bytes _ h.bytes_are fits)) h.set)
 
 parts_all : (class size : ℕ) → All (slots_bytes header_slots (number_item class ∷ number_item size ∷ []))
 unfolding header_slots slots_bytes form_bytes
 parts_all class size =
     let last = number_bytes bytes8 size ++ [] in
-    all_both (number_bytes bytes2 class) (number_bytes bytes2 0 ++ last) (number_all bytes2 class) (all_both (number_bytes bytes2 0) last (number_all bytes2 0) (all_both (number_bytes bytes8 size) [] (number_all bytes8 size) tt))
+    all_both (number_bytes bytes2 class) (number_bytes bytes2 0 ++ last) (number_all bytes2 class)
+    (all_both (number_bytes bytes2 0) last (number_all bytes2 0) (all_both (number_bytes bytes8 size) [] (number_all bytes8 size) tt))
 
 headers_keep : Keeps (SpellsContentHeader plain) content_header_bytes
 unfolding content_header_bytes
 headers_keep bytes header fits h =
     let set = properties_keep h.behind h.two (all_back h.front h.behind (along bytes (h.front ++ h.behind) h.bytes_are fits)) h.second_is in
     let same : header.options ≡ h.two = ap (λ (x : ContentHeader). x.options) h.joined ∙ options_are h.one h.two in
-    all_both (slots_bytes header_slots (header_items header)) (properties_bytes header.options) (parts_all header.class_id header.body_size) (subst (λ (os : List (Option Item)). All (properties_bytes os)) (sym same) set)
+    all_both (slots_bytes header_slots (header_items header)) (properties_bytes header.options)
+    (parts_all header.class_id header.body_size) (subst (λ (os : List (Option Item)). All (properties_bytes os)) (sym same) set)
 
 -- ---- frames
 
 framed_all : (type channel : ℕ) (payload : List ℕ) → type < 256 → All payload → All (framed type channel payload)
-framed_all type channel payload low h = (low, all_both (number_bytes bytes2 channel ++ number_bytes bytes4 (length payload)) (payload ++ 206 ∷ []) (all_both (number_bytes bytes2 channel) (number_bytes bytes4 (length payload)) (number_all bytes2 channel) (number_all bytes4 (length payload))) (all_both payload (206 ∷ []) h (omega arith, tt)))
+framed_all type channel payload low h = (
+  low,
+  all_both (number_bytes bytes2 channel ++ number_bytes bytes4 (length payload)) (payload ++ 206 ∷ [])
+      (all_both (number_bytes bytes2 channel) (number_bytes bytes4 (length payload)) (number_all bytes2 channel) (number_all bytes4 (length payload)))
+      (all_both payload (206 ∷ []) h (omega arith, tt)),
+)
 
 framed_inner : (bytes payload : List ℕ) (type channel : ℕ) → All bytes → IsFramed bytes type channel payload → All payload
-framed_inner bytes payload type channel fits h = all_front payload (206 ∷ []) (all_back (number_bytes bytes2 channel ++ number_bytes bytes4 (length payload)) (payload ++ 206 ∷ []) (along bytes (framed type channel payload) h.bytes_are fits).1)
+framed_inner bytes payload type channel fits h =
+    all_front payload (206 ∷ []) (all_back (number_bytes bytes2 channel ++ number_bytes bytes4 (length payload))
+    (payload ++ 206 ∷ []) (along bytes (framed type channel payload) h.bytes_are fits).1)
 
 frames_keep : Keeps (Spells plain) canon
 unfolding canon
 frames_keep bytes (Proto major minor revision) fits h = along bytes _ h fits
-frames_keep bytes (Meth channel m) fits h = framed_all 1 channel (payload_bytes m) (omega arith) (payloads_keep h.payload m (framed_inner bytes h.payload 1 channel fits h.is_framed) h.spelled)
-frames_keep bytes (Head channel header) fits h = framed_all 2 channel (content_header_bytes header) (omega arith) (headers_keep h.payload header (framed_inner bytes h.payload 2 channel fits h.is_framed) h.spelled)
+frames_keep bytes (Meth channel m) fits h =
+    framed_all 1 channel (payload_bytes m) (omega arith) (payloads_keep h.payload m (framed_inner bytes h.payload 1 channel fits h.is_framed) h.spelled)
+frames_keep bytes (Head channel header) fits h =
+    framed_all 2 channel (content_header_bytes header) (omega arith)
+    (headers_keep h.payload header (framed_inner bytes h.payload 2 channel fits h.is_framed) h.spelled)
 frames_keep bytes (Body channel content) fits h = along bytes (framed 3 channel content) h.bytes_are fits
 frames_keep bytes Beat fits h = framed_all 8 0 [] (omega arith) tt
 frames_keep bytes (BadBeat channel) fits h = framed_all 8 channel [] (omega arith) tt
@@ -284,5 +331,6 @@ sequences_keep m bytes (f ∷ fs) fits h =
     let parts = along bytes (h.0 ++ h.1) h.2 fits in
     all_both (canon f) (canon_frames fs) (frames_keep h.0 f (all_front h.0 h.1 parts) h.3) (sequences_keep m h.1 fs (all_back h.0 h.1 parts) h.5)
 
+-- The canonical bytes of frames that some bytes encode are bytes.
 pub canonical_bytes : (m : Option ℕ) (bytes : List ℕ) (frames : List Frame) → IsBytes bytes → SpellsFrames plain m bytes frames → IsBytes (canon_frames frames)
 canonical_bytes m bytes frames fits h = are_bytes (canon_frames frames) (sequences_keep m bytes frames (all_bytes bytes fits) h)

@@ -1,5 +1,6 @@
 -- Valid text ends well, but for memory that runs out.
-use Rattle.std.proofs.Common.{◌≡◌, ◌≢◌, ℕ, List, [], ◌∷◌, ◌++◌, length, drop, Option, Some, None, Result, Ok, Err, refl, sym, ap, subst, ◌∙◌, inl, inr, append_assoc, append-nil, arith}
+use Rattle.std.proofs.Common.{◌≡◌, ◌≢◌, ℕ, List, [], ◌∷◌, ◌++◌, length, drop, Option, Some, None, Result, Ok, Err, refl, sym, ap, subst, ◌∙◌, inl, inr}
+use Rattle.std.proofs.Common.{append_assoc, append-nil, arith}
 use Rattle.std.specs.List.{flat_map}
 use Rattle.std.proofs.lemmas.List.{length-append}
 use Rattle.amqp_wire.specs.Frames.{Frame}
@@ -42,7 +43,8 @@ at_none_more m rest more holds none f x good e = elim (first_or rest) [
       let first = h.is_first in
       let tail = drop h.end rest in
       let whole = first_line rest h.end first in
-      let same = line_first f first.front x (tail ++ more) first.none_before (e ∙ ap (λ (xs : List ℕ). xs ++ more) whole ∙ append_assoc first.front (10 ∷ tail) more) in
+      let same =
+      line_first f first.front x (tail ++ more) first.none_before (e ∙ ap (λ (xs : List ℕ). xs ++ more) whole ∙ append_assoc first.front (10 ∷ tail) more) in
       none f tail good (ap (λ (xs : List ℕ). xs ++ tail) same.0 ∙ append_assoc first.front (10 ∷ []) tail ∙ sym whole)
 ]
 
@@ -64,35 +66,44 @@ none_cut m rest some none h = by_frames h.frames h.good h.is
 
 -- ---- a source that reports its bytes
 
+-- a source that had some bytes and gave those that were taken has the others left
 pub record Left (bytes taken : List ℕ) (left : Option (List ℕ)) : Type 0 where
   pub more : List ℕ
   pub parts : bytes ≡ taken ++ more
   pub is : left ≡ Some more
 
+-- Where a source reports all of its bytes, those that were not taken yet are left.
 pub left_of : (bytes taken : List ℕ) (left : Option (List ℕ)) → Some bytes ≡ prepended taken left → Left bytes taken left
 left_of bytes taken None h = absurd cc
 left_of bytes taken (Some more) h = record { more = more; parts = cc; is = refl }
 
+-- Where a source has nothing left, what is left is empty.
 pub empty_left : (left : Option (List ℕ)) (more : List ℕ) → left ≡ Some more → IsEmpty left → more ≡ []
 empty_left left more is empty = subst (λ (o : Option (List ℕ)). IsEmpty o) is empty
 
-after_text : (m : ℕ) (bytes taken more rest : List ℕ) (frames valid : List Frame) → AreStrict m valid → bytes ≡ lines valid → bytes ≡ taken ++ more → taken ≡ lines frames ++ rest → Others m (rest ++ more)
+after_text : (m : ℕ) (bytes taken more rest : List ℕ) (frames valid : List Frame) → AreStrict m valid
+    → bytes ≡ lines valid → bytes ≡ taken ++ more → taken ≡ lines frames ++ rest → Others m (rest ++ more)
 after_text m bytes taken more rest frames valid strict text parts is =
-    others m frames valid (rest ++ more) (all_strict m valid strict) (sym text ∙ parts ∙ ap (λ (xs : List ℕ). xs ++ more) is ∙ append_assoc (lines frames) rest more)
+    others m frames valid (rest ++ more) (all_strict m valid strict)
+    (sym text ∙ parts ∙ ap (λ (xs : List ℕ). xs ++ more) is ∙ append_assoc (lines frames) rest more)
 
-pub complete : {m turns : ℕ} {a b : Supply} {k l : Store} {r : Result (Unit {0}) UndumpError} (bytes : List ℕ) → Undumps m turns a b k l r → a.left ≡ Some bytes → IsValidText m turns bytes → NoFaults a b k l → IsOkOrNoMemory r
-complete {m = m} {turns = turns} {a = a} {b = b} {k = k} {l = l} {r = r} bytes run left valid faults = by_answer r run
+-- Over a source that reports the bytes of a valid text, without faults of source or sink, the call returns no error but out of memory.
+pub complete : {m budget : ℕ} {a b : Supply} {k l : Store} {r : Result (Unit {0}) UndumpError} (bytes : List ℕ)
+    → Undumps m budget a b k l r → a.left ≡ Some bytes → IsValidText m budget bytes → NoFaults a b k l → IsOkOrNoMemory r
+complete {m = m} {budget = budget} {a = a} {b = b} {k = k} {l = l} {r = r} bytes run left valid faults = by_answer r run
   where
-    by_answer : (r : Result (Unit {0}) UndumpError) → Undumps m turns a b k l r → IsOkOrNoMemory r
+    by_answer : (r : Result (Unit {0}) UndumpError) → Undumps m budget a b k l r → IsOkOrNoMemory r
     by_answer (Ok done) u = tt
     by_answer (Err errors.NoMemory) u = tt
     by_answer (Err errors.BadText) u =
         let is = left_of bytes u.taken b.left (sym left ∙ u.takes.bytes) in
-        none_held m u.rest is.more u.cause (at_none m u.taken u.frames u.rest u.text) (after_text m bytes u.taken is.more u.rest u.frames valid.frames valid.are_strict valid.is_text is.parts u.text.parts)
+        none_held m u.rest is.more u.cause (at_none m u.taken u.frames u.rest u.text)
+        (after_text m bytes u.taken is.more u.rest u.frames valid.frames valid.are_strict valid.is_text is.parts u.text.parts)
     by_answer (Err errors.CutShort) u =
         let is = left_of bytes u.taken b.left (sym left ∙ u.takes.bytes) in
         let after = after_text m bytes u.taken is.more u.rest u.frames valid.frames valid.are_strict valid.is_text is.parts u.text.parts in
-        none_cut m u.rest u.cause.0 (at_none m u.taken u.frames u.rest u.text) (subst (λ (xs : List ℕ). Others m (u.rest ++ xs)) (empty_left b.left is.more is.is u.cause.2) after)
+        none_cut m u.rest u.cause.0 (at_none m u.taken u.frames u.rest u.text)
+        (subst (λ (xs : List ℕ). Others m (u.rest ++ xs)) (empty_left b.left is.more is.is u.cause.2) after)
     by_answer (Err errors.TurnsSpent) u =
         let is = left_of bytes u.taken b.left (sym left ∙ u.takes.bytes) in
         omega (arith, valid.enough, u.cause.0, ap length is.parts, length-append u.taken is.more)

@@ -1,5 +1,6 @@
 -- Whether a text is the line of a frame can be decided, and so some sequence of lines in front of a text is the longest.
-use Rattle.std.proofs.Common.{◌≡◌, ◌≢◌, ◌⊎◌, ℕ, zero, suc, ◌+◌, ◌-◌, ◌≤◌, Bool, true, false, List, [], ◌∷◌, ◌++◌, length, take, drop, Some, refl, sym, ap, subst, ◌∙◌, inl, inr, append_assoc, arith}
+use Rattle.std.proofs.Common.{◌≡◌, ◌≢◌, ◌⊎◌, ℕ, zero, suc, ◌+◌, ◌-◌, ◌≤◌, Bool, true, false, List, [], ◌∷◌, ◌++◌, length, take, drop, Some, refl, sym, ap}
+use Rattle.std.proofs.Common.{subst, ◌∙◌, inl, inr, append_assoc, arith}
 use Rattle.std.specs.Str.{bytes_eq}
 use Rattle.std.proofs.lemmas.Bool.{cases_lt}
 use Rattle.std.proofs.lemmas.List.{length-append, length-drop, take_at, take-append-drop}
@@ -27,13 +28,17 @@ use Rattle.amqp_lines.proofs.CanonBytes.{one_byte}
 
 -- ---- what is read of a line
 
+-- a frame, borrowed from its own canonical payload
 abbrev pub raw_in : Frame → Raw
 raw_in f = record { kind = kind_of f; channel = channel_id_of f; payload = payload_of f }
 
 words_in : (f : Frame) (text : List ℕ) → text ≡ line f → take (length text - 1) text ≡ words f
 unfolding line
-words_in f text e = ap (λ (xs : List ℕ). take (length xs - 1) xs) e ∙ take_at (words f) (10 ∷ []) (length (words f ++ 10 ∷ []) - 1) (omega (arith, length-append (words f) (10 ∷ [])))
+words_in f text e =
+    ap (λ (xs : List ℕ). take (length xs - 1) xs) e
+    ∙ take_at (words f) (10 ∷ []) (length (words f ++ 10 ∷ []) - 1) (omega (arith, length-append (words f) (10 ∷ [])))
 
+-- What is read of the words of a strict frame's line is the frame's kind, channel and canonical payload.
 pub line_back : (f : Frame) (text : List ℕ) → IsStrict f → text ≡ line f → read_words (take (length text - 1) text) ≡ raw_in f
 line_back f text h e = ap read_words (words_in f text e) ∙ strict_back f h
 
@@ -70,15 +75,21 @@ judged_line m text f good e = ap raw_bytes (line_back f text good.is_strict e) �
 verdict_line : (m : ℕ) (f : Frame) → IsStrictWithin m f → verdict strict (Some m) (canon f) ≡ took f (length (canon f))
 verdict_line m f good = verdict-spelled strict (Some m) (canon f) f good.is_strict.encodes good.within
 
-by_verdict : (m : ℕ) (text : List ℕ) (v : Judged Frame) → verdict strict (Some m) (raw_bytes (read_words (take (length text - 1) text))) ≡ v → IsALine m text ⊎ IsNoLine m text
+by_verdict : (m : ℕ) (text : List ℕ) (v : Judged Frame)
+    → verdict strict (Some m) (raw_bytes (read_words (take (length text - 1) text))) ≡ v → IsALine m text ⊎ IsNoLine m text
 by_verdict m text past h = inr (λ f good e. absurd (let x = sym h ∙ ap (verdict strict (Some m)) (judged_line m text f good e) ∙ verdict_line m f good in cc))
-by_verdict m text (fault bad) h = inr (λ f good e. absurd (let x = sym h ∙ ap (verdict strict (Some m)) (judged_line m text f good e) ∙ verdict_line m f good in cc))
+by_verdict m text (fault bad) h =
+    inr (λ f good e. absurd (let x = sym h ∙ ap (verdict strict (Some m)) (judged_line m text f good e) ∙ verdict_line m f good in cc))
 by_verdict m text (took g n) h =
     let bytes = raw_bytes (read_words (take (length text - 1) text)) in
     elim (bytes_or bytes) [
       | inr never ↦ inr (λ f good e. absurd (never (subst (λ (bs : List ℕ). IsBytes bs) (sym (judged_line m text f good e)) good.is_strict.are_bytes)))
       | inl fits ↦ elim (same_or text (line g)) [
-        | inr different ↦ inr (λ f good e. absurd (different (e ∙ ap line (value_took f g (length (canon f)) n (sym (verdict_line m f good) ∙ ap (verdict strict (Some m)) (sym (judged_line m text f good e)) ∙ h)))))
+        | inr different ↦
+            inr (λ f good e.
+            absurd (different (e
+            ∙ ap line
+            (value_took f g (length (canon f)) n (sym (verdict_line m f good) ∙ ap (verdict strict (Some m)) (sym (judged_line m text f good e)) ∙ h)))))
         | inl same ↦
             let spelled = verdict-spells strict (Some m) bytes g n fits h in
             let is = first_is_canon (take n bytes) g spelled.0 in
@@ -86,7 +97,8 @@ by_verdict m text (took g n) h =
             inl (record {
               frame = g;
               good = record {
-                is_strict = record { are_bytes = subst (λ (bs : List ℕ). IsBytes bs) is front; encodes = subst (λ (bs : List ℕ). Spells strict bs g) is spelled.0 };
+                is_strict =
+                    record { are_bytes = subst (λ (bs : List ℕ). IsBytes bs) is front; encodes = subst (λ (bs : List ℕ). Spells strict bs g) is spelled.0 };
                 within = subst (λ (bs : List ℕ). length bs ≤ m + 8) is spelled.1;
               };
               is_line = same;
@@ -100,12 +112,20 @@ decide_line m text = by_verdict m text (verdict strict (Some m) (raw_bytes (read
 -- ---- the first line of a text
 
 first_more : (c : ℕ) (text : List ℕ) (end : ℕ) → c ≢ 10 → IsFirstLine text end → IsFirstLine (c ∷ text) (suc end)
-first_more c text end differs h = record { front = c ∷ h.front; parts = ap (λ (xs : List ℕ). c ∷ xs) h.parts; none_before = (differs, h.none_before); some = omega arith; within = omega (arith, h.within) }
+first_more c text end differs h =
+    record {
+      front = c ∷ h.front;
+      parts = ap (λ (xs : List ℕ). c ∷ xs) h.parts;
+      none_before = (differs, h.none_before);
+      some = omega arith;
+      within = omega (arith, h.within);
+    }
 
 pub record HasFirstLine (text : List ℕ) : Type 0 where
   pub end : ℕ
   pub is_first : IsFirstLine text end
 
+-- A text has a first line, or it has no newline.
 pub first_or : (text : List ℕ) → HasFirstLine text ⊎ HasNoNewline text
 first_or [] = inr tt
 first_or (c ∷ cs) = elim (same_or (c ∷ []) (10 ∷ [])) [
@@ -120,6 +140,7 @@ first_or (c ∷ cs) = elim (same_or (c ∷ []) (10 ∷ [])) [
 
 -- ---- the longest text
 
+-- strict frames whose lines are in front of a text, and what follows them, which begins with no line
 pub record Fronts (m : ℕ) (text : List ℕ) : Type 0 where
   pub frames : List Frame
   pub rest : List ℕ
@@ -131,13 +152,16 @@ none_front : (m : ℕ) (text : List ℕ) → IsAtNone m text → Fronts m text
 unfolding lines
 none_front m text h = record { frames = []; rest = text; good = tt; parts = refl; none = h }
 
-unfoldable pub more_front : (m : ℕ) (text : List ℕ) (end : ℕ) (f : Frame) → IsStrictWithin m f → take end text ≡ line f → Fronts m (drop end text) → Fronts m text
+unfoldable pub more_front : (m : ℕ) (text : List ℕ) (end : ℕ) (f : Frame)
+    → IsStrictWithin m f → take end text ≡ line f → Fronts m (drop end text) → Fronts m text
 unfolding lines
 more_front m text end f good is h = record {
   frames = f ∷ h.frames;
   rest = h.rest;
   good = (good, h.good);
-  parts = sym (take-append-drop end text) ∙ ap (λ (xs : List ℕ). xs ++ drop end text) is ∙ ap (λ (xs : List ℕ). line f ++ xs) h.parts ∙ sym (append_assoc (line f) (lines h.frames) h.rest);
+  parts =
+      sym (take-append-drop end text) ∙ ap (λ (xs : List ℕ). xs ++ drop end text) is
+      ∙ ap (λ (xs : List ℕ). line f ++ xs) h.parts ∙ sym (append_assoc (line f) (lines h.frames) h.rest);
   none = h.none;
 }
 
@@ -150,10 +174,13 @@ fronts_by m zero text few = none_front m text (at_clean m text (none_in text few
 fronts_by m (suc n) text few = elim (first_or text) [
   | inr none ↦ none_front m text (at_clean m text none)
   | inl h ↦ elim (decide_line m (take h.end text)) [
-    | inl is ↦ more_front m text h.end is.frame is.good is.is_line (fronts_by m n (drop h.end text) (omega (arith, few, length-drop h.end text, h.is_first.some, h.is_first.within)))
+    | inl is ↦
+        more_front m text h.end is.frame is.good is.is_line
+        (fronts_by m n (drop h.end text) (omega (arith, few, length-drop h.end text, h.is_first.some, h.is_first.within)))
     | inr other ↦ none_front m text (at_other m text h.end h.is_first other)
   ]
 ]
 
+-- Each text is the lines of strict frames, and then what begins with no line.
 pub fronts_of : (m : ℕ) (text : List ℕ) → Fronts m text
 fronts_of m text = fronts_by m (length text) text (omega arith)

@@ -7,7 +7,7 @@ use Rattle.amqp_wire.specs.Fronts.{front}
 use Rattle.amqp_wire.specs.Verdicts.{whole}
 use Rattle.amqp_stream.specs.declared.errors.StreamError.{StreamError}
 use Rattle.amqp_stream.specs.declared.errors.StreamError.TheVariants as errors
-use Rattle.amqp_stream.specs.Errors.{Cause, faulty, cut_short, turns_spent, read_failed, write_failed, out_of_memory, cause_of}
+use Rattle.amqp_stream.specs.Errors.{Cause, faulty, cut_short, budget_spent, read_failed, write_failed, out_of_memory, cause_of}
 use Rattle.std.specs.Prelude.{IfErr}
 use Rattle.amqp_stream.specs.Ends.{Supply, Store}
 use Rattle.amqp_stream.specs.Writing.{Gathered, GatherFails}
@@ -30,21 +30,27 @@ use Rattle.amqp_lines.specs.Dumping.{dumping, WritesLines, DumpRun, IsDumpReport
 line_step : (s t : Unit {0}) (raw : Raw) (frame : Frame) → whole raw ≡ Ok frame → IsStep dumping s t raw (line frame)
 line_step s t raw frame is = record { frame = frame; is_whole = is; at_level = refl; steps = refl }
 
-pub line_gathered : (s t : Unit {0}) (raw : Raw) (text : List ℕ) (a b : Store) (before after : List ℕ) (done : Unit {0}) → PutsLine raw text (Ok done) → Gathered a b before after text → WritesBy dumping s t raw a b before after finished
-line_gathered s t raw text a b before after done h g = record { bytes = line h.0; step = line_step s t raw h.0 h.1; gathered = subst (λ (xs : List ℕ). Gathered a b before after xs) h.2 g }
+pub line_gathered : (s t : Unit {0}) (raw : Raw) (text : List ℕ) (a b : Store) (before after : List ℕ) (done : Unit {0})
+    → PutsLine raw text (Ok done) → Gathered a b before after text → WritesBy dumping s t raw a b before after finished
+line_gathered s t raw text a b before after done h g =
+    record { bytes = line h.0; step = line_step s t raw h.0 h.1; gathered = subst (λ (xs : List ℕ). Gathered a b before after xs) h.2 g }
 
-pub line_failed : (s t : Unit {0}) (raw : Raw) (text : List ℕ) (a b : Store) (before after : List ℕ) (done : Unit {0}) → PutsLine raw text (Ok done) → GatherFails a b before after text → WritesBy dumping s t raw a b before after (stopped_by write_failed)
-line_failed s t raw text a b before after done h g = record { bytes = line h.0; next = t; step = line_step s t raw h.0 h.1; failed = subst (λ (xs : List ℕ). GatherFails a b before after xs) h.2 g }
+pub line_failed : (s t : Unit {0}) (raw : Raw) (text : List ℕ) (a b : Store) (before after : List ℕ) (done : Unit {0})
+    → PutsLine raw text (Ok done) → GatherFails a b before after text → WritesBy dumping s t raw a b before after (stopped_by write_failed)
+line_failed s t raw text a b before after done h g =
+    record { bytes = line h.0; next = t; step = line_step s t raw h.0 h.1; failed = subst (λ (xs : List ℕ). GatherFails a b before after xs) h.2 g }
 
-unrendered_by : (s t : Unit {0}) (raw : Raw) (a : Store) (before : List ℕ) (cause : Cause) → HasNoLine raw cause → WritesBy dumping s t raw a a before before (stopped_by cause)
+unrendered_by : (s t : Unit {0}) (raw : Raw) (a : Store) (before : List ℕ) (cause : Cause)
+    → HasNoLine raw cause → WritesBy dumping s t raw a a before before (stopped_by cause)
 unrendered_by s t raw a before (faulty bad) h = (h, kept a before before refl, refl)
 unrendered_by s t raw a before out_of_memory h = (refl, kept a before before refl)
 unrendered_by s t raw a before write_failed h = absurd h
 unrendered_by s t raw a before cut_short h = absurd h
-unrendered_by s t raw a before turns_spent h = absurd h
+unrendered_by s t raw a before budget_spent h = absurd h
 unrendered_by s t raw a before read_failed h = absurd h
 
-pub line_unrendered : (s t : Unit {0}) (raw : Raw) (text : List ℕ) (a : Store) (before : List ℕ) (error : StreamError) → PutsLine raw text (Err error) → WritesBy dumping s t raw a a before before (stopped_by (cause_of error))
+pub line_unrendered : (s t : Unit {0}) (raw : Raw) (text : List ℕ) (a : Store) (before : List ℕ) (error : StreamError)
+    → PutsLine raw text (Err error) → WritesBy dumping s t raw a a before before (stopped_by (cause_of error))
 line_unrendered s t raw text a before error h = unrendered_by s t raw a before (cause_of error) h
 
 -- ---- the text of frames
@@ -59,6 +65,7 @@ unfolding refused
 none_refused [] = refl
 none_refused (f ∷ fs) = none_refused fs
 
+-- What dumping writes for frames are their lines, one after another, and it refuses none.
 pub writes_lines : WritesLines
 writes_lines = record { text_is = lines_text; none_refused = none_refused }
 
@@ -69,13 +76,15 @@ welcome m bytes = record { none_refused = none_refused (front plain (Some m) byt
 
 -- a call that ran, or never began
 abbrev pub RanOrNever : {S K : Type 0} → (S → Supply) → (K → Store) → ℕ → ℕ → S → S → K → K → Result (Unit {0}) StreamError → Type 0
-RanOrNever supply store m turns source source' sink sink' r =
-    WriterRun dumping tt tt supply store m turns source source' sink sink' (as_run r) ⊎ NeverRan {T = Unit {0}} tt tt source source' sink sink' (as_run {E = Infallible} r)
+RanOrNever supply store m budget source source' sink sink' r =
+    WriterRun dumping tt tt supply store m budget source source' sink sink' (as_run r)
+    ⊎ NeverRan {T = Unit {0}} tt tt source source' sink sink' (as_run {E = Infallible} r)
 
 ending_is : (r : Result (Unit {0}) StreamError) (error : StreamError) → r ≡ Err error → ending_of {E = Infallible} (as_run r) ≡ stopped_by (cause_of error)
 ending_is r error e = ap (λ x. ending_of (as_run x)) e
 
-never_untidy : {S K : Type 0} {supply : S → Supply} {store : K → Store} {m turns : ℕ} {source source' : S} {sink sink' : K} (r : Result (Unit {0}) StreamError) → RanOrNever supply store m turns source source' sink sink' r → r ≢ Err errors.NotTidy
+never_untidy : {S K : Type 0} {supply : S → Supply} {store : K → Store} {m budget : ℕ} {source source' : S} {sink sink' : K} (r : Result (Unit {0}) StreamError)
+    → RanOrNever supply store m budget source source' sink sink' r → r ≢ Err errors.NotTidy
 never_untidy r (inl run) e = run.stream.tidy_only (ending_is r errors.NotTidy e)
 never_untidy r (inr none) e = let other = sym (ending_is r errors.NotTidy e) ∙ ap ending_of none.0.no_memory in absurd cc
 
@@ -83,12 +92,15 @@ done_or_wanting : (r : Result (Unit {0}) StreamError) → IsDoneOrWanting (endin
 done_or_wanting (Ok done) h = tt
 done_or_wanting (Err error) h = h
 
-dump_by : {S K : Type 0} {supply : S → Supply} {store : K → Store} {m turns : ℕ} {source source' : S} {sink sink' : K} (r : Result (Unit {0}) StreamError) → WriterRun dumping tt tt supply store m turns source source' sink sink' (as_run r) → DumpRun supply store m turns source source' sink sink' r
-dump_by {m = m} r run = run_by (λ goes. goes) (stream_error r errors.TurnsSpent) (λ bytes exact. exact) (λ bytes valid. (valid, welcome m bytes)) (λ goes. done_or_wanting r) run
+dump_by : {S K : Type 0} {supply : S → Supply} {store : K → Store} {m budget : ℕ} {source source' : S} {sink sink' : K} (r : Result (Unit {0}) StreamError)
+    → WriterRun dumping tt tt supply store m budget source source' sink sink' (as_run r) → DumpRun supply store m budget source source' sink sink' r
+dump_by {m = m} r run =
+    run_by (λ goes. goes) (stream_error r errors.TurnsSpent) (λ bytes exact. exact) (λ bytes valid. (valid, welcome m bytes)) (λ goes. done_or_wanting r) run
 
 -- ---- its report
 
-report_of : (m : ℕ) (a b : Supply) (r : Result (Unit {0}) (RunReport StreamError)) → IfErr (as_run_report {E = Infallible} r) (IsReportBy dumping tt m a b) → IfErr r (IsDumpReport m a b)
+report_of : (m : ℕ) (a b : Supply) (r : Result (Unit {0}) (RunReport StreamError))
+    → IfErr (as_run_report {E = Infallible} r) (IsReportBy dumping tt m a b) → IfErr r (IsDumpReport m a b)
 report_of m a b (Ok done) h = tt
 report_of m a b (Err report) h = record {
   taken = h.taken;
@@ -106,17 +118,27 @@ report_of m a b (Err report) h = record {
 
 -- a call that ran, or never began, with its report
 abbrev pub ReportedOrNever : {S K : Type 0} → (S → Supply) → (K → Store) → ℕ → ℕ → S → S → K → K → Result (Unit {0}) (RunReport StreamError) → Type 0
-ReportedOrNever supply store m turns source source' sink sink' r =
-    WriterReport dumping tt tt supply store m turns source source' sink sink' (as_run_report r) ⊎ NeverRanReport {T = Unit {0}} tt tt source source' sink sink' (as_run_report {E = Infallible} r)
+ReportedOrNever supply store m budget source source' sink sink' r =
+    WriterReport dumping tt tt supply store m budget source source' sink sink' (as_run_report r)
+    ⊎ NeverRanReport {T = Unit {0}} tt tt source source' sink sink' (as_run_report {E = Infallible} r)
 
-error_alone : {S K : Type 0} {supply : S → Supply} {store : K → Store} {m turns : ℕ} {source source' : S} {sink sink' : K} (r : Result (Unit {0}) (RunReport StreamError)) → ReportedOrNever supply store m turns source source' sink sink' r → RanOrNever supply store m turns source source' sink sink' (unreported r)
+error_alone : {S K : Type 0} {supply : S → Supply} {store : K → Store} {m budget : ℕ}
+    {source source' : S} {sink sink' : K} (r : Result (Unit {0}) (RunReport StreamError))
+    → ReportedOrNever supply store m budget source source' sink sink' r → RanOrNever supply store m budget source source' sink sink' (unreported r)
 error_alone r (inl run) = inl (rw unreported_as_run at run.0)
 error_alone r (inr never) = inr (rw unreported_as_run at never.0)
 
-pub untidy_never : {S K : Type 0} {supply : S → Supply} {store : K → Store} {m turns : ℕ} {source source' : S} {sink sink' : K} (r : Result (Unit {0}) (RunReport StreamError)) → ReportedOrNever supply store m turns source source' sink sink' r → unreported r ≢ Err errors.NotTidy
+-- No dump ends with the error that an encoding is not tidy.
+pub untidy_never : {S K : Type 0} {supply : S → Supply} {store : K → Store} {m budget : ℕ}
+    {source source' : S} {sink sink' : K} (r : Result (Unit {0}) (RunReport StreamError))
+    → ReportedOrNever supply store m budget source source' sink sink' r → unreported r ≢ Err errors.NotTidy
 untidy_never r h = never_untidy (unreported r) (error_alone r h)
 
-pub dump_report : {S K : Type 0} {supply : S → Supply} {store : K → Store} {m turns : ℕ} {source source' : S} {sink sink' : K} (r : Result (Unit {0}) (RunReport StreamError)) → ReportedOrNever supply store m turns source source' sink sink' r
-    → DumpReport supply store m turns source source' sink sink' r ⊎ NeverBeganReport source source' sink sink' errors.NoMemory r
-dump_report {supply = supply} {m = m} {source = source} {source' = source'} r (inl run) = inl (dump_by (unreported r) (rw unreported_as_run at run.0), report_of m (supply source) (supply source') r run.1)
+-- A dump with its report writes the lines of its stream and reports where it ended, or never began, out of memory.
+pub dump_report : {S K : Type 0} {supply : S → Supply} {store : K → Store} {m budget : ℕ}
+    {source source' : S} {sink sink' : K} (r : Result (Unit {0}) (RunReport StreamError))
+    → ReportedOrNever supply store m budget source source' sink sink' r
+    → DumpReport supply store m budget source source' sink sink' r ⊎ NeverBeganReport source source' sink sink' errors.NoMemory r
+dump_report {supply = supply} {m = m} {source = source} {source' = source'} r (inl run) =
+    inl (dump_by (unreported r) (rw unreported_as_run at run.0), report_of m (supply source) (supply source') r run.1)
 dump_report r (inr never) = inr (never_began_report r never)

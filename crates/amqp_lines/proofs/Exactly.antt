@@ -5,7 +5,9 @@ use Rattle.amqp_wire.specs.Canonical.{canon_frames}
 use Rattle.amqp_stream.specs.Ends.{Supply, Store}
 use Rattle.amqp_stream.specs.Writing.{IsPrefix}
 use Rattle.amqp_lines.specs.Lines.{lines}
-use Rattle.amqp_lines.specs.Undumping.{HoldsNewline, IsLongestText, Undumps, IsAnswerToText, UndumpsExactly, UndumpRun}
+use Rattle.amqp_lines.specs.LineReading.{Decides}
+use Rattle.amqp_lines.specs.Undumping.{HoldsNewline, IsLongestText, HasCauseUndumped, HasWrittenUndumped, Undumps, IsAnswerToText, UndumpsExactly, UndumpRun}
+use Rattle.amqp_lines.specs.declared.report.LinePlace.{LinePlace}
 use Rattle.amqp_lines.specs.declared.errors.UndumpError.{UndumpError}
 use Rattle.amqp_lines.specs.declared.errors.UndumpError.TheVariants as errors
 use Rattle.amqp_lines.proofs.TextFronts.{all_strict, is_longest}
@@ -15,23 +17,86 @@ use Rattle.amqp_lines.proofs.Undumps.{never_began}
 use Rattle.amqp_lines.proofs.Completing.{complete, at_none_more, Left, left_of, empty_left}
 
 -- a newline after the longest text ends it, whatever comes
-longest_more : (m : ℕ) (bytes more : List ℕ) (frames : List Frame) (rest : List ℕ) → HoldsNewline rest → IsLongestText m bytes frames rest → IsLongestText m (bytes ++ more) frames (rest ++ more)
+pub longest_more : (m : ℕ) (bytes more : List ℕ) (frames : List Frame) (rest : List ℕ) → HoldsNewline rest
+    → IsLongestText m bytes frames rest → IsLongestText m (bytes ++ more) frames (rest ++ more)
 longest_more m bytes more frames rest holds h =
-    is_longest m (bytes ++ more) frames (rest ++ more) (all_strict m frames h.are_strict) (ap (λ (xs : List ℕ). xs ++ more) h.parts ∙ append_assoc (lines frames) rest more) (at_none_more m rest more holds (at_none m bytes frames rest h))
+    is_longest m (bytes ++ more) frames (rest ++ more) (all_strict m frames h.are_strict)
+    (ap (λ (xs : List ℕ). xs ++ more) h.parts ∙ append_assoc (lines frames) rest more) (at_none_more m rest more holds (at_none m bytes frames rest h))
 
 holds_more : (rest more : List ℕ) → HoldsNewline rest → HoldsNewline (rest ++ more)
-holds_more rest more h = record { front = h.front; back = h.back ++ more; parts = ap (λ (xs : List ℕ). xs ++ more) h.parts ∙ append_assoc h.front (10 ∷ h.back) more }
+holds_more rest more h =
+    record { front = h.front; back = h.back ++ more; parts = ap (λ (xs : List ℕ). xs ++ more) h.parts ∙ append_assoc h.front (10 ∷ h.back) more }
 
 -- a part of the canonical bytes is one of those with others after them
 prefix_more : (written : List ℕ) (fs gs : List Frame) → IsPrefix written (canon_frames fs) → IsPrefix written (canon_frames (fs ++ gs))
-prefix_more written fs gs h = (h.0 ++ canon_frames gs, sym (append_assoc written h.0 (canon_frames gs)) ∙ ap (λ (xs : List ℕ). xs ++ canon_frames gs) h.1 ∙ sym (canon_both fs gs))
+prefix_more written fs gs h =
+    (h.0 ++ canon_frames gs, sym (append_assoc written h.0 (canon_frames gs)) ∙ ap (λ (xs : List ℕ). xs ++ canon_frames gs) h.1 ∙ sym (canon_both fs gs))
 
 whole_part : (written all : List ℕ) → written ≡ all → IsPrefix written all
 whole_part written all e = ([], append-nil written ∙ e)
 
-module _ {m turns : ℕ} {a b : Supply} {k l : Store} (bytes : List ℕ) where
+-- ---- the longest text in what was taken
+
+-- where a write or memory failed, lines of more frames may follow those that were decided
+followed : {m budget : ℕ} {a b : Supply} {k l : Store} {now : LinePlace} (r : Result (Unit {0}) UndumpError) (d : Decides m budget a b k l now r)
+    → ((fs : List Frame) → IsPrefix d.written (canon_frames (d.frames ++ fs)) → HasWrittenUndumped (canon_frames (d.frames ++ fs)) d.written r)
+    → ((rest : List ℕ) → HasCauseUndumped budget d.taken rest a b k l r) → IsPrefix d.written (canon_frames d.frames) → Undumps m budget a b k l r
+followed {m = m} r d writes cause part =
+    let more = fronts_of m d.rest in
+    record {
+      taken = d.taken;
+      are_bytes = d.are_bytes;
+      reads = d.reads;
+      takes = d.takes;
+      at_most = d.at_most;
+      all_spent = d.all_spent;
+      frames = d.frames ++ more.frames;
+      rest = more.rest;
+      text =
+          subst (λ (xs : List ℕ). IsLongestText m xs (d.frames ++ more.frames) more.rest) (sym d.parts)
+          (longest_after m d.frames d.rest more.frames more.rest (all_strict m d.frames d.are_strict) (longest_is m d.rest more));
+      written = d.written;
+      gains = d.gains;
+      writes = writes more.frames (prefix_more d.written d.frames more.frames part);
+      cause = cause more.rest;
+      behind = d.behind;
+    }
+
+-- all of them were decided
+decided_all : {m budget : ℕ} {a b : Supply} {k l : Store} {now : LinePlace} (r : Result (Unit {0}) UndumpError) (d : Decides m budget a b k l now r)
+    → IsLongestText m d.taken d.frames d.rest → HasWrittenUndumped (canon_frames d.frames) d.written r → Undumps m budget a b k l r
+decided_all r d text writes = record {
+  taken = d.taken;
+  are_bytes = d.are_bytes;
+  reads = d.reads;
+  takes = d.takes;
+  at_most = d.at_most;
+  all_spent = d.all_spent;
+  frames = d.frames;
+  rest = d.rest;
+  text = text;
+  written = d.written;
+  gains = d.gains;
+  writes = writes;
+  cause = d.cause;
+  behind = d.behind;
+}
+
+undumps_of : {m budget : ℕ} {a b : Supply} {k l : Store} {now : LinePlace} (r : Result (Unit {0}) UndumpError)
+    → Decides m budget a b k l now r → Undumps m budget a b k l r
+undumps_of (Ok done) d = decided_all (Ok done) d d.decided d.writes
+undumps_of (Err errors.BadText) d = decided_all (Err errors.BadText) d d.decided d.writes
+undumps_of (Err errors.CutShort) d = decided_all (Err errors.CutShort) d d.decided d.writes
+undumps_of (Err errors.TurnsSpent) d = decided_all (Err errors.TurnsSpent) d d.decided d.writes
+undumps_of (Err errors.ReadFault) d = decided_all (Err errors.ReadFault) d d.decided d.writes
+undumps_of (Err errors.WriteFault) d = followed (Err errors.WriteFault) d (λ fs part. part) (λ rest. d.cause) d.writes
+undumps_of (Err errors.NoMemory) d =
+    followed (Err errors.NoMemory) d (λ fs part. part) (λ rest. tt) (whole_part d.written (canon_frames d.frames) d.writes)
+
+module _ {m budget : ℕ} {a b : Supply} {k l : Store} (bytes : List ℕ) where
   -- all bytes were taken
-  to_end : (r : Result (Unit {0}) UndumpError) (u : Undumps m turns a b k l r) → (is : Left bytes u.taken b.left) → is.more ≡ [] → IsAnswerToText (canon_frames u.frames) u.rest u.written r → UndumpsExactly m bytes k l r
+  to_end : (r : Result (Unit {0}) UndumpError) (u : Undumps m budget a b k l r) → (is : Left bytes u.taken b.left)
+      → is.more ≡ [] → IsAnswerToText (canon_frames u.frames) u.rest u.written r → UndumpsExactly m bytes k l r
   to_end r u is none answer = record {
     frames = u.frames;
     rest = u.rest;
@@ -42,55 +107,72 @@ module _ {m turns : ℕ} {a b : Supply} {k l : Store} (bytes : List ℕ) where
   }
 
   -- no more of the bytes is a text
-  to_newline : (u : Undumps m turns a b k l (Err errors.BadText)) → (is : Left bytes u.taken b.left) → UndumpsExactly m bytes k l (Err errors.BadText)
+  to_newline : (u : Undumps m budget a b k l (Err errors.BadText)) → (is : Left bytes u.taken b.left) → UndumpsExactly m bytes k l (Err errors.BadText)
   to_newline u is = record {
     frames = u.frames;
     rest = u.rest ++ is.more;
-    text = subst (λ (xs : List ℕ). IsLongestText m xs u.frames (u.rest ++ is.more)) (sym is.parts) (longest_more m u.taken is.more u.frames u.rest u.cause u.text);
+    text =
+        subst (λ (xs : List ℕ). IsLongestText m xs u.frames (u.rest ++ is.more)) (sym is.parts) (longest_more m u.taken is.more u.frames u.rest u.cause u.text);
     written = u.written;
     gains = u.gains;
     answer = (holds_more u.rest is.more u.cause, u.writes);
   }
 
   -- the call was stopped, and more of the bytes may be a text
-  stopped_at : (r : Result (Unit {0}) UndumpError) (u : Undumps m turns a b k l r) → (is : Left bytes u.taken b.left) → ((all rest : List ℕ) → IsPrefix u.written all → IsAnswerToText all rest u.written r) → IsPrefix u.written (canon_frames u.frames) → UndumpsExactly m bytes k l r
+  stopped_at : (r : Result (Unit {0}) UndumpError) (u : Undumps m budget a b k l r) → (is : Left bytes u.taken b.left)
+      → ((all rest : List ℕ) → IsPrefix u.written all → IsAnswerToText all rest u.written r)
+      → IsPrefix u.written (canon_frames u.frames) → UndumpsExactly m bytes k l r
   stopped_at r u is answer part =
       let h = fronts_of m (u.rest ++ is.more) in
-      let whole : bytes ≡ lines u.frames ++ (u.rest ++ is.more) = is.parts ∙ ap (λ (xs : List ℕ). xs ++ is.more) u.text.parts ∙ append_assoc (lines u.frames) u.rest is.more in
+      let whole : bytes ≡ lines u.frames ++ (u.rest ++ is.more) =
+      is.parts ∙ ap (λ (xs : List ℕ). xs ++ is.more) u.text.parts ∙ append_assoc (lines u.frames) u.rest is.more in
       record {
         frames = u.frames ++ h.frames;
         rest = h.rest;
-        text = subst (λ (xs : List ℕ). IsLongestText m xs (u.frames ++ h.frames) h.rest) (sym whole) (longest_after m u.frames (u.rest ++ is.more) h.frames h.rest (all_strict m u.frames u.text.are_strict) (longest_is m (u.rest ++ is.more) h));
+        text =
+            subst (λ (xs : List ℕ). IsLongestText m xs (u.frames ++ h.frames) h.rest) (sym whole)
+            (longest_after m u.frames (u.rest ++ is.more) h.frames h.rest (all_strict m u.frames u.text.are_strict) (longest_is m (u.rest ++ is.more) h));
         written = u.written;
         gains = u.gains;
         answer = answer (canon_frames (u.frames ++ h.frames)) h.rest (prefix_more u.written u.frames h.frames part);
       }
 
-  pub exactly : (r : Result (Unit {0}) UndumpError) → Undumps m turns a b k l r → a.left ≡ Some bytes → UndumpsExactly m bytes k l r
+  -- Over a source that reports its bytes, what is returned and written is determined by all of them.
+  pub exactly : (r : Result (Unit {0}) UndumpError) → Undumps m budget a b k l r → a.left ≡ Some bytes → UndumpsExactly m bytes k l r
   exactly r u left = by_answer r u (left_of bytes u.taken b.left (sym left ∙ u.takes.bytes))
     where
-      by_answer : (r : Result (Unit {0}) UndumpError) (u : Undumps m turns a b k l r) → Left bytes u.taken b.left → UndumpsExactly m bytes k l r
+      by_answer : (r : Result (Unit {0}) UndumpError) (u : Undumps m budget a b k l r) → Left bytes u.taken b.left → UndumpsExactly m bytes k l r
       by_answer (Ok done) u is = to_end (Ok done) u is (empty_left b.left is.more is.is u.cause.1) (u.cause.0, u.writes)
       by_answer (Err errors.BadText) u is = to_newline u is
       by_answer (Err errors.CutShort) u is = to_end (Err errors.CutShort) u is (empty_left b.left is.more is.is u.cause.2) (u.cause.0, u.cause.1, u.writes)
-      by_answer (Err errors.TurnsSpent) u is = stopped_at (Err errors.TurnsSpent) u is (λ all rest part. part) (whole_part u.written (canon_frames u.frames) u.writes)
-      by_answer (Err errors.ReadFault) u is = stopped_at (Err errors.ReadFault) u is (λ all rest part. part) (whole_part u.written (canon_frames u.frames) u.writes)
+      by_answer (Err errors.TurnsSpent) u is =
+          stopped_at (Err errors.TurnsSpent) u is (λ all rest part. part) (whole_part u.written (canon_frames u.frames) u.writes)
+      by_answer (Err errors.ReadFault) u is =
+          stopped_at (Err errors.ReadFault) u is (λ all rest part. part) (whole_part u.written (canon_frames u.frames) u.writes)
       by_answer (Err errors.WriteFault) u is = stopped_at (Err errors.WriteFault) u is (λ all rest part. part) u.writes
       by_answer (Err errors.NoMemory) u is = stopped_at (Err errors.NoMemory) u is (λ all rest part. part) u.writes
 
 -- ---- a whole call
 
-pub undump_run : {S K : Type 0} {supply : S → Supply} {store : K → Store} {m turns : ℕ} {source source' : S} {sink sink' : K} {r : Result (Unit {0}) UndumpError} → Undumps m turns (supply source) (supply source') (store sink) (store sink') r
-    → (turns ≡ 0 → source' ≡ source) → (turns ≡ 0 → sink' ≡ sink) → (turns ≡ 0 → (r ≡ Err errors.TurnsSpent) ⊎ (r ≡ Err errors.NoMemory)) → UndumpRun supply store m turns source source' sink sink' r
-undump_run {r = r} undumps unread unwritten spent = record {
-  stream = undumps;
-  unread = unread;
-  unwritten = unwritten;
-  spent = spent;
-  exact = λ bytes left. exactly bytes r undumps left;
-  complete = λ bytes left valid faultless. complete bytes undumps left valid faultless;
-}
+-- what a call keeps that decided so
+pub undump_run : {S K : Type 0} {supply : S → Supply} {store : K → Store} {m budget : ℕ}
+    {source source' : S} {sink sink' : K} {now : LinePlace} {r : Result (Unit {0}) UndumpError}
+    → Decides m budget (supply source) (supply source') (store sink) (store sink') now r
+    → (budget ≡ 0 → source' ≡ source) → (budget ≡ 0 → sink' ≡ sink)
+    → (budget ≡ 0 → (r ≡ Err errors.TurnsSpent) ⊎ (r ≡ Err errors.NoMemory)) → UndumpRun supply store m budget source source' sink sink' r
+undump_run {r = r} d unread unwritten spent =
+    let undumps = undumps_of r d in
+    record {
+      stream = undumps;
+      unread = unread;
+      unwritten = unwritten;
+      spent = spent;
+      exact = λ bytes left. exactly bytes r undumps left;
+      complete = λ bytes left valid faultless. complete bytes undumps left valid faultless;
+    }
 
 -- memory ran out before the first read
-pub never_ran : {S K : Type 0} {supply : S → Supply} {store : K → Store} {m turns : ℕ} {source : S} {sink : K} → UndumpRun supply store m turns source source sink sink (Err errors.NoMemory)
-never_ran {supply = supply} {store = store} {m = m} {turns = turns} {source = source} {sink = sink} = undump_run (never_began m turns (supply source) (store sink)) (λ none. refl) (λ none. refl) (λ none. inr refl)
+pub never_ran : {S K : Type 0} {supply : S → Supply} {store : K → Store} {m budget : ℕ} {source : S} {sink : K}
+    → UndumpRun supply store m budget source source sink sink (Err errors.NoMemory)
+never_ran {supply = supply} {store = store} {m = m} {budget = budget} {source = source} {sink = sink} =
+    undump_run (never_began m budget (supply source) (store sink)) (λ none. refl) (λ none. refl) (λ none. inr refl)

@@ -1,5 +1,6 @@
 -- The text of a value is at most four times as long as the bytes that encode it strictly, with the comma after it.
-use Rattle.std.proofs.Common.{◌≡◌, ◌≤◌, ◌<◌, ℕ, zero, suc, ℤ, pos, negsuc, ◌+◌, ◌-◌, ◌*◌, ◌^◌, Bool, true, false, cond, List, [], ◌∷◌, ◌++◌, length, map, take, drop, Option, Some, None, refl, sym, ap, subst, ◌∙◌, inl, inr, arith}
+use Rattle.std.proofs.Common.{◌≡◌, ◌≤◌, ◌<◌, ℕ, zero, suc, ℤ, pos, negsuc, ◌+◌, ◌-◌, ◌*◌, ◌^◌, Bool, true, false, cond, List, [], ◌∷◌, ◌++◌, length, map, take}
+use Rattle.std.proofs.Common.{drop, Option, Some, None, refl, sym, ap, subst, ◌∙◌, inl, inr, arith}
 use Rattle.std.proofs.lemmas.Bool.{cases_Bool}
 use Rattle.std.proofs.lemmas.Bool.Decides.{nat_tests}
 use Rattle.std.proofs.lemmas.Fmt.{length-decimal-le_wide}
@@ -13,7 +14,9 @@ use Rattle.amqp_types.specs.Numbers.{NumberWidth, bytes1, bytes2, bytes4, bytes8
 use Rattle.amqp_types.specs.Signed.{SpellsSigned}
 use Rattle.amqp_types.specs.Strings.{SpellsLongString}
 use Rattle.amqp_types.specs.Flags.{flags_from}
-use Rattle.amqp_types.specs.Values.{FieldValue, FieldValues, FieldEntries, Entry, boolean_value, signed_value, unsigned_value, decimal_value, bytes_value, array_value, table_value, void_value, long_string, byte_array, no_values, next_value, no_entries, next_entry, items, pairs, entries_of}
+use Rattle.amqp_types.specs.Values.{FieldValue, FieldValues, FieldEntries, Entry, boolean_value, signed_value, unsigned_value, decimal_value}
+use Rattle.amqp_types.specs.Values.{bytes_value, array_value, table_value, void_value, long_string, byte_array, no_values, next_value, no_entries}
+use Rattle.amqp_types.specs.Values.{next_entry, items, pairs, entries_of}
 use Rattle.amqp_types.specs.ValueBytes.{signed_width, unsigned_width}
 use Rattle.amqp_types.specs.ValueSpelling.{SpellsEach, SpellsEntry, SpellsArray, SpellsTable, SpellsBehind, SpellsTagged, SpellsValue, SpellsFieldTable}
 use Rattle.amqp_types.specs.Tags.{tag_of}
@@ -24,6 +27,7 @@ use Rattle.amqp_lines.specs.Values.{tag_text, truth_text, content_text, values_t
 
 -- ---- numbers
 
+-- A number of a width is encoded in as many bytes as the width has.
 pub number_size : (width : NumberWidth) (n : ℕ) → length (number_bytes width n) ≡ byte_count width
 number_size bytes1 n = refl
 number_size bytes2 n = refl
@@ -33,6 +37,7 @@ number_size bytes8 n = refl
 decimal_long : (k n : ℕ) → 0 < k → n < 10 ^ k → n < 10 ^ 64 → length (decimal n) ≤ k
 decimal_long k n some few most = length-decimal-le_wide k n some few most
 
+-- A number as it is printed, with one character more, is at most four times as long as its encoding.
 pub number_long : (width : NumberWidth) (n : ℕ) → n < number_limit width → length (decimal n) + 1 ≤ 4 * byte_count width
 number_long bytes1 n fits = let h = decimal_long 3 n (omega arith) (omega (arith, fits)) (omega (arith, fits)) in omega (arith, h)
 number_long bytes2 n fits = let h = decimal_long 5 n (omega arith) (omega (arith, fits)) (omega (arith, fits)) in omega (arith, h)
@@ -43,18 +48,27 @@ signed_by : (k n m : ℕ) (b : Bool) → length (decimal n) ≤ k → length (de
 signed_by k n m true h less = omega (arith, h)
 signed_by k n m false h less = omega (arith, less)
 
-signed_long : (width : NumberWidth) (bits : ℕ) → bits < number_limit width → length (signed_decimal (cast_signed (width_of width) bits)) ≤ 4 * byte_count width + 1
+signed_long : (width : NumberWidth) (bits : ℕ) → bits < number_limit width
+    → length (signed_decimal (cast_signed (width_of width) bits)) ≤ 4 * byte_count width + 1
 signed_long bytes1 n fits =
-    let h = signed_by 3 n (2 ^ 8 - suc n) (nat_lt n (2 ^ 7)) (decimal_long 3 n (omega arith) (omega (arith, fits)) (omega (arith, fits))) (decimal_long 3 _ (omega arith) (omega (arith, fits)) (omega (arith, fits))) in
+    let h =
+    signed_by 3 n (2 ^ 8 - suc n) (nat_lt n (2 ^ 7)) (decimal_long 3 n (omega arith) (omega (arith, fits)) (omega (arith, fits)))
+    (decimal_long 3 _ (omega arith) (omega (arith, fits)) (omega (arith, fits))) in
     omega (arith, h)
 signed_long bytes2 n fits =
-    let h = signed_by 5 n (2 ^ 16 - suc n) (nat_lt n (2 ^ 15)) (decimal_long 5 n (omega arith) (omega (arith, fits)) (omega (arith, fits))) (decimal_long 5 _ (omega arith) (omega (arith, fits)) (omega (arith, fits))) in
+    let h =
+    signed_by 5 n (2 ^ 16 - suc n) (nat_lt n (2 ^ 15)) (decimal_long 5 n (omega arith) (omega (arith, fits)) (omega (arith, fits)))
+    (decimal_long 5 _ (omega arith) (omega (arith, fits)) (omega (arith, fits))) in
     omega (arith, h)
 signed_long bytes4 n fits =
-    let h = signed_by 10 n (2 ^ 32 - suc n) (nat_lt n (2 ^ 31)) (decimal_long 10 n (omega arith) (omega (arith, fits)) (omega (arith, fits))) (decimal_long 10 _ (omega arith) (omega (arith, fits)) (omega (arith, fits))) in
+    let h =
+    signed_by 10 n (2 ^ 32 - suc n) (nat_lt n (2 ^ 31)) (decimal_long 10 n (omega arith) (omega (arith, fits)) (omega (arith, fits)))
+    (decimal_long 10 _ (omega arith) (omega (arith, fits)) (omega (arith, fits))) in
     omega (arith, h)
 signed_long bytes8 n fits =
-    let h = signed_by 20 n (2 ^ 64 - suc n) (nat_lt n (2 ^ 63)) (decimal_long 20 n (omega arith) (omega (arith, fits)) (omega (arith, fits))) (decimal_long 20 _ (omega arith) (omega (arith, fits)) (omega (arith, fits))) in
+    let h =
+    signed_by 20 n (2 ^ 64 - suc n) (nat_lt n (2 ^ 63)) (decimal_long 20 n (omega arith) (omega (arith, fits)) (omega (arith, fits)))
+    (decimal_long 20 _ (omega arith) (omega (arith, fits)) (omega (arith, fits))) in
     omega (arith, h)
 
 -- ---- bytes and strings
@@ -63,6 +77,7 @@ each_long : (f : ℕ → List ℕ) → ((n : ℕ) → length (f n) ≤ 3) → (b
 each_long f one [] = omega arith
 each_long f one (byte ∷ bytes) = omega (arith, length-append (f byte) (flat_map f bytes), one byte, each_long f one bytes)
 
+-- The hex text of bytes is at most three times as long as they are.
 pub hex_long : (bytes : List ℕ) → length (hex bytes) ≤ 3 * length bytes
 unfolding hex hex_byte
 hex_long bytes = each_long hex_byte (λ n. omega arith) bytes
@@ -76,10 +91,12 @@ escaped_long : (byte : ℕ) → length (escaped byte) ≤ 3
 unfolding escaped
 escaped_long byte = escaped_by byte (is_plain byte)
 
+-- A quoted string is at most three times as long as its bytes, and two characters.
 pub quoted_long : (bytes : List ℕ) → length (quoted bytes) ≤ 3 * length bytes + 2
 unfolding quoted
 quoted_long bytes = omega (arith, length-append (flat_map escaped bytes) (34 ∷ []), each_long escaped escaped_long bytes)
 
+-- Flags have one sign each.
 pub signs_long : (flags : List Bool) → length (signs flags) ≡ length flags
 unfolding signs
 signs_long flags = length-map flags sign
@@ -95,8 +112,10 @@ parted_long [] = omega arith
 parted_long (text ∷ []) = omega arith
 parted_long (text ∷ next ∷ texts) = omega (arith, length-append text (44 ∷ parted (next ∷ texts)), parted_long (next ∷ texts))
 
+-- A long string is encoded in four bytes more than it has.
 pub long_inner : (bytes content : List ℕ) → SpellsLongString bytes content → length bytes ≡ 4 + length content
-long_inner bytes content h = ap length h.bytes_are ∙ (omega (arith, length-append (number_bytes bytes4 (length content)) content, number_size bytes4 (length content)))
+long_inner bytes content h =
+    ap length h.bytes_are ∙ (omega (arith, length-append (number_bytes bytes4 (length content)) content, number_size bytes4 (length content)))
 
 -- ---- values
 
@@ -153,20 +172,41 @@ module _ (Spelled : List ℕ → FieldValue → Type 0) (good : IsLong Spelled) 
 
   array_long : (bytes : List ℕ) (vs : FieldValues) → SpellsArray Spelled bytes (items vs) → length (content_text (array_value vs)) ≤ 4 * length bytes + 1
   array_long bytes vs h =
-      omega (arith, long_inner bytes h.inner h.framed, values_long h.inner vs h.each, parted_long (values_texts vs), length-append (parted (values_texts vs)) (93 ∷ []))
+      omega (
+        arith,
+        long_inner bytes h.inner h.framed,
+        values_long h.inner vs h.each,
+        parted_long (values_texts vs),
+        length-append (parted (values_texts vs)) (93 ∷ []),
+      )
 
-  pub table_long : (bytes : List ℕ) (es : FieldEntries) → SpellsTable strict Spelled bytes (pairs es) → length (content_text (table_value es)) + 1 ≤ 4 * length bytes
+  -- The text of a table, with one character more, is at most four times as long as its strict encoding, where that of each value is.
+  pub table_long : (bytes : List ℕ) (es : FieldEntries) → SpellsTable strict Spelled bytes (pairs es)
+      → length (content_text (table_value es)) + 1 ≤ 4 * length bytes
   table_long bytes es h =
       let P : List Entry → Type 0 = λ fs. SpellsEach (SpellsEntry Spelled) h.inner fs in
-      omega (arith, long_inner bytes h.inner h.framed, entries_long h.inner es (subst P h.once h.each), parted_long (entries_texts es), length-append (parted (entries_texts es)) (125 ∷ []))
+      omega (
+        arith,
+        long_inner bytes h.inner h.framed,
+        entries_long h.inner es (subst P h.once h.each),
+        parted_long (entries_texts es),
+        length-append (parted (entries_texts es)) (125 ∷ []),
+      )
 
 module _ (room : ℕ) (Spelled : List ℕ → FieldValue → Type 0) (good : IsLong Spelled) where
   behind_long : (bytes : List ℕ) (v : FieldValue) → SpellsBehind strict room Spelled bytes v → length (content_text v) ≤ 4 * length bytes + 1
   behind_long bytes (boolean_value true) h = omega arith
   behind_long bytes (boolean_value false) h = omega arith
   behind_long bytes (signed_value kind n) h =
-      omega (arith, ap (λ z. length (signed_decimal z)) h.means, signed_long (signed_width kind) h.bits h.spelled.fits, ap length h.spelled.bytes_are, number_size (signed_width kind) h.bits)
-  behind_long bytes (unsigned_value kind n) h = omega (arith, number_long (unsigned_width kind) n h.fits, ap length h.bytes_are, number_size (unsigned_width kind) n)
+      omega (
+        arith,
+        ap (λ z. length (signed_decimal z)) h.means,
+        signed_long (signed_width kind) h.bits h.spelled.fits,
+        ap length h.spelled.bytes_are,
+        number_size (signed_width kind) h.bits,
+      )
+  behind_long bytes (unsigned_value kind n) h =
+      omega (arith, number_long (unsigned_width kind) n h.fits, ap length h.bytes_are, number_size (unsigned_width kind) n)
   behind_long bytes (decimal_value scale n) h =
       let one : scale ≡ h.one = ap (λ (d : ℕ × ℕ). d.0) h.joined in
       let two : n ≡ h.two = ap (λ (d : ℕ × ℕ). d.1) h.joined in
@@ -188,10 +228,14 @@ module _ (room : ℕ) (Spelled : List ℕ → FieldValue → Type 0) (good : IsL
   behind_long bytes (table_value es) h = omega (arith, table_long Spelled good bytes es h.1)
   behind_long bytes void_value h = omega arith
 
-tagged_long : (Spelled : List ℕ → FieldValue → Type 0) → ((bytes : List ℕ) (v : FieldValue) → Spelled bytes v → length (content_text v) ≤ 4 * length bytes + 1) → IsLong (SpellsTagged strict Spelled)
-tagged_long Spelled good bytes v h = omega (arith, ap length h.bytes_are, good h.behind v h.value_is, tag_long (tag_of v), length-append (tag_text (tag_of v)) (content_text v))
+tagged_long : (Spelled : List ℕ → FieldValue → Type 0)
+    → ((bytes : List ℕ) (v : FieldValue) → Spelled bytes v → length (content_text v) ≤ 4 * length bytes + 1) → IsLong (SpellsTagged strict Spelled)
+tagged_long Spelled good bytes v h =
+    omega (arith, ap length h.bytes_are, good h.behind v h.value_is, tag_long (tag_of v), length-append (tag_text (tag_of v)) (content_text v))
 
+-- The text of a value, with one character more, is at most four times as long as its strict encoding.
 pub value_long : (room : ℕ) → IsLong (SpellsValue strict room)
 unfolding SpellsValue
 value_long zero = tagged_long (SpellsBehind strict 0 (λ _ _. ⊥)) (behind_long 0 (λ _ _. ⊥) (λ bytes v h. absurd h))
-value_long (suc room) = tagged_long (SpellsBehind strict (suc room) (SpellsValue strict room)) (behind_long (suc room) (SpellsValue strict room) (value_long room))
+value_long (suc room) =
+    tagged_long (SpellsBehind strict (suc room) (SpellsValue strict room)) (behind_long (suc room) (SpellsValue strict room) (value_long room))

@@ -21,6 +21,7 @@ pub mod LineBack
 pub mod Undumps
 pub mod Completing
 pub mod Exactly
+pub mod LineReports
 pub mod CanonBytes
 pub mod TextLaws
 pub mod OneLine

@@ -1,5 +1,6 @@
 -- A line is at most four times as long as the bytes that encode its frame strictly, and 400 bytes.
-use Rattle.std.proofs.Common.{◌≡◌, ◌≢◌, ◌≤◌, ◌<◌, ℕ, zero, suc, ◌+◌, ◌*◌, ◌/◌, ◌%◌, ◌^◌, Bool, true, false, cond, List, [], ◌∷◌, ◌++◌, length, map, take, drop, Option, Some, None, refl, sym, ap, subst, ◌∙◌, inl, inr, arith}
+use Rattle.std.proofs.Common.{◌≡◌, ◌≢◌, ◌≤◌, ◌<◌, ℕ, zero, suc, ◌+◌, ◌*◌, ◌/◌, ◌%◌, ◌^◌, Bool, true, false, cond, List, [], ◌∷◌, ◌++◌, length, map, take, drop}
+use Rattle.std.proofs.Common.{Option, Some, None, refl, sym, ap, subst, ◌∙◌, inl, inr, arith}
 use Rattle.std.proofs.lemmas.Bool.{cases_eq, eq-eqb, ne_eqb}
 use Rattle.std.proofs.lemmas.Bool.Decides.{nat_tests}
 use Rattle.std.proofs.lemmas.List.{length-append, take_at, drop_at}
@@ -12,7 +13,8 @@ use Rattle.amqp_types.specs.Numbers.{byte_count, number_bytes, bytes2, bytes4}
 use Rattle.amqp_types.specs.Flags.{flags_from}
 use Rattle.amqp_types.specs.Values.{Entry, pairs, entries_of}
 use Rattle.amqp_types.specs.ValueSpelling.{SpellsTable, SpellsValue}
-use Rattle.amqp_types.specs.Slots.{Item, number_item, flag_item, text_item, bytes_item, entries_item, Form, number_form, flags_form, short_string_form, long_string_form, table_form, Slot, kept_slot, reserved_slot}
+use Rattle.amqp_types.specs.Slots.{Item, number_item, flag_item, text_item, bytes_item, entries_item, Form, number_form, flags_form, short_string_form}
+use Rattle.amqp_types.specs.Slots.{long_string_form, table_form, Slot, kept_slot, reserved_slot}
 use Rattle.amqp_types.specs.SlotBytes.{item_count, flags_of}
 use Rattle.amqp_types.specs.SlotSpelling.{SpellsForm, SpellsSlots}
 use Rattle.amqp_types.specs.Rows.{Row, classes, rows_of, slots_at}
@@ -77,14 +79,23 @@ table_text_long bytes es h =
     let P : List Entry → Type 0 = λ fs. SpellsTable strict (SpellsValue strict 63) bytes fs in
     table_long (SpellsValue strict 63) (value_long 63) bytes (entries_of es) (subst P (sym (pairs-entries_of es)) h)
 
-form_long : (form : Form) (bytes : List ℕ) (items : List Item) → SpellsForm strict form bytes items → length (form_text form items) + 1 ≤ 4 * length bytes + form_room form
+form_long : (form : Form) (bytes : List ℕ) (items : List Item) → SpellsForm strict form bytes items
+    → length (form_text form items) + 1 ≤ 4 * length bytes + form_room form
 unfolding form_text
 form_long (number_form width) bytes items h =
     let is = ap (λ (xs : List Item). length (form_text (number_form width) xs)) h.made in
     omega (arith, is, number_long width h.thing h.spelled.fits, ap length h.spelled.bytes_are, number_size width h.thing)
 form_long (flags_form count) bytes items h =
     let is = ap (λ (xs : List Item). length (signs (flags_of xs))) h.made in
-    omega (arith, is, ap (λ (fs : List Bool). length (signs fs)) (flags_of-map h.thing), signs_long h.thing, ap length h.spelled.flags_are, flags_from_length count 0 h.spelled.byte, ap length h.spelled.bytes_are)
+    omega (
+      arith,
+      is,
+      ap (λ (fs : List Bool). length (signs fs)) (flags_of-map h.thing),
+      signs_long h.thing,
+      ap length h.spelled.flags_are,
+      flags_from_length count 0 h.spelled.byte,
+      ap length h.spelled.bytes_are,
+    )
 form_long short_string_form bytes items h =
     let is = ap (λ (xs : List Item). length (form_text short_string_form xs)) h.made in
     omega (arith, is, quoted_long h.thing, ap length h.spelled.bytes_are)
@@ -100,7 +111,8 @@ slots_room [] = 0
 slots_room (kept_slot form ∷ slots) = form_room form + slots_room slots
 slots_room (reserved_slot form constant ∷ slots) = slots_room slots
 
-slots_long : (slots : List Slot) (bytes : List ℕ) (items : List Item) → SpellsSlots strict slots bytes items → length (slots_text slots items) ≤ 4 * length bytes + slots_room slots
+slots_long : (slots : List Slot) (bytes : List ℕ) (items : List Item) → SpellsSlots strict slots bytes items
+    → length (slots_text slots items) ≤ 4 * length bytes + slots_room slots
 unfolding slots_text
 slots_long [] bytes items h = omega arith
 slots_long (kept_slot form ∷ slots) bytes items h =
@@ -123,7 +135,8 @@ slots_long (reserved_slot form constant ∷ slots) bytes items h =
 
 -- what each entry of a table passes, what is looked up passes
 module _ {X : Type 0} (test : X → Bool) (key : ℕ) (x : X) where
-  found_by : (b : Bool) (here : X) (others : Option X) → test here ≡ true → (others ≡ Some x → test x ≡ true) → cond b (Some here) others ≡ Some x → test x ≡ true
+  found_by : (b : Bool) (here : X) (others : Option X) → test here ≡ true
+      → (others ≡ Some x → test x ≡ true) → cond b (Some here) others ≡ Some x → test x ≡ true
   found_by true here others h more e = let is : here ≡ x = cc in subst (λ y. test y ≡ true) is h
   found_by false here others h more e = more e
 
@@ -152,7 +165,8 @@ room_at class id slots h =
 
 -- ---- properties
 
-names_within : (names : List (ℕ × List ℕ)) → list_all (λ (name : ℕ × List ℕ). nat_le (length name.1) 16) names ≡ true → AllByRecursion (λ (name : ℕ × List ℕ). length name.1 ≤ 16) names
+names_within : (names : List (ℕ × List ℕ)) → list_all (λ (name : ℕ × List ℕ). nat_le (length name.1) 16) names ≡ true
+    → AllByRecursion (λ (name : ℕ × List ℕ). length name.1 ≤ 16) names
 names_within [] h = tt
 names_within (name ∷ names) h =
     let both = both_true (nat_le (length name.1) 16) (list_all (λ (n : ℕ × List ℕ). nat_le (length n.1) 16) names) h in
@@ -162,12 +176,14 @@ name_long : (bit : ℕ) → length (property_name bit) ≤ 16
 unfolding property_name
 name_long bit = each_name (λ name. length name ≤ 16) (omega arith) property_names bit (names_within property_names refl)
 
-option_long : (p : Property) (present : Bool) (bytes : List ℕ) (option : Option Item) → gives_one p.form ≡ true → SpellsOptional strict present p.form bytes option → length (option_text p option) ≤ 4 * length bytes + (17 + form_room p.form)
+option_long : (p : Property) (present : Bool) (bytes : List ℕ) (option : Option Item) → gives_one p.form ≡ true
+    → SpellsOptional strict present p.form bytes option → length (option_text p option) ≤ 4 * length bytes + (17 + form_room p.form)
 unfolding option_text
 option_long p true bytes option one h =
     let count = (form_gives p.form bytes h.thing (plain_form p.form bytes h.thing h.spelled)).count in
     let word = form_text p.form h.thing in
-    let text : option_text p option ≡ codes " " ++ (property_name p.bit ++ (codes "=" ++ word)) = ap (option_text p) h.made ∙ one_text p.form h.thing p refl one count in
+    let text : option_text p option ≡ codes " " ++ (property_name p.bit ++ (codes "=" ++ word)) =
+    ap (option_text p) h.made ∙ one_text p.form h.thing p refl one count in
     omega (arith, ap length text, length-append (property_name p.bit) (61 ∷ word), name_long p.bit, form_long p.form bytes h.thing h.spelled)
 option_long p false bytes option one h = omega (arith, ap (λ (o : Option Item). length (option_text p o)) h.1)
 
@@ -175,7 +191,8 @@ abbrev set_room : List Property → ℕ
 set_room [] = 0
 set_room (p ∷ ps) = (17 + form_room p.form) + set_room ps
 
-set_long : (mask : ℕ) (ps : List Property) (bytes : List ℕ) (options : List (Option Item)) → give_one ps ≡ true → SpellsSet strict mask ps bytes options → length (set_text ps options) ≤ 4 * length bytes + set_room ps
+set_long : (mask : ℕ) (ps : List Property) (bytes : List ℕ) (options : List (Option Item)) → give_one ps ≡ true
+    → SpellsSet strict mask ps bytes options → length (set_text ps options) ≤ 4 * length bytes + set_room ps
 unfolding set_text
 set_long mask [] bytes options one h = omega arith
 set_long mask (p ∷ ps) bytes options one h =
@@ -204,7 +221,8 @@ method_long : (bytes : List ℕ) (m : Method) → SpellsPayload strict bytes m �
 unfolding method_words
 method_long bytes m h =
     let slots = unwrap_or (slots_at m.class m.id) [] in
-    let same : length (slots_text slots m.items) ≡ length (slots_text h.slots m.items) = ap (λ (o : Option (List Slot)). length (slots_text (unwrap_or o []) m.items)) h.known in
+    let same : length (slots_text slots m.items) ≡ length (slots_text h.slots m.items) =
+    ap (λ (o : Option (List Slot)). length (slots_text (unwrap_or o []) m.items)) h.known in
     let text = decimal m.id ++ slots_text slots m.items in
     omega (
       arith,
@@ -257,14 +275,28 @@ words_long bytes (Proto major minor revision) h =
       any_decimal revision,
     )
 words_long bytes (Meth channel m) h =
-    omega (arith, length-append (spaced channel) (method_words m), channel_long channel h.is_framed.channel_fits, method_long h.payload m h.spelled, inside bytes h.payload 1 channel h.is_framed)
+    omega (
+      arith,
+      length-append (spaced channel) (method_words m),
+      channel_long channel h.is_framed.channel_fits,
+      method_long h.payload m h.spelled,
+      inside bytes h.payload 1 channel h.is_framed,
+    )
 words_long bytes (Head channel header) h =
-    omega (arith, length-append (spaced channel) (header_words header), channel_long channel h.is_framed.channel_fits, header_long h.payload header h.spelled, inside bytes h.payload 2 channel h.is_framed)
+    omega (
+      arith,
+      length-append (spaced channel) (header_words header),
+      channel_long channel h.is_framed.channel_fits,
+      header_long h.payload header h.spelled,
+      inside bytes h.payload 2 channel h.is_framed,
+    )
 words_long bytes (Body channel content) h =
-    omega (arith, length-append (spaced channel) (32 ∷ 120 ∷ hex content), channel_long channel h.channel_fits, hex_long content, inside bytes content 3 channel h)
+    omega
+    (arith, length-append (spaced channel) (32 ∷ 120 ∷ hex content), channel_long channel h.channel_fits, hex_long content, inside bytes content 3 channel h)
 words_long bytes Beat h = omega arith
 words_long bytes (BadBeat channel) h = omega (arith, beat_long channel (channel == 0) h.1.is_framed.channel_fits)
 
+-- The line of a frame is at most four times as long as its strict encoding, and 400 bytes.
 pub lines_bounded : LinesAreBounded
 unfolding line
 lines_bounded bytes frame h = omega (arith, length-append (words frame) (10 ∷ []), words_long bytes frame h)

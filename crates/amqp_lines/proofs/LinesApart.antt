@@ -43,8 +43,12 @@ payload_fits (BadBeat channel) fits = framed_payload 8 channel [] fits
 
 payload_is : (f : Frame) → Spells strict (canon f) f → IsPayload (payload_of f) f
 payload_is (Proto a b c) h = refl
-payload_is (Meth channel m) h = let P : List ℕ → Type 0 = λ bs. SpellsPayload strict bs m in subst P (payloads_lawful.strict_is_canonical h.payload m h.spelled) h.spelled
-payload_is (Head channel header) h = let P : List ℕ → Type 0 = λ bs. SpellsContentHeader strict bs header in subst P (content_headers_lawful.strict_is_canonical h.payload header h.spelled) h.spelled
+payload_is (Meth channel m) h =
+    let P : List ℕ → Type 0 = λ bs. SpellsPayload strict bs m in
+    subst P (payloads_lawful.strict_is_canonical h.payload m h.spelled) h.spelled
+payload_is (Head channel header) h =
+    let P : List ℕ → Type 0 = λ bs. SpellsContentHeader strict bs header in
+    subst P (content_headers_lawful.strict_is_canonical h.payload header h.spelled) h.spelled
 payload_is (Body channel content) h = refl
 payload_is Beat h = refl
 payload_is (BadBeat channel) h = refl
@@ -58,6 +62,7 @@ numbers_fit (Body channel content) fits h = h.channel_fits
 numbers_fit Beat fits h = tt
 numbers_fit (BadBeat channel) fits h = (h.0, h.1.is_framed.channel_fits)
 
+-- The bytes of a frame's kind, channel and canonical payload are its canonical bytes.
 pub raw_canon : (f : Frame) → raw_bytes (record { kind = kind_of f; channel = channel_id_of f; payload = payload_of f }) ≡ canon f
 unfolding canon
 raw_canon (Proto a b c) = refl
@@ -76,19 +81,22 @@ strict_back f h = words_back f (payload_of f) (payload_fits f h.are_bytes) (payl
 same_words : (f g : Frame) → IsStrict f → IsStrict g → words f ≡ words g → f ≡ g
 same_words f g p q h =
     let bytes : canon f ≡ canon g = sym (raw_canon f) ∙ ap raw_bytes (sym (strict_back f p) ∙ ap read_words h ∙ strict_back g q) ∙ raw_canon g in
-    value_took f g (length (canon f)) (length (canon g)) (sym (verdict-spelled strict None (canon f) f p.encodes tt) ∙ ap (verdict strict None) bytes ∙ verdict-spelled strict None (canon g) g q.encodes tt)
+    value_took f g (length (canon f)) (length (canon g))
+    (sym (verdict-spelled strict None (canon f) f p.encodes tt) ∙ ap (verdict strict None) bytes ∙ verdict-spelled strict None (canon g) g q.encodes tt)
 
 same_front : (a b end : List ℕ) → a ++ end ≡ b ++ end → a ≡ b
 same_front a b end h =
     let count : length a ≡ length b = omega (arith, ap length h, length-append a end, length-append b end) in
     sym (take_at a end (length b) count) ∙ ap (take (length b)) h ∙ take_at b end (length b) refl
 
+-- Strict frames with equal lines are equal.
 pub same_frame : (f g : Frame) → IsStrict f → IsStrict g → line f ≡ line g → f ≡ g
 unfolding line
 same_frame f g p q h = same_words f g p q (same_front (words f) (words g) (codes "\n") h)
 
 -- ---- sequences
 
+-- Lists that are equal have equal first items and equal rests.
 pub head_same : (x y : ℕ) (xs ys : List ℕ) → x ∷ xs ≡ y ∷ ys → (x ≡ y) × (xs ≡ ys)
 head_same x y xs ys h = (cc, cc)
 
@@ -107,6 +115,7 @@ pub record Split (f g : Frame) (x y : List ℕ) : Type 0 where
   pub first : line f ≡ line g
   pub others : x ≡ y
 
+-- Where a line and a text after it are another line and a text after it, the lines are equal, and so are the texts.
 pub split : (f g : Frame) (x y : List ℕ) → line f ++ x ≡ line g ++ y → Split f g x y
 split f g x y h =
     let a = one_newline f in
@@ -116,9 +125,11 @@ split f g x y h =
     let same = newline_once a.front b.front x y a.none_before b.none_before (sym left ∙ h ∙ right) in
     record { first = a.parts ∙ ap (λ (xs : List ℕ). xs ++ codes "\n") same.0 ∙ sym b.parts; others = same.1 }
 
+-- No line is empty.
 pub line_some : (f : Frame) (x : List ℕ) → [] ≡ line f ++ x → ⊥
 line_some f x h = let a = one_newline f in omega (arith, ap length h, length-append (line f) x, ap length a.parts, length-append a.front (10 ∷ []))
 
+-- Strict frames with equal texts are equal, one by one.
 pub same_sequence : (fs gs : List Frame) → AllByRecursion IsStrict fs → AllByRecursion IsStrict gs → lines fs ≡ lines gs → fs ≡ gs
 unfolding lines
 same_sequence [] [] p q h = refl

@@ -1,16 +1,19 @@
 -- No word of a line holds a newline.
-use Rattle.std.proofs.Common.{◌≡◌, ◌≢◌, ℕ, zero, suc, ℤ, pos, negsuc, ◌/◌, ◌%◌, Bool, true, false, cond, List, [], ◌∷◌, ◌++◌, take, drop, Option, Some, None, refl, sym, ap, ◌∙◌, arith, inl, inr}
+use Rattle.std.proofs.Common.{◌≡◌, ◌≢◌, ℕ, zero, suc, ℤ, pos, negsuc, ◌/◌, ◌%◌, Bool, true, false, cond, List, [], ◌∷◌, ◌++◌, take, drop, Option, Some, None}
+use Rattle.std.proofs.Common.{refl, sym, ap, ◌∙◌, arith, inl, inr}
 use Rattle.std.specs.Prelude.{codes, unwrap_or, ◌==◌}
 use Rattle.std.specs.List.{AllByRecursion, flat_map, list_all}
 use Rattle.std.specs.Fmt.{digit_glyph, digits_onto, digits, decimal, signed_decimal}
 use Rattle.std.proofs.lemmas.Bool.{cases_eq, eq-eqb, ne_eqb}
 use Rattle.std.proofs.lemmas.Bool.Decides.{nat_tests}
 use Rattle.std.specs.Map.{lookup}
-use Rattle.amqp_types.specs.Values.{FieldValue, FieldValues, FieldEntries, Entry, boolean_value, signed_value, unsigned_value, decimal_value, bytes_value, array_value, table_value, void_value, long_string, byte_array, no_values, next_value, no_entries, next_entry, entries_of}
+use Rattle.amqp_types.specs.Values.{FieldValue, FieldValues, FieldEntries, Entry, boolean_value, signed_value, unsigned_value, decimal_value, bytes_value}
+use Rattle.amqp_types.specs.Values.{array_value, table_value, void_value, long_string, byte_array, no_values, next_value, no_entries, next_entry, entries_of}
 use Rattle.amqp_types.specs.Tags.{tag_of}
 use Rattle.amqp_types.specs.declared.tag.FieldTag.{FieldTag}
 use Rattle.amqp_types.specs.declared.tag.FieldTag.TheVariants as tag
-use Rattle.amqp_types.specs.Slots.{Item, number_item, flag_item, text_item, bytes_item, entries_item, Form, number_form, flags_form, short_string_form, long_string_form, table_form, Slot, kept_slot, reserved_slot}
+use Rattle.amqp_types.specs.Slots.{Item, number_item, flag_item, text_item, bytes_item, entries_item, Form, number_form, flags_form, short_string_form}
+use Rattle.amqp_types.specs.Slots.{long_string_form, table_form, Slot, kept_slot, reserved_slot}
 use Rattle.amqp_types.specs.SlotBytes.{item_count, flags_of}
 use Rattle.amqp_types.specs.Rows.{slots_at}
 use Rattle.amqp_types.specs.Properties.{Property, properties}
@@ -152,8 +155,11 @@ mutual
 
   clean_entries : (es : FieldEntries) → AreClean (entries_texts es)
   clean_entries no_entries = tt
-  clean_entries (next_entry k v es) =
-      (clean_both (quoted k) (61 ∷ (tag_text (tag_of v) ++ content_text v)) (clean_quoted k) (λ e. absurd cc, clean_both (tag_text (tag_of v)) (content_text v) (clean_tag (tag_of v)) (clean_content v)), clean_entries es)
+  clean_entries (next_entry k v es) = (
+    clean_both (quoted k) (61 ∷ (tag_text (tag_of v) ++ content_text v)) (clean_quoted k)
+        (λ e. absurd cc, clean_both (tag_text (tag_of v)) (content_text v) (clean_tag (tag_of v)) (clean_content v)),
+    clean_entries es,
+  )
 
 clean_table : (es : List Entry) → HasNoNewline (table_text es)
 unfolding table_text
@@ -193,14 +199,17 @@ clean_slots : (slots : List Slot) (items : List Item) → HasNoNewline (slots_te
 unfolding slots_text
 clean_slots [] items = tt
 clean_slots (kept_slot form ∷ slots) items =
-    clean_both (32 ∷ form_text form (take (item_count form) items)) (slots_text slots (drop (item_count form) items)) (λ e. absurd cc, clean_form form (take (item_count form) items)) (clean_slots slots (drop (item_count form) items))
+    clean_both (32 ∷ form_text form (take (item_count form) items)) (slots_text slots (drop (item_count form) items))
+    (λ e. absurd cc, clean_form form (take (item_count form) items)) (clean_slots slots (drop (item_count form) items))
 clean_slots (reserved_slot form constant ∷ slots) items = clean_slots slots items
 
 -- ---- properties
 
 -- what holds of each name, and of none
 module _ (P : List ℕ → Type 0) (nothing : P []) where
-  pub each_name : (names : List (ℕ × List ℕ)) (bit : ℕ) → AllByRecursion (λ (name : ℕ × List ℕ). P name.1) names → P (unwrap_or (lookup (λ k. bit == k) names) [])
+  -- What holds of each name in a table, and of the empty one, holds of the name that is looked up.
+  pub each_name : (names : List (ℕ × List ℕ)) (bit : ℕ)
+      → AllByRecursion (λ (name : ℕ × List ℕ). P name.1) names → P (unwrap_or (lookup (λ k. bit == k) names) [])
   each_name [] bit h = nothing
   each_name (name ∷ names) bit h = by_test (bit == name.0) h.0 (each_name names bit h.1)
     where
@@ -219,9 +228,12 @@ clean_by : (bytes : List ℕ) → list_all other_test bytes ≡ true → HasNoNe
 clean_by [] h = tt
 clean_by (byte ∷ bytes) h = let both = both_true (other_test byte) (list_all other_test bytes) h in (other_by byte both.0, clean_by bytes both.1)
 
-clean_names : (names : List (ℕ × List ℕ)) → list_all (λ (name : ℕ × List ℕ). list_all other_test name.1) names ≡ true → AllByRecursion (λ (name : ℕ × List ℕ). HasNoNewline name.1) names
+clean_names : (names : List (ℕ × List ℕ)) → list_all (λ (name : ℕ × List ℕ). list_all other_test name.1) names ≡ true
+    → AllByRecursion (λ (name : ℕ × List ℕ). HasNoNewline name.1) names
 clean_names [] h = tt
-clean_names (name ∷ names) h = let both = both_true (list_all other_test name.1) (list_all (λ (n : ℕ × List ℕ). list_all other_test n.1) names) h in (clean_by name.1 both.0, clean_names names both.1)
+clean_names (name ∷ names) h =
+    let both = both_true (list_all other_test name.1) (list_all (λ (n : ℕ × List ℕ). list_all other_test n.1) names) h in
+    (clean_by name.1 both.0, clean_names names both.1)
 
 clean_name : (bit : ℕ) → HasNoNewline (property_name bit)
 unfolding property_name
@@ -230,7 +242,8 @@ clean_name bit = each_name HasNoNewline tt property_names bit (clean_names prope
 clean_option : (p : Property) (option : Option Item) → HasNoNewline (option_text p option)
 unfolding option_text
 clean_option p None = tt
-clean_option p (Some item) = (λ e. absurd cc, clean_both (property_name p.bit) (61 ∷ form_text p.form (item ∷ [])) (clean_name p.bit) (λ e. absurd cc, clean_form p.form (item ∷ [])))
+clean_option p (Some item) =
+    (λ e. absurd cc, clean_both (property_name p.bit) (61 ∷ form_text p.form (item ∷ [])) (clean_name p.bit) (λ e. absurd cc, clean_form p.form (item ∷ [])))
 
 clean_set : (ps : List Property) (options : List (Option Item)) → HasNoNewline (set_text ps options)
 unfolding set_text
@@ -247,8 +260,11 @@ clean_spaced n = (λ e. absurd cc, clean_decimal n)
 clean_method : (m : Method) → HasNoNewline (method_words m)
 unfolding method_words
 clean_method m =
-    clean_both (spaced m.class) (46 ∷ (decimal m.id ++ slots_text (unwrap_or (slots_at m.class m.id) []) m.items)) (clean_spaced m.class)
-    (λ e. absurd cc, clean_both (decimal m.id) (slots_text (unwrap_or (slots_at m.class m.id) []) m.items) (clean_decimal m.id) (clean_slots (unwrap_or (slots_at m.class m.id) []) m.items))
+    clean_both (spaced m.class) (46 ∷ (decimal m.id ++ slots_text (unwrap_or (slots_at m.class m.id) []) m.items)) (clean_spaced m.class) (
+      λ e. absurd cc,
+      clean_both (decimal m.id) (slots_text (unwrap_or (slots_at m.class m.id) []) m.items)
+          (clean_decimal m.id) (clean_slots (unwrap_or (slots_at m.class m.id) []) m.items),
+    )
 
 clean_header : (header : ContentHeader) → HasNoNewline (header_words header)
 unfolding header_words
@@ -264,13 +280,21 @@ clean_words : (frame : Frame) → HasNoNewline (words frame)
 unfolding words
 clean_words (Proto major minor revision) =
     clean_both (codes "proto ") (decimal major ++ (codes "." ++ (decimal minor ++ (codes "." ++ decimal revision)))) (clean_by (codes "proto ") refl)
-    (clean_both (decimal major) (46 ∷ (decimal minor ++ (46 ∷ decimal revision))) (clean_decimal major) (λ e. absurd cc, clean_both (decimal minor) (46 ∷ decimal revision) (clean_decimal minor) (λ e. absurd cc, clean_decimal revision)))
-clean_words (Meth channel m) = clean_both (codes "method") (spaced channel ++ method_words m) (clean_by (codes "method") refl) (clean_both (spaced channel) (method_words m) (clean_spaced channel) (clean_method m))
-clean_words (Head channel header) = clean_both (codes "header") (spaced channel ++ header_words header) (clean_by (codes "header") refl) (clean_both (spaced channel) (header_words header) (clean_spaced channel) (clean_header header))
-clean_words (Body channel content) = clean_both (codes "body") (spaced channel ++ (codes " x" ++ hex content)) (clean_by (codes "body") refl) (clean_both (spaced channel) (codes " x" ++ hex content) (clean_spaced channel) (λ e. absurd cc, (λ e. absurd cc, clean_hex content)))
+    (clean_both (decimal major) (46 ∷ (decimal minor ++ (46 ∷ decimal revision))) (clean_decimal major)
+    (λ e. absurd cc, clean_both (decimal minor) (46 ∷ decimal revision) (clean_decimal minor) (λ e. absurd cc, clean_decimal revision)))
+clean_words (Meth channel m) =
+    clean_both (codes "method") (spaced channel ++ method_words m) (clean_by (codes "method") refl)
+    (clean_both (spaced channel) (method_words m) (clean_spaced channel) (clean_method m))
+clean_words (Head channel header) =
+    clean_both (codes "header") (spaced channel ++ header_words header) (clean_by (codes "header") refl)
+    (clean_both (spaced channel) (header_words header) (clean_spaced channel) (clean_header header))
+clean_words (Body channel content) =
+    clean_both (codes "body") (spaced channel ++ (codes " x" ++ hex content)) (clean_by (codes "body") refl)
+    (clean_both (spaced channel) (codes " x" ++ hex content) (clean_spaced channel) (λ e. absurd cc, (λ e. absurd cc, clean_hex content)))
 clean_words Beat = clean_by (codes "beat") refl
 clean_words (BadBeat channel) = clean_both (codes "beat") (beat_words channel) (clean_by (codes "beat") refl) (beat_by channel (channel == 0))
 
+-- The line of a frame holds one newline, at its end.
 pub one_newline : (frame : Frame) → HasOneNewline (line frame)
 unfolding line
 one_newline frame = record { front = words frame; parts = refl; none_before = clean_words frame }

@@ -1,5 +1,6 @@
 -- The words of a line are read back as the bytes that they stand for: numbers, hex, strings and flags.
-use Rattle.std.proofs.Common.{◌≡◌, ◌⊎◌, ℕ, zero, suc, ◌+◌, ◌-◌, ◌*◌, ◌/◌, ◌%◌, ◌^◌, ◌<◌, ◌≤◌, List, [], ◌∷◌, ◌++◌, length, get_or, drop, take, Bool, true, false, cond, refl, sym, ap, ap₂, subst, ◌∙◌, append_assoc, arith, ltb, inl, inr}
+use Rattle.std.proofs.Common.{◌≡◌, ◌⊎◌, ℕ, zero, suc, ◌+◌, ◌-◌, ◌*◌, ◌/◌, ◌%◌, ◌^◌, ◌<◌, ◌≤◌, List, [], ◌∷◌, ◌++◌, length, get_or, drop, take, Bool, true}
+use Rattle.std.proofs.Common.{false, cond, refl, sym, ap, ap₂, subst, ◌∙◌, append_assoc, arith, ltb, inl, inr}
 use Rattle.std.specs.Prelude.{nat_lt, ◌==◌, pos, negsuc}
 use Rattle.std.specs.List.{flat_map}
 use Rattle.std.specs.Fmt.{decimal, signed_decimal}
@@ -17,7 +18,8 @@ use Rattle.amqp_types.specs.Flags.{bit_of, flags_byte}
 use Rattle.amqp_types.proofs.Bytes.{IsBytes-drop, IsBytes-take}
 use Rattle.amqp_laws.proofs.Deciding.{or_left}
 use Rattle.amqp_lines.specs.Words.{hex_digit, hex_byte, hex, is_plain, escaped, quoted, sign, signs}
-use Rattle.amqp_lines.specs.Reading.{Reader, followed, first_is, is_digit, read_digits, below_zero, read_bits, last_bytes, read_number, read_signs, is_hex, nibble, read_hex, ends_at, listed, inside, or_comma, read_escaped, framed, read_string}
+use Rattle.amqp_lines.specs.Reading.{Reader, followed, first_is, is_digit, read_digits, below_zero, read_bits, last_bytes, read_number, read_signs, is_hex}
+use Rattle.amqp_lines.specs.Reading.{nibble, read_hex, ends_at, listed, inside, or_comma, read_escaped, framed, read_string}
 use Rattle.amqp_lines.proofs.ReadSteps.{chosen, other}
 
 -- what does not go on with a digit
@@ -44,7 +46,8 @@ next_digit m d n rest small is fits =
 digits_on : (n : ℕ) → n < 2 ^ 64 → n < 2 ^ 64 → (rest : List ℕ) → read_digits 0 (decimal n ++ rest) ≡ read_digits n rest
 digits_on = decimal_by_steps (λ n ds. n < 2 ^ 64 → (rest : List ℕ) → read_digits 0 (ds ++ rest) ≡ read_digits n rest)
     (λ n small fits rest. next_digit 0 n n rest small (omega arith) fits)
-    (λ n ds big front fits rest. ap (read_digits 0) (append_assoc ds ((48 + n % 10) ∷ []) rest) ∙ front (omega arith) ((48 + n % 10) ∷ rest) ∙ next_digit (n / 10) (n % 10) n rest (omega arith) (omega arith) fits)
+    (λ n ds big front fits rest. ap (read_digits 0) (append_assoc ds ((48 + n % 10) ∷ []) rest)
+    ∙ front (omega arith) ((48 + n % 10) ∷ rest) ∙ next_digit (n / 10) (n % 10) n rest (omega arith) (omega arith) fits)
 
 not_digit : (c : ℕ) → is_hex c ≡ false → is_digit c ≡ false
 unfolding is_hex
@@ -62,13 +65,15 @@ digits_back n rest fits e = digits_on n fits fits rest ∙ digits_end n rest e
 no_sign : (n : ℕ) → n < 2 ^ 64 → (rest : List ℕ) → 48 ≤ get_or (decimal n ++ rest) 0 0
 no_sign = decimal_by_steps (λ n ds. (rest : List ℕ) → 48 ≤ get_or (ds ++ rest) 0 0)
     (λ n small rest. omega arith)
-    (λ n ds big front rest. let P : List ℕ → Type 0 = λ xs. 48 ≤ get_or xs 0 0 in subst P (sym (append_assoc ds ((48 + n % 10) ∷ []) rest)) (front ((48 + n % 10) ∷ rest)))
+    (λ n ds big front rest. let P : List ℕ → Type 0 = λ xs. 48 ≤ get_or xs 0 0 in
+    subst P (sym (append_assoc ds ((48 + n % 10) ∷ []) rest)) (front ((48 + n % 10) ∷ rest)))
 
 bits_plain : (text : List ℕ) → 48 ≤ get_or text 0 0 → read_bits text ≡ read_digits 0 text
 unfolding read_bits
 bits_plain [] h = absurd (omega arith)
 bits_plain (c ∷ cs) h = let off : (c == 45) ≡ false = grind (arith, nat_tests) in other (c == 45) _ _ off
 
+-- A number below 2^64 that is printed is read back as it was, where no digit follows.
 pub bits_back : (n : ℕ) (rest : List ℕ) → n < 2 ^ 64 → Ends rest → read_bits (decimal n ++ rest) ≡ (n, rest)
 bits_back n rest fits e = bits_plain (decimal n ++ rest) (no_sign n fits rest) ∙ digits_back n rest fits e
 
@@ -83,7 +88,8 @@ last_number bytes2 n = refl
 last_number bytes4 n = refl
 last_number bytes8 n = refl
 
-number_read : (width : NumberWidth) (text rest : List ℕ) (n : ℕ) → read_bits text ≡ (n, rest) → read_number (byte_count width) text ≡ (number_bytes width n, rest)
+number_read : (width : NumberWidth) (text rest : List ℕ) (n : ℕ) → read_bits text ≡ (n, rest)
+    → read_number (byte_count width) text ≡ (number_bytes width n, rest)
 unfolding read_number
 number_read width text rest n h = ap (λ (x : ℕ × List ℕ). (last_bytes (byte_count width) x.0, x.1)) h ∙ ap (λ (bs : List ℕ). (bs, rest)) (last_number width n)
 
@@ -93,8 +99,10 @@ limit_fits bytes2 n h = omega arith
 limit_fits bytes4 n h = omega arith
 limit_fits bytes8 n h = omega arith
 
+-- A number that is printed is read back as its canonical bytes.
 pub number_back : (width : NumberWidth) → IsReadAs (read_number (byte_count width)) (SpellsNumber width) decimal
-number_back width bytes rest n fit h e = number_read width (decimal n ++ rest) rest n (bits_back n rest (limit_fits width n h.fits) e) ∙ ap (λ (bs : List ℕ). (bs, rest)) (sym h.bytes_are)
+number_back width bytes rest n fit h e =
+    number_read width (decimal n ++ rest) rest n (bits_back n rest (limit_fits width n h.fits) e) ∙ ap (λ (bs : List ℕ). (bs, rest)) (sym h.bytes_are)
 
 -- the bits of a signed number in two's complement, in more bytes than it has
 record IsSignedBits (limit n : ℕ) (text rest : List ℕ) : Type 0 where
@@ -106,11 +114,18 @@ record IsSignedBits (limit n : ℕ) (text rest : List ℕ) : Type 0 where
 not_below : (n half : ℕ) → 0 < half → ltb n half ≡ false → 0 < n
 not_below n half some e = omega (arith, some, ltb-false n half e)
 
-signed_at : (w : Width) (n : ℕ) (rest : List ℕ) → n < 2 ^ bits w → 2 ^ bits w ≤ 2 ^ 64 → Ends rest → (low : Bool) → (low ≡ false → 0 < n) → IsSignedBits (2 ^ bits w) n (signed_decimal (sel low (pos n) (negsuc (2 ^ bits w - suc n))) ++ rest) rest
+signed_at : (w : Width) (n : ℕ) (rest : List ℕ) → n < 2 ^ bits w → 2 ^ bits w ≤ 2 ^ 64 → Ends rest → (low : Bool)
+    → (low ≡ false → 0 < n) → IsSignedBits (2 ^ bits w) n (signed_decimal (sel low (pos n) (negsuc (2 ^ bits w - suc n))) ++ rest) rest
 signed_at w n rest h within e true some = record { wide = n; read = bits_back n rest (omega arith) e; same = inl refl }
-signed_at w n rest h within e false some = record { wide = (2 ^ 64 - suc (2 ^ bits w - suc n)) % 2 ^ 64; read = negative_back (suc (2 ^ bits w - suc n)) rest (omega (arith, some refl)) e; same = inr (omega (arith, some refl)) }
+signed_at w n rest h within e false some =
+    record {
+      wide = (2 ^ 64 - suc (2 ^ bits w - suc n)) % 2 ^ 64;
+      read = negative_back (suc (2 ^ bits w - suc n)) rest (omega (arith, some refl)) e;
+      same = inr (omega (arith, some refl));
+    }
 
-signed_bits : (width : NumberWidth) (n : ℕ) (rest : List ℕ) → n < number_limit width → Ends rest → IsSignedBits (number_limit width) n (signed_decimal (cast_signed (width_of width) n) ++ rest) rest
+signed_bits : (width : NumberWidth) (n : ℕ) (rest : List ℕ) → n < number_limit width → Ends rest
+    → IsSignedBits (number_limit width) n (signed_decimal (cast_signed (width_of width) n) ++ rest) rest
 signed_bits bytes1 n rest h e = signed_at w8 n rest h (omega arith) e (ltb n (2 ^ hbits w8)) (not_below n (2 ^ hbits w8) (omega arith))
 signed_bits bytes2 n rest h e = signed_at w16 n rest h (omega arith) e (ltb n (2 ^ hbits w16)) (not_below n (2 ^ hbits w16) (omega arith))
 signed_bits bytes4 n rest h e = signed_at w32 n rest h (omega arith) e (ltb n (2 ^ hbits w32)) (not_below n (2 ^ hbits w32) (omega arith))
@@ -120,21 +135,26 @@ signed_bits bytes8 n rest h e = signed_at w64 n rest h (omega arith) e (ltb n (2
 low_bytes : (width : NumberWidth) (m n : ℕ) → m + number_limit width ≡ 2 ^ 64 + n → number_bytes width m ≡ number_bytes width n
 low_bytes bytes1 m n h = ap (λ (a : ℕ). a ∷ []) (omega arith)
 low_bytes bytes2 m n h = ap₂ (λ (a b : ℕ). a ∷ b ∷ []) (omega arith) (omega arith)
-low_bytes bytes4 m n h = ap₂ (λ (a : ℕ) (r : List ℕ). a ∷ r) (omega arith) (ap₂ (λ (a : ℕ) (r : List ℕ). a ∷ r) (omega arith) (ap₂ (λ (a b : ℕ). a ∷ b ∷ []) (omega arith) (omega arith)))
+low_bytes bytes4 m n h =
+    ap₂ (λ (a : ℕ) (r : List ℕ). a ∷ r) (omega arith)
+    (ap₂ (λ (a : ℕ) (r : List ℕ). a ∷ r) (omega arith) (ap₂ (λ (a b : ℕ). a ∷ b ∷ []) (omega arith) (omega arith)))
 low_bytes bytes8 m n h = ap (number_bytes bytes8) (omega arith)
 
 wide_bytes : (width : NumberWidth) (m n : ℕ) → (m ≡ n) ⊎ (m + number_limit width ≡ 2 ^ 64 + n) → number_bytes width m ≡ number_bytes width n
 wide_bytes width m n (inl is) = ap (number_bytes width) is
 wide_bytes width m n (inr is) = low_bytes width m n is
 
+-- A signed number that is printed is read back as its canonical bytes.
 pub signed_back : (width : NumberWidth) → IsReadAs (read_number (byte_count width)) (SpellsSigned width) signed_decimal
 signed_back width bytes rest n fit h e =
     let s = signed_bits width h.bits rest h.spelled.fits e in
-    ap (λ z. read_number (byte_count width) (signed_decimal z ++ rest)) h.means ∙ number_read width (signed_decimal (cast_signed (width_of width) h.bits) ++ rest) rest s.wide s.read
+    ap (λ z. read_number (byte_count width) (signed_decimal z ++ rest)) h.means
+    ∙ number_read width (signed_decimal (cast_signed (width_of width) h.bits) ++ rest) rest s.wide s.read
     ∙ ap (λ (bs : List ℕ). (bs, rest)) (wide_bytes width s.wide h.bits s.same ∙ sym h.spelled.bytes_are)
 
 -- ---- flags
 
+-- The signs of flags are read back as their byte.
 pub signs_back : (flags : List Bool) (rest : List ℕ) → flags_byte flags < 256 → read_signs (length flags) (signs flags ++ rest) ≡ (flags_byte flags, rest)
 unfolding read_signs signs
 signs_back [] rest h = refl
@@ -175,6 +195,7 @@ hex_end [] e = refl
 hex_end (a ∷ []) e = refl
 hex_end (a ∷ b ∷ cs) e = other (is_hex a) _ _ e
 
+-- The hex text of bytes is read back as these bytes.
 pub hex_back : (bytes rest : List ℕ) → IsBytes bytes → Ends rest → read_hex (hex bytes ++ rest) ≡ (bytes, rest)
 unfolding read_hex hex hex_byte IsHexOf
 hex_back [] rest fits e = hex_end rest e
@@ -182,23 +203,31 @@ hex_back (byte ∷ bytes) rest fits e =
     let high = hex_back_digit (byte / 16) (let h : byte < 256 = fits 0 in omega arith) in
     let low = hex_back_digit (byte % 16) (omega arith) in
     chosen (is_hex (hex_digit (byte / 16))) _ _ high.0
-    ∙ ap (λ (x : List ℕ × List ℕ). ((16 * nibble (hex_digit (byte / 16)) + nibble (hex_digit (byte % 16))) ∷ x.0, x.1)) (hex_back bytes rest (λ i. fits (suc i)) e)
+    ∙ ap (λ (x : List ℕ × List ℕ). ((16 * nibble (hex_digit (byte / 16)) + nibble (hex_digit (byte % 16))) ∷ x.0, x.1))
+    (hex_back bytes rest (λ i. fits (suc i)) e)
     ∙ ap₂ (λ (a b : ℕ). ((16 * a + b) ∷ bytes, rest)) high.1 low.1 ∙ ap (λ (n : ℕ). (n ∷ bytes, rest)) (omega arith)
 
 -- ---- things up to a closing character
 
+-- A list ends at its closing character, and the rest follows.
 pub listed_end : (item : Reader) (close fuel : ℕ) (rest : List ℕ) → listed item close fuel (close ∷ rest) ≡ ([], rest)
 unfolding listed
 listed_end item close zero rest = refl
 listed_end item close (suc fuel) rest = chosen (close == close) _ _ (eq-eqb close close refl)
 
-pub listed_item : (item : Reader) (close fuel : ℕ) (text bytes rest : List ℕ) → ends_at close text ≡ false → item text ≡ (bytes, rest) → listed item close (suc fuel) text ≡ followed (bytes, rest) (listed item close fuel)
+-- Before the closing character one thing of a list is read, and then the rest.
+pub listed_item : (item : Reader) (close fuel : ℕ) (text bytes rest : List ℕ) → ends_at close text ≡ false
+    → item text ≡ (bytes, rest) → listed item close (suc fuel) text ≡ followed (bytes, rest) (listed item close fuel)
 unfolding listed
-listed_item item close fuel text bytes rest off is = other (ends_at close text) _ _ off ∙ ap (λ (one : List ℕ × List ℕ). followed one (listed item close fuel)) is
+listed_item item close fuel text bytes rest off is =
+    other (ends_at close text) _ _ off ∙ ap (λ (one : List ℕ × List ℕ). followed one (listed item close fuel)) is
 
-pub listed_comma : (item : Reader) (close fuel : ℕ) (rest bytes end : List ℕ) → (44 == close) ≡ false → listed (or_comma item) close fuel rest ≡ (bytes, end) → listed (or_comma item) close (suc fuel) (44 ∷ rest) ≡ (bytes, end)
+-- A comma in a list is passed, and the rest is read.
+pub listed_comma : (item : Reader) (close fuel : ℕ) (rest bytes end : List ℕ) → (44 == close) ≡ false
+    → listed (or_comma item) close fuel rest ≡ (bytes, end) → listed (or_comma item) close (suc fuel) (44 ∷ rest) ≡ (bytes, end)
 unfolding or_comma
-listed_comma item close fuel rest bytes end apart h = listed_item (or_comma item) close fuel (44 ∷ rest) [] rest apart refl ∙ ap (λ (x : List ℕ × List ℕ). ([] ++ x.0, x.1)) h
+listed_comma item close fuel rest bytes end apart h =
+    listed_item (or_comma item) close fuel (44 ∷ rest) [] rest apart refl ∙ ap (λ (x : List ℕ × List ℕ). ([] ++ x.0, x.1)) h
 
 -- the first character neither closes nor is a comma
 pub record Begins (close comma : ℕ) (text : List ℕ) : Type 0 where
@@ -206,6 +235,7 @@ pub record Begins (close comma : ℕ) (text : List ℕ) : Type 0 where
   pub no_close : ends_at close text ≡ false
   pub no_comma : first_is comma text ≡ false
 
+-- A text that begins neither with the closing character nor with a comma does so with more after it too.
 pub begins_more : (close comma : ℕ) (text rest : List ℕ) → Begins close comma text → Begins close comma (text ++ rest)
 begins_more close comma [] rest h = absurd (let some : 0 < 0 = h.some in omega arith)
 begins_more close comma (c ∷ cs) rest h = record { some = omega arith; no_close = h.no_close; no_comma = h.no_comma }
@@ -250,7 +280,8 @@ text_count (b ∷ bs) fits =
     let some : 0 < length (escaped b) = one.begins.some in
     omega (arith, length-append (escaped b) (flat_map escaped bs), text_count bs (λ i. fits (suc i)))
 
-string_on : (content : List ℕ) (fuel : ℕ) (rest : List ℕ) → IsBytes content → length content ≤ fuel → listed read_escaped 34 fuel (flat_map escaped content ++ (34 ∷ rest)) ≡ (content, rest)
+string_on : (content : List ℕ) (fuel : ℕ) (rest : List ℕ) → IsBytes content → length content ≤ fuel
+    → listed read_escaped 34 fuel (flat_map escaped content ++ (34 ∷ rest)) ≡ (content, rest)
 string_on [] fuel rest fits few = listed_end read_escaped 34 fuel rest
 string_on (b ∷ bs) zero rest fits few = absurd (omega arith)
 string_on (b ∷ bs) (suc fuel) rest fits few =
@@ -264,24 +295,34 @@ string_inside : (content rest : List ℕ) → IsBytes content → inside read_es
 unfolding inside quoted
 string_inside content rest fits =
     let text = flat_map escaped content in
-    let count : length content ≤ length (34 ∷ ((text ++ 34 ∷ []) ++ rest)) = omega (arith, text_count content fits, length-append (text ++ 34 ∷ []) rest, length-append text (34 ∷ [])) in
+    let count : length content ≤ length (34 ∷ ((text ++ 34 ∷ []) ++ rest)) =
+    omega (arith, text_count content fits, length-append (text ++ 34 ∷ []) rest, length-append text (34 ∷ [])) in
     ap (listed read_escaped 34 (length (34 ∷ ((text ++ 34 ∷ []) ++ rest)))) (append_assoc text (34 ∷ []) rest)
     ∙ string_on content (length (34 ∷ ((text ++ 34 ∷ []) ++ rest))) rest fits count
 
 -- what stands after other bytes
 pub bytes_behind : (front behind bytes : List ℕ) → bytes ≡ front ++ behind → IsBytes bytes → IsBytes behind
-bytes_behind front behind bytes is fits = let P : List ℕ → Type 0 = λ bs. IsBytes bs in subst P (ap (drop (length front)) is ∙ drop_at front behind (length front) refl) (IsBytes-drop (length front) bytes fits)
+bytes_behind front behind bytes is fits =
+    let P : List ℕ → Type 0 = λ bs. IsBytes bs in
+    subst P (ap (drop (length front)) is ∙ drop_at front behind (length front) refl) (IsBytes-drop (length front) bytes fits)
 
+-- The bytes in front of a byte list are a byte list.
 pub bytes_front : (front behind bytes : List ℕ) → bytes ≡ front ++ behind → IsBytes bytes → IsBytes front
-bytes_front front behind bytes is fits = let P : List ℕ → Type 0 = λ bs. IsBytes bs in subst P (ap (take (length front)) is ∙ take_at front behind (length front) refl) (IsBytes-take (length front) bytes fits)
+bytes_front front behind bytes is fits =
+    let P : List ℕ → Type 0 = λ bs. IsBytes bs in
+    subst P (ap (take (length front)) is ∙ take_at front behind (length front) refl) (IsBytes-take (length front) bytes fits)
 
+-- The bytes of a long string are a byte list.
 pub long_content : (bytes content : List ℕ) → SpellsLongString bytes content → IsBytes bytes → IsBytes content
 long_content bytes content h fits = bytes_behind (number_bytes bytes4 (length content)) content bytes h.bytes_are fits
 
+-- The quoted text of a long string is read back as its canonical bytes.
 pub long_string_back : IsReadAs (read_string 4) SpellsLongString quoted
 unfolding read_string
-long_string_back bytes rest content fits h e = ap (framed 4) (string_inside content rest (long_content bytes content h fits)) ∙ ap (λ (bs : List ℕ). (bs, rest)) (sym h.bytes_are)
+long_string_back bytes rest content fits h e =
+    ap (framed 4) (string_inside content rest (long_content bytes content h fits)) ∙ ap (λ (bs : List ℕ). (bs, rest)) (sym h.bytes_are)
 
+-- The quoted text of a short string is read back as its canonical bytes.
 pub short_string_back : IsReadAs (read_string 1) SpellsShortString quoted
 unfolding read_string
 short_string_back bytes rest content fits h e =

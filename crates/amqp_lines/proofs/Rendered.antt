@@ -1,5 +1,6 @@
 -- What calls write of the canonical bytes of values, step by step.
-use Rattle.std.proofs.Common.{◌≡◌, ℕ, ℤ, zero, suc, ◌+◌, ◌-◌, ◌<◌, List, [], ◌∷◌, ◌++◌, length, get_or, drop, map, Some, None, Result, Ok, Err, refl, sym, ap, subst, ◌∙◌, append_assoc, append-nil, arith, inl}
+use Rattle.std.proofs.Common.{◌≡◌, ℕ, ℤ, zero, suc, ◌+◌, ◌-◌, ◌<◌, List, [], ◌∷◌, ◌++◌, length, get_or, drop, map, Some, None, Result, Ok, Err, refl, sym, ap}
+use Rattle.std.proofs.Common.{subst, ◌∙◌, append_assoc, append-nil, arith, inl}
 use Rattle.std.specs.Prelude.{codes}
 use Rattle.std.specs.Fmt.{decimal, signed_decimal}
 use Rattle.std.proofs.lemmas.List.{length-append, take_at, drop_at}
@@ -10,7 +11,9 @@ use Rattle.amqp_types.specs.Numbers.{NumberWidth, bytes1, bytes2, bytes4, bytes8
 use Rattle.amqp_types.specs.Signed.{judge_signed, SpellsSigned}
 use Rattle.amqp_types.specs.Booleans.{judge_boolean, SpellsBoolean}
 use Rattle.amqp_types.specs.Strings.{judge_long_string, SpellsShortString, SpellsLongString}
-use Rattle.amqp_types.specs.Values.{FieldValue, Entry, short_short_int, short_int, long_int, long_long_int, short_short_uint, short_uint, long_uint, float, double, timestamp, long_string, byte_array, boolean_value, signed_value, unsigned_value, decimal_value, bytes_value, array_value, table_value, void_value, items, pairs, entries_of}
+use Rattle.amqp_types.specs.Values.{FieldValue, Entry, short_short_int, short_int, long_int, long_long_int, short_short_uint, short_uint, long_uint, float}
+use Rattle.amqp_types.specs.Values.{double, timestamp, long_string, byte_array, boolean_value, signed_value, unsigned_value, decimal_value, bytes_value}
+use Rattle.amqp_types.specs.Values.{array_value, table_value, void_value, items, pairs, entries_of}
 use Rattle.amqp_types.specs.ValueJudging.{judge_decimal}
 use Rattle.amqp_types.specs.ValueSpelling.{SpellsEach, SpellsEntry, SpellsDecimal, SpellsArray, SpellsTable, SpellsBehind, SpellsTagged, SpellsValue}
 use Rattle.amqp_types.specs.Tags.{tag_at, tag_of}
@@ -33,16 +36,20 @@ use Rattle.amqp_lines.specs.Rendering.{Renders, WritesText, WritesEach, WritesAf
 use Rattle.amqp_lines.proofs.ReadBack.{values_are, entries_are}
 
 -- where nothing was read, nothing needs to be rendered
-pub unrendered : {A : Type 0} (j : Judged A) (f : A × ℕ → Judged (List ℕ)) (old new : List ℕ) (r : Result ℕ NoMemory) → (IsRead j → ⊥) → Renders (j >>= f) old new r
+pub unrendered : {A : Type 0} (j : Judged A) (f : A × ℕ → Judged (List ℕ)) (old new : List ℕ) (r : Result ℕ NoMemory)
+    → (IsRead j → ⊥) → Renders (j >>= f) old new r
 unrendered (took x n) f old new r h = absurd (h tt)
 unrendered past f old new r h = tt
 unrendered (fault bad) f old new r h = tt
 
-pub rendered_next : {A : Type 0} (j : Judged A) (f : A × ℕ → Judged (List ℕ)) (old new : List ℕ) (r : Result ℕ NoMemory) (x : A) (n : ℕ) → j ≡ took x n → Renders (f (x, n)) old new r → Renders (j >>= f) old new r
+-- What is appended after a value was decoded is what is appended for the rest.
+pub rendered_next : {A : Type 0} (j : Judged A) (f : A × ℕ → Judged (List ℕ)) (old new : List ℕ) (r : Result ℕ NoMemory) (x : A) (n : ℕ)
+    → j ≡ took x n → Renders (f (x, n)) old new r → Renders (j >>= f) old new r
 rendered_next j f old new r x n e h = let P : Judged _ → Type 0 = λ k. Renders (k >>= f) old new r in subst P (sym e) h
 
 -- what is rendered of what decodes exactly is its text
-pub exactly : {A : Type 0} (judge : Judge A) (Spells : List ℕ → A → Type 0) (text : A → List ℕ) → IsExact judge Spells → (i old new : List ℕ) (r : Result ℕ NoMemory) → Renders (judge_map text judge i) old new r → WritesText Spells text i old new r
+pub exactly : {A : Type 0} (judge : Judge A) (Spells : List ℕ → A → Type 0) (text : A → List ℕ) → IsExact judge Spells
+    → (i old new : List ℕ) (r : Result ℕ NoMemory) → Renders (judge_map text judge i) old new r → WritesText Spells text i old new r
 exactly judge Spells text exact i old new (Err error) h = tt
 exactly judge Spells text exact i old new (Ok n) h = λ bytes rest x is spelled.
     let P : Judged (List ℕ) → Type 0 = λ j. Renders j old new (Ok n) in
@@ -54,18 +61,30 @@ exactly judge Spells text exact i old new (Ok n) h = λ bytes rest x is spelled.
 WritesContent : List ℕ → FieldValue → List ℕ → List ℕ → ℕ → Type 0
 WritesContent bytes v old new n = (n ≡ length bytes) × (new ≡ old ++ content_text v)
 
-number_after : (width : NumberWidth) (bytes rest : List ℕ) (k : ℕ) (old new : List ℕ) (n : ℕ) → Renders (judge_map decimal (judge_number width) (bytes ++ rest)) old new (Ok n) → SpellsNumber width bytes k → (n ≡ length bytes) × (new ≡ old ++ decimal k)
-number_after width bytes rest k old new n h s = exactly (judge_number width) (SpellsNumber width) decimal (number_exact width) (bytes ++ rest) old new (Ok n) h bytes rest k refl s
+number_after : (width : NumberWidth) (bytes rest : List ℕ) (k : ℕ) (old new : List ℕ) (n : ℕ)
+    → Renders (judge_map decimal (judge_number width) (bytes ++ rest)) old new (Ok n)
+    → SpellsNumber width bytes k → (n ≡ length bytes) × (new ≡ old ++ decimal k)
+number_after width bytes rest k old new n h s =
+    exactly (judge_number width) (SpellsNumber width) decimal (number_exact width) (bytes ++ rest) old new (Ok n) h bytes rest k refl s
 
-signed_after : (width : NumberWidth) (bytes rest : List ℕ) (k : ℤ) (old new : List ℕ) (n : ℕ) → Renders (judge_map signed_decimal (judge_signed width) (bytes ++ rest)) old new (Ok n) → SpellsSigned width bytes k → (n ≡ length bytes) × (new ≡ old ++ signed_decimal k)
-signed_after width bytes rest k old new n h s = exactly (judge_signed width) (SpellsSigned width) signed_decimal (signed_exact width) (bytes ++ rest) old new (Ok n) h bytes rest k refl s
+signed_after : (width : NumberWidth) (bytes rest : List ℕ) (k : ℤ) (old new : List ℕ) (n : ℕ)
+    → Renders (judge_map signed_decimal (judge_signed width) (bytes ++ rest)) old new (Ok n)
+    → SpellsSigned width bytes k → (n ≡ length bytes) × (new ≡ old ++ signed_decimal k)
+signed_after width bytes rest k old new n h s =
+    exactly (judge_signed width) (SpellsSigned width) signed_decimal (signed_exact width) (bytes ++ rest) old new (Ok n) h bytes rest k refl s
 
-string_after : (text : List ℕ → List ℕ) (bytes rest content old new : List ℕ) (n : ℕ) → Renders (judge_map text judge_long_string (bytes ++ rest)) old new (Ok n) → SpellsLongString bytes content → (n ≡ length bytes) × (new ≡ old ++ text content)
-string_after text bytes rest content old new n h s = exactly judge_long_string SpellsLongString text long_string_exact (bytes ++ rest) old new (Ok n) h bytes rest content refl s
+string_after : (text : List ℕ → List ℕ) (bytes rest content old new : List ℕ) (n : ℕ)
+    → Renders (judge_map text judge_long_string (bytes ++ rest)) old new (Ok n)
+    → SpellsLongString bytes content → (n ≡ length bytes) × (new ≡ old ++ text content)
+string_after text bytes rest content old new n h s =
+    exactly judge_long_string SpellsLongString text long_string_exact (bytes ++ rest) old new (Ok n) h bytes rest content refl s
 
-after_tag : (room : ℕ) (v : FieldValue) (bytes rest old new : List ℕ) (n : ℕ) → WritesAfter room (tag_of v) (bytes ++ rest) old new (Ok n) → SpellsBehind strict room (SpellsValue strict (room - 1)) bytes v → WritesContent bytes v old new n
+after_tag : (room : ℕ) (v : FieldValue) (bytes rest old new : List ℕ) (n : ℕ) → WritesAfter room (tag_of v) (bytes ++ rest) old new (Ok n)
+    → SpellsBehind strict room (SpellsValue strict (room - 1)) bytes v → WritesContent bytes v old new n
 unfolding WritesAfter WritesContent array_text table_text
-after_tag room (boolean_value b) bytes rest old new n h s = exactly judge_boolean (SpellsBoolean plain) truth_text boolean_laws.exact (bytes ++ rest) old new (Ok n) h bytes rest b refl (boolean_laws.tidy_is_plain bytes b (boolean_laws.strict_is_tidy bytes b s))
+after_tag room (boolean_value b) bytes rest old new n h s =
+    exactly judge_boolean (SpellsBoolean plain) truth_text boolean_laws.exact (bytes ++ rest) old new
+    (Ok n) h bytes rest b refl (boolean_laws.tidy_is_plain bytes b (boolean_laws.strict_is_tidy bytes b s))
 after_tag room (signed_value short_short_int k) bytes rest old new n h s = signed_after bytes1 bytes rest k old new n h s
 after_tag room (signed_value short_int k) bytes rest old new n h s = signed_after bytes2 bytes rest k old new n h s
 after_tag room (signed_value long_int k) bytes rest old new n h s = signed_after bytes4 bytes rest k old new n h s
@@ -76,7 +95,8 @@ after_tag room (unsigned_value long_uint k) bytes rest old new n h s = number_af
 after_tag room (unsigned_value float k) bytes rest old new n h s = number_after bytes4 bytes rest k old new n h s
 after_tag room (unsigned_value double k) bytes rest old new n h s = number_after bytes8 bytes rest k old new n h s
 after_tag room (unsigned_value timestamp k) bytes rest old new n h s = number_after bytes8 bytes rest k old new n h s
-after_tag room (decimal_value scale k) bytes rest old new n h s = exactly judge_decimal SpellsDecimal decimal_text decimal_exact (bytes ++ rest) old new (Ok n) h bytes rest (scale, k) refl s
+after_tag room (decimal_value scale k) bytes rest old new n h s =
+    exactly judge_decimal SpellsDecimal decimal_text decimal_exact (bytes ++ rest) old new (Ok n) h bytes rest (scale, k) refl s
 after_tag room (bytes_value long_string content) bytes rest old new n h s = string_after quoted bytes rest content old new n h s
 after_tag room (bytes_value byte_array content) bytes rest old new n h s = string_after hex bytes rest content old new n h s
 after_tag room (array_value vs) bytes rest old new n h s =
@@ -90,17 +110,26 @@ after_tag room void_value bytes rest old new n h s = (h.0 ∙ sym (ap length s),
 -- what is written for an array or a table, where there is room for one or not
 pub no_array : (room : ℕ) (t : FieldTag) (i old new : List ℕ) (r : Result ℕ NoMemory) → room ≡ 0 → t ≡ tag.FieldArray → WritesAfter room t i old new r
 unfolding WritesAfter
-no_array room t i old new r none is = let P : FieldTag → Type 0 = λ u. WritesAfter room u i old new r in subst P (sym is) (λ some. absurd (omega (arith, none, some)))
+no_array room t i old new r none is =
+    let P : FieldTag → Type 0 = λ u. WritesAfter room u i old new r in
+    subst P (sym is) (λ some. absurd (omega (arith, none, some)))
 
+-- Where no room for nesting is left, nothing is said of what is written for a table.
 pub no_table : (room : ℕ) (t : FieldTag) (i old new : List ℕ) (r : Result ℕ NoMemory) → room ≡ 0 → t ≡ tag.FieldTable → WritesAfter room t i old new r
 unfolding WritesAfter
-no_table room t i old new r none is = let P : FieldTag → Type 0 = λ u. WritesAfter room u i old new r in subst P (sym is) (λ some. absurd (omega (arith, none, some)))
+no_table room t i old new r none is =
+    let P : FieldTag → Type 0 = λ u. WritesAfter room u i old new r in
+    subst P (sym is) (λ some. absurd (omega (arith, none, some)))
 
-pub array_after : (room : ℕ) (t : FieldTag) (i old new : List ℕ) (r : Result ℕ NoMemory) → t ≡ tag.FieldArray → WritesText (SpellsArray (SpellsValue strict (room - 1))) array_text i old new r → WritesAfter room t i old new r
+-- After the tag of an array, its text is appended where there is room for nesting.
+pub array_after : (room : ℕ) (t : FieldTag) (i old new : List ℕ) (r : Result ℕ NoMemory) → t ≡ tag.FieldArray
+    → WritesText (SpellsArray (SpellsValue strict (room - 1))) array_text i old new r → WritesAfter room t i old new r
 unfolding WritesAfter
 array_after room t i old new r is h = let P : FieldTag → Type 0 = λ u. WritesAfter room u i old new r in subst P (sym is) (λ some. h)
 
-pub table_after : (room : ℕ) (t : FieldTag) (i old new : List ℕ) (r : Result ℕ NoMemory) → t ≡ tag.FieldTable → WritesText (SpellsTable strict (SpellsValue strict (room - 1))) table_text i old new r → WritesAfter room t i old new r
+-- After the tag of a table, its text is appended where there is room for nesting.
+pub table_after : (room : ℕ) (t : FieldTag) (i old new : List ℕ) (r : Result ℕ NoMemory) → t ≡ tag.FieldTable
+    → WritesText (SpellsTable strict (SpellsValue strict (room - 1))) table_text i old new r → WritesAfter room t i old new r
 unfolding WritesAfter
 table_after room t i old new r is h = let P : FieldTag → Type 0 = λ u. WritesAfter room u i old new r in subst P (sym is) (λ some. h)
 
@@ -117,7 +146,8 @@ none_nested bytes (array_value vs) h = absurd (omega (arith, h.0))
 none_nested bytes (table_value es) h = absurd (omega (arith, h.0))
 none_nested bytes void_value h = h
 
-tagged : (room : ℕ) (bytes : List ℕ) (v : FieldValue) → SpellsValue strict room bytes v → SpellsTagged strict (SpellsBehind strict room (SpellsValue strict (room - 1))) bytes v
+tagged : (room : ℕ) (bytes : List ℕ) (v : FieldValue) → SpellsValue strict room bytes v
+    → SpellsTagged strict (SpellsBehind strict room (SpellsValue strict (room - 1))) bytes v
 unfolding SpellsValue
 tagged zero bytes v h = record { byte = h.byte; behind = h.behind; bytes_are = h.bytes_are; tag_is = h.tag_is; value_is = none_nested h.behind v h.value_is }
 tagged (suc room) bytes v h =
@@ -144,25 +174,32 @@ tag_in room i bytes rest v is h =
       value_is = t.value_is;
     }
 
+-- Where no byte is left, nothing is said of what is written for a value.
 pub value_none : (room n : ℕ) (i old new : List ℕ) → length i < 1 → WritesText (SpellsValue strict room) value_text i old new (Ok n)
 value_none room n i old new none = λ bytes rest v is h. absurd (omega (arith, none, value_some strict room bytes v h, ap length is, length-append bytes rest))
 
+-- Where the first byte is no tag, nothing is said of what is written for a value.
 pub value_unknown : (room n : ℕ) (i old new : List ℕ) → tag_at (get_or i 0 0) ≡ None → WritesText (SpellsValue strict room) value_text i old new (Ok n)
 value_unknown room n i old new none = λ bytes rest v is h. absurd (let e = sym none ∙ (tag_in room i bytes rest v is h).tag_is in cc)
 
-pub value_rendered : (room used : ℕ) (i : List ℕ) (t : FieldTag) (old mid new : List ℕ) → tag_at (get_or i 0 0) ≡ Some t → mid ≡ old ++ tag_text t → WritesAfter room t (drop 1 i) mid new (Ok used) → WritesText (SpellsValue strict room) value_text i old new (Ok (1 + used))
+-- The text of a tag and then that of what stands after it are the text of a value, which takes one byte more.
+pub value_rendered : (room used : ℕ) (i : List ℕ) (t : FieldTag) (old mid new : List ℕ) → tag_at (get_or i 0 0) ≡ Some t → mid ≡ old ++ tag_text t
+    → WritesAfter room t (drop 1 i) mid new (Ok used) → WritesText (SpellsValue strict room) value_text i old new (Ok (1 + used))
 unfolding value_text WritesContent
 value_rendered room used i t old mid new is e w = λ bytes rest v at h.
     let g = tag_in room i bytes rest v at h in
     let same : t ≡ tag_of v = let x = sym is ∙ g.tag_is in cc in
     let P : FieldTag → Type 0 = λ u. WritesAfter room u (g.behind ++ rest) mid new (Ok used) in
     let Q : List ℕ → Type 0 = λ bs. WritesAfter room t bs mid new (Ok used) in
-    let one = after_tag room v g.behind rest mid new used (subst P same (subst Q g.rest_is w)) g.value_is in
-    (omega (arith, one.0, g.count), one.1 ∙ ap (λ (xs : List ℕ). xs ++ content_text v) (e ∙ ap (λ u. old ++ tag_text u) same) ∙ append_assoc old (tag_text (tag_of v)) (content_text v))
+    let one = after_tag room v g.behind rest mid new used (subst P same (subst Q g.rest_is w)) g.value_is in (
+      omega (arith, one.0, g.count),
+      one.1 ∙ ap (λ (xs : List ℕ). xs ++ content_text v) (e ∙ ap (λ u. old ++ tag_text u) same) ∙ append_assoc old (tag_text (tag_of v)) (content_text v),
+    )
 
 -- ---- a length and what it covers
 
-content_is : (i bytes rest inner content : List ℕ) (used : ℕ) → i ≡ bytes ++ rest → SpellsLongString bytes inner → judge_long_string i ≡ took content used → (inner ≡ content) × (used ≡ length bytes)
+content_is : (i bytes rest inner content : List ℕ) (used : ℕ) → i ≡ bytes ++ rest → SpellsLongString bytes inner
+    → judge_long_string i ≡ took content used → (inner ≡ content) × (used ≡ length bytes)
 content_is i bytes rest inner content used is framed found =
     let same : took inner (length bytes) ≡ took content used = sym (long_string_exact.taken bytes rest inner framed) ∙ sym (ap judge_long_string is) ∙ found in
     (value_took inner content (length bytes) used same, sym (count_took inner content (length bytes) used same))
@@ -174,28 +211,44 @@ no_content i bytes rest inner is framed none =
 
 between : (old a b new before text after : List ℕ) → a ≡ old ++ before → b ≡ a ++ text → new ≡ b ++ after → new ≡ old ++ (before ++ (text ++ after))
 between old a b new before text after first middle last =
-    last ∙ ap (λ (xs : List ℕ). xs ++ after) (middle ∙ ap (λ (xs : List ℕ). xs ++ text) first) ∙ append_assoc (old ++ before) text after ∙ append_assoc old before (text ++ after)
+    last ∙ ap (λ (xs : List ℕ). xs ++ after) (middle ∙ ap (λ (xs : List ℕ). xs ++ text) first)
+    ∙ append_assoc (old ++ before) text after ∙ append_assoc old before (text ++ after)
 
-pub array_written : (room : ℕ) (i content old a b new : List ℕ) (used : ℕ) (done : Unit {0}) → judge_long_string i ≡ took content used → a ≡ old ++ codes "[" → WritesEach (SpellsValue strict room) value_text content a b (Ok done) → new ≡ b ++ codes "]" → WritesText (SpellsArray (SpellsValue strict room)) array_text i old new (Ok used)
+-- The texts of the values between brackets are the text of an array, which takes what its long string takes.
+pub array_written : (room : ℕ) (i content old a b new : List ℕ) (used : ℕ) (done : Unit {0}) → judge_long_string i ≡ took content used
+    → a ≡ old ++ codes "[" → WritesEach (SpellsValue strict room) value_text content a b (Ok done)
+    → new ≡ b ++ codes "]" → WritesText (SpellsArray (SpellsValue strict room)) array_text i old new (Ok used)
 unfolding array_text
 array_written room i content old a b new used done found first each last = λ bytes rest vs is h.
-    let c = content_is i bytes rest h.inner content used is h.framed found in
-    (c.1, between old a b new (codes "[") (parted (map value_text vs)) (codes "]") first (each vs (subst (λ (bs : List ℕ). SpellsEach (SpellsValue strict room) bs vs) c.0 h.each)) last)
+    let c = content_is i bytes rest h.inner content used is h.framed found in (
+      c.1,
+      between old a b new (codes "[") (parted (map value_text vs)) (codes "]") first
+          (each vs (subst (λ (bs : List ℕ). SpellsEach (SpellsValue strict room) bs vs) c.0 h.each)) last,
+    )
 
-pub array_unwritten : (room n : ℕ) (i old new : List ℕ) → (IsRead (judge_long_string i) → ⊥) → WritesText (SpellsArray (SpellsValue strict room)) array_text i old new (Ok n)
+-- Where no long string stands in front, nothing is said of what is written for an array.
+pub array_unwritten : (room n : ℕ) (i old new : List ℕ) → (IsRead (judge_long_string i) → ⊥)
+    → WritesText (SpellsArray (SpellsValue strict room)) array_text i old new (Ok n)
 array_unwritten room n i old new none = λ bytes rest vs is h. absurd (no_content i bytes rest h.inner is h.framed none)
 
 table_is : (es : List Entry) → codes "{" ++ (parted (map entry_text es) ++ codes "}") ≡ table_text es
 unfolding table_text
 table_is es = ap (λ ts. codes "{" ++ (parted ts ++ codes "}")) (ap (map entry_text) (sym (pairs-entries_of es)) ∙ entries_are (entries_of es))
 
-pub table_written : (room : ℕ) (i content old a b new : List ℕ) (used : ℕ) (done : Unit {0}) → judge_long_string i ≡ took content used → a ≡ old ++ codes "{" → WritesEach (SpellsEntry (SpellsValue strict room)) entry_text content a b (Ok done) → new ≡ b ++ codes "}" → WritesText (SpellsTable strict (SpellsValue strict room)) table_text i old new (Ok used)
+-- The texts of the entries between brackets are the text of a table, which takes what its long string takes.
+pub table_written : (room : ℕ) (i content old a b new : List ℕ) (used : ℕ) (done : Unit {0}) → judge_long_string i ≡ took content used
+    → a ≡ old ++ codes "{" → WritesEach (SpellsEntry (SpellsValue strict room)) entry_text content a b (Ok done)
+    → new ≡ b ++ codes "}" → WritesText (SpellsTable strict (SpellsValue strict room)) table_text i old new (Ok used)
 table_written room i content old a b new used done found first each last = λ bytes rest es is h.
     let c = content_is i bytes rest h.inner content used is h.framed found in
-    let filled = subst (λ (bs : List ℕ). SpellsEach (SpellsEntry (SpellsValue strict room)) bs es) c.0 (subst (λ fs. SpellsEach (SpellsEntry (SpellsValue strict room)) h.inner fs) h.once h.each) in
+    let filled =
+    subst (λ (bs : List ℕ). SpellsEach (SpellsEntry (SpellsValue strict room)) bs es) c.0
+    (subst (λ fs. SpellsEach (SpellsEntry (SpellsValue strict room)) h.inner fs) h.once h.each) in
     (c.1, between old a b new (codes "{") (parted (map entry_text es)) (codes "}") first (each es filled) last ∙ ap (λ (xs : List ℕ). old ++ xs) (table_is es))
 
-pub table_unwritten : (room n : ℕ) (i old new : List ℕ) → (IsRead (judge_long_string i) → ⊥) → WritesText (SpellsTable strict (SpellsValue strict room)) table_text i old new (Ok n)
+-- Where no long string stands in front, nothing is said of what is written for a table.
+pub table_unwritten : (room n : ℕ) (i old new : List ℕ) → (IsRead (judge_long_string i) → ⊥)
+    → WritesText (SpellsTable strict (SpellsValue strict room)) table_text i old new (Ok n)
 table_unwritten room n i old new none = λ bytes rest es is h. absurd (no_content i bytes rest h.inner is h.framed none)
 
 -- ---- a short string, and a key and its value
@@ -205,12 +258,17 @@ key_is i bytes rest text is h =
     let at : i ≡ length text ∷ (text ++ rest) = is ∙ ap (λ (bs : List ℕ). bs ++ rest) h.bytes_are in
     (ap key_in at ∙ take_at text rest (length text) refl, ap after_key at ∙ drop_at text rest (length text) refl)
 
-pub short_written : (i text old new : List ℕ) → text ≡ key_in i → new ≡ old ++ quoted text → WritesText SpellsShortString quoted i old new (Ok (1 + length text))
+-- The quoted key of some bytes is the text of their short string, which takes one byte and the key.
+pub short_written : (i text old new : List ℕ) → text ≡ key_in i → new ≡ old ++ quoted text
+    → WritesText SpellsShortString quoted i old new (Ok (1 + length text))
 short_written i text old new is e = λ bytes rest x at h.
     let same : text ≡ x = is ∙ (key_is i bytes rest x at h).0 in
     (omega (arith, ap length same, ap length h.bytes_are), e ∙ ap (λ (xs : List ℕ). old ++ quoted xs) same)
 
-pub entry_written : (room : ℕ) (i key after : List ℕ) (used : ℕ) (old a b new : List ℕ) → key ≡ key_in i → after ≡ after_key i → a ≡ old ++ quoted key → b ≡ a ++ codes "=" → WritesText (SpellsValue strict room) value_text after b new (Ok used) → WritesText (SpellsEntry (SpellsValue strict room)) entry_text i old new (Ok (1 + length key + used))
+-- The quoted key, an equals sign and the text of the value are the text of an entry, which takes both.
+pub entry_written : (room : ℕ) (i key after : List ℕ) (used : ℕ) (old a b new : List ℕ) → key ≡ key_in i → after ≡ after_key i
+    → a ≡ old ++ quoted key → b ≡ a ++ codes "=" → WritesText (SpellsValue strict room) value_text after b new (Ok used)
+    → WritesText (SpellsEntry (SpellsValue strict room)) entry_text i old new (Ok (1 + length key + used))
 unfolding entry_text
 entry_written room i key after used old a b new is behind first second value = λ bytes rest e at h.
     let k = key_is i h.front (h.behind ++ rest) h.one (at ∙ ap (λ (bs : List ℕ). bs ++ rest) h.bytes_are ∙ append_assoc h.front h.behind rest) h.first_is in
@@ -218,31 +276,39 @@ entry_written room i key after used old a b new is behind first second value = �
     let w = value h.behind rest h.two (behind ∙ k.1) h.second_is in (
       omega (arith, w.0, ap length same, ap length h.bytes_are, length-append h.front h.behind, ap length h.first_is.bytes_are),
       w.1 ∙ ap (λ (xs : List ℕ). xs ++ value_text h.two) (second ∙ ap (λ (xs : List ℕ). xs ++ codes "=") (first ∙ ap (λ (ks : List ℕ). old ++ quoted ks) same))
-          ∙ append_assoc (old ++ quoted h.one) (codes "=") (value_text h.two) ∙ append_assoc old (quoted h.one) (codes "=" ++ value_text h.two) ∙ ap (λ (x : Entry). old ++ entry_text x) (sym h.joined),
+          ∙ append_assoc (old ++ quoted h.one) (codes "=") (value_text h.two)
+          ∙ append_assoc old (quoted h.one) (codes "=" ++ value_text h.two) ∙ ap (λ (x : Entry). old ++ entry_text x) (sym h.joined),
     )
 
 -- ---- things that fill some bytes, one after another
 
 -- where things fill all of the content, others fill the rest, whose texts after what is written so far complete the whole
 pub record GoesOn {A : Type 0} (Spells : List ℕ → A → Type 0) (text : A → List ℕ) (content old rest now : List ℕ) : Type 0 where
-  pub left : (xs : List A) → SpellsEach Spells content xs → (ys : List A) × SpellsEach Spells rest ys × (now ++ parted (map text ys) ≡ old ++ parted (map text xs))
+  pub left : (xs : List A) → SpellsEach Spells content xs
+      → (ys : List A) × SpellsEach Spells rest ys × (now ++ parted (map text ys) ≡ old ++ parted (map text xs))
 
+-- At the start nothing is written, and all of the content is left.
 pub begins : {A : Type 0} {Spells : List ℕ → A → Type 0} {text : A → List ℕ} {content old : List ℕ} → GoesOn Spells text content old content old
 begins = record { left = λ xs h. (xs, h, refl) }
 
 module _ {A : Type 0} (Spells : List ℕ → A → Type 0) (text : A → List ℕ) (some : HasBytes Spells) where
   -- a comma comes before others
-  comma_parts : (rest : List ℕ) (y : A) (ys : List A) → SpellsEach Spells rest ys → parted (text y ∷ map text ys) ≡ text y ++ (comma_before rest ++ parted (map text ys))
+  comma_parts : (rest : List ℕ) (y : A) (ys : List A) → SpellsEach Spells rest ys
+      → parted (text y ∷ map text ys) ≡ text y ++ (comma_before rest ++ parted (map text ys))
   unfolding parted
   comma_parts [] y [] h = sym (append-nil (text y))
   comma_parts (byte ∷ rest) y [] h = absurd cc
   comma_parts [] y (z ∷ zs) h = absurd (omega (arith, some h.0 z h.3, ap length h.2, length-append h.0 h.1))
   comma_parts (byte ∷ rest) y (z ∷ zs) h = refl
 
-  pub goes_on : {content old rest now : List ℕ} (mid next new : List ℕ) (used : ℕ) → GoesOn Spells text content old rest now → 0 < length rest → WritesText Spells text rest now mid (Ok used) → next ≡ drop used rest → new ≡ mid ++ comma_before next → GoesOn Spells text content old next new
-  goes_on {content = content} {old = old} {rest = rest} {now = now} mid next new used g up w is comma = record { left = λ xs h. let l = g.left xs h in on xs l.0 l.1 l.2 }
+  -- With the text of one thing more, and a comma where more comes, what is written goes on with the others.
+  pub goes_on : {content old rest now : List ℕ} (mid next new : List ℕ) (used : ℕ) → GoesOn Spells text content old rest now → 0 < length rest
+      → WritesText Spells text rest now mid (Ok used) → next ≡ drop used rest → new ≡ mid ++ comma_before next → GoesOn Spells text content old next new
+  goes_on {content = content} {old = old} {rest = rest} {now = now} mid next new used g up w is comma =
+      record { left = λ xs h. let l = g.left xs h in on xs l.0 l.1 l.2 }
     where
-      on : (xs ys : List A) → SpellsEach Spells rest ys → now ++ parted (map text ys) ≡ old ++ parted (map text xs) → (zs : List A) × SpellsEach Spells next zs × (new ++ parted (map text zs) ≡ old ++ parted (map text xs))
+      on : (xs ys : List A) → SpellsEach Spells rest ys → now ++ parted (map text ys) ≡ old ++ parted (map text xs)
+          → (zs : List A) × SpellsEach Spells next zs × (new ++ parted (map text zs) ≡ old ++ parted (map text xs))
       on xs [] h joins = absurd (omega (arith, up, ap length h))
       on xs (y ∷ ys) h joins =
           let one = w h.0 h.1 y h.2 h.3 in
@@ -251,11 +317,14 @@ module _ {A : Type 0} (Spells : List ℕ → A → Type 0) (text : A → List �
           let more = parted (map text ys) in (
             ys,
             others,
-            ap (λ (bs : List ℕ). bs ++ more) (comma ∙ ap (λ (bs : List ℕ). bs ++ comma_before next) one.1) ∙ append_assoc (now ++ text y) (comma_before next) more ∙ append_assoc now (text y) (comma_before next ++ more)
+            ap (λ (bs : List ℕ). bs ++ more) (comma ∙ ap (λ (bs : List ℕ). bs ++ comma_before next) one.1)
+                ∙ append_assoc (now ++ text y) (comma_before next) more ∙ append_assoc now (text y) (comma_before next ++ more)
                 ∙ ap (λ (bs : List ℕ). now ++ bs) (sym (comma_parts next y ys others)) ∙ joins,
           )
 
-  pub done : {content old rest now : List ℕ} (unit : Unit {0}) → GoesOn Spells text content old rest now → length rest ≡ 0 → WritesEach Spells text content old now (Ok unit)
+  -- Where nothing is left, the texts of all things are written, with commas between them.
+  pub done : {content old rest now : List ℕ} (unit : Unit {0}) → GoesOn Spells text content old rest now
+      → length rest ≡ 0 → WritesEach Spells text content old now (Ok unit)
   unfolding parted
   done {old = old} {rest = rest} {now = now} unit g none = λ xs h. let l = g.left xs h in on xs l.0 l.1 l.2
     where

@@ -1,5 +1,6 @@
 -- The longest sequence of frames whose text stands in front of some bytes.
-use Rattle.std.proofs.Common.{◌≡◌, ◌≢◌, ℕ, zero, suc, ◌+◌, ◌<◌, ◌≤◌, List, [], ◌∷◌, ◌++◌, length, get_or, take, drop, Some, None, refl, sym, ap, subst, ◌∙◌, append_assoc, append-nil, arith}
+use Rattle.std.proofs.Common.{◌≡◌, ◌≢◌, ℕ, zero, suc, ◌+◌, ◌<◌, ◌≤◌, List, [], ◌∷◌, ◌++◌, length, get_or, take, drop, Some, None, refl, sym, ap, subst, ◌∙◌}
+use Rattle.std.proofs.Common.{append_assoc, append-nil, arith}
 use Rattle.std.specs.List.{AllByRecursion, flat_map}
 use Rattle.std.proofs.lemmas.List.{length-append, take-append-drop}
 use Rattle.std.proofs.Math.Seq.{take-add}
@@ -19,14 +20,17 @@ use Rattle.amqp_lines.proofs.LinesApart.{newline_once, head_same}
 
 -- ---- strict sequences, frame by frame
 
+-- each of these frames is encoded strictly by its canonical bytes, within the limit
 abbrev pub AllStrict : ℕ → List Frame → Type 0
 AllStrict m = AllByRecursion (IsStrictWithin m)
 
+-- A strict encoding of a frame is its canonical bytes.
 pub first_is_canon : (first : List ℕ) (f : Frame) → Spells strict first f → first ≡ canon f
 first_is_canon first f h =
     let sequence : SpellsFrames strict None first (f ∷ []) = (first, [], sym (append-nil first), h, tt, refl) in
     (one_strict strict None first (f ∷ []) sequence).only first sequence ∙ append-nil (canon f)
 
+-- Frames of which each is strict within the limit are so one by one.
 pub all_strict : (m : ℕ) (frames : List Frame) → AreStrict m frames → AllStrict m frames
 all_strict m [] h = tt
 all_strict m (f ∷ fs) h =
@@ -34,31 +38,48 @@ all_strict m (f ∷ fs) h =
     let same = first_is_canon sequence.0 f sequence.3 in
     let others = (one_strict strict (Some m) sequence.1 fs sequence.5).only sequence.1 sequence.5 in (
       record {
-        is_strict = record { are_bytes = bytes_front (canon f) (canon_frames fs) (canon_frames (f ∷ fs)) refl h.1; encodes = subst (λ (bs : List ℕ). Spells strict bs f) same sequence.3 };
+        is_strict = record {
+          are_bytes = bytes_front (canon f) (canon_frames fs) (canon_frames (f ∷ fs)) refl h.1;
+          encodes = subst (λ (bs : List ℕ). Spells strict bs f) same sequence.3;
+        };
         within = subst (λ (bs : List ℕ). length bs ≤ m + 8) same sequence.4;
       },
-      all_strict m fs (subst (λ (bs : List ℕ). SpellsFrames strict (Some m) bs fs) others sequence.5, bytes_behind (canon f) (canon_frames fs) (canon_frames (f ∷ fs)) refl h.1),
+      all_strict m fs (
+        subst (λ (bs : List ℕ). SpellsFrames strict (Some m) bs fs) others sequence.5,
+        bytes_behind (canon f) (canon_frames fs) (canon_frames (f ∷ fs)) refl h.1,
+      ),
     )
 
+-- Frames that are strict within the limit one by one are so each.
 pub are_strict : (m : ℕ) (frames : List Frame) → AllStrict m frames → AreStrict m frames
 are_strict m [] h = (refl, IsBytes-nil)
 are_strict m (f ∷ fs) h =
     let others = are_strict m fs h.1 in
     ((canon f, canon_frames fs, refl, h.0.is_strict.encodes, h.0.within, others.0), IsBytes-append (canon f) (canon_frames fs) h.0.is_strict.are_bytes others.1)
 
+-- Frames that are strict within the limit, and more of them after, are so together.
 pub all_both : (m : ℕ) (fs gs : List Frame) → AllStrict m fs → AllStrict m gs → AllStrict m (fs ++ gs)
 all_both m [] gs h k = k
 all_both m (f ∷ fs) gs h k = (h.0, all_both m fs gs h.1 k)
 
 -- ---- newlines
 
-none_holds : (bytes front back : List ℕ) → HasNoNewline bytes → bytes ≡ front ++ 10 ∷ back → ⊥
+-- bytes without a newline are not parted by one
+pub none_holds : (bytes front back : List ℕ) → HasNoNewline bytes → bytes ≡ front ++ 10 ∷ back → ⊥
 none_holds [] front back h e = omega (arith, ap length e, length-append front (10 ∷ back))
 none_holds (c ∷ cs) [] back h e = h.0 (head_same c 10 cs back e).0
 none_holds (c ∷ cs) (d ∷ ds) back h e = none_holds cs ds back h.1 (head_same c d cs (ds ++ 10 ∷ back) e).1
 
+-- No bytes have a newline and have none.
 pub holds_none : (bytes : List ℕ) → HasNoNewline bytes → HoldsNewline bytes → ⊥
 holds_none bytes h k = none_holds bytes k.front k.back h k.parts
+
+-- the first bytes of those without a newline have none
+pub none_take : (n : ℕ) (xs : List ℕ) → HasNoNewline xs → HasNoNewline (take n xs)
+none_take zero [] h = tt
+none_take zero (x ∷ xs) h = tt
+none_take (suc n) [] h = tt
+none_take (suc n) (x ∷ xs) h = (h.0, none_take n xs h.1)
 
 none_both : (xs ys : List ℕ) → HasNoNewline xs → HasNoNewline ys → HasNoNewline (xs ++ ys)
 none_both [] ys h k = k
@@ -74,10 +95,13 @@ byte_at (suc place) (x ∷ xs) h = byte_at place xs (omega arith)
 up_to : (place : ℕ) (text : List ℕ) (b : ℕ) → place < length text → get_or text place 0 ≡ b → take (place + 1) text ≡ take place text ++ b ∷ []
 up_to place text b h is = take-add place 1 text ∙ ap (λ (xs : List ℕ). take place text ++ xs) (byte_at place text h ∙ ap (λ (x : ℕ). x ∷ []) is)
 
-pub first_found : (place : ℕ) (text : List ℕ) (b : ℕ) → place < length text → HasNoNewline (take place text) → get_or text place 0 ≡ b → b ≡ 10 → IsFirstLine text (place + 1)
-first_found place text b h none is same = record { front = take place text; parts = up_to place text 10 h (is ∙ same); none_before = none; some = omega arith; within = omega (arith, h) }
+pub first_found : (place : ℕ) (text : List ℕ) (b : ℕ) → place < length text
+    → HasNoNewline (take place text) → get_or text place 0 ≡ b → b ≡ 10 → IsFirstLine text (place + 1)
+first_found place text b h none is same =
+    record { front = take place text; parts = up_to place text 10 h (is ∙ same); none_before = none; some = omega arith; within = omega (arith, h) }
 
-pub none_next : (place : ℕ) (text : List ℕ) (b : ℕ) → place < length text → HasNoNewline (take place text) → get_or text place 0 ≡ b → b ≢ 10 → HasNoNewline (take (place + 1) text)
+pub none_next : (place : ℕ) (text : List ℕ) (b : ℕ) → place < length text → HasNoNewline (take place text)
+    → get_or text place 0 ≡ b → b ≢ 10 → HasNoNewline (take (place + 1) text)
 none_next place text b h none is other = subst HasNoNewline (sym (up_to place text b h is)) (none_both (take place text) (b ∷ []) none (other, tt))
 
 take_all : (n : ℕ) (xs : List ℕ) → length xs ≤ n → take n xs ≡ xs
@@ -106,13 +130,16 @@ line_first f front x y none h =
 unfoldable pub IsAtNone : ℕ → List ℕ → Type 0
 IsAtNone m bytes = (f : Frame) (x : List ℕ) → IsStrictWithin m f → line f ++ x ≡ bytes → ⊥
 
+-- Bytes without a newline begin with no line.
 pub at_clean : (m : ℕ) (bytes : List ℕ) → HasNoNewline bytes → IsAtNone m bytes
 unfolding IsAtNone
 at_clean m bytes h f x good e = none_holds bytes (one_newline f).front x h (sym e ∙ line_front f x)
 
+-- A text is its first line, with the newline that ends it, and what follows.
 pub first_line : (text : List ℕ) (end : ℕ) (h : IsFirstLine text end) → text ≡ h.front ++ (10 ∷ drop end text)
 first_line text end h = sym (take-append-drop end text) ∙ ap (λ (xs : List ℕ). xs ++ drop end text) h.parts ∙ append_assoc h.front (10 ∷ []) (drop end text)
 
+-- Where the first line of a text is that of no frame within the limit, no line is in front.
 pub at_other : (m : ℕ) (text : List ℕ) (end : ℕ) → IsFirstLine text end → IsNoLine m (take end text) → IsAtNone m text
 unfolding IsAtNone
 at_other m text end h none f x good e =
@@ -124,11 +151,14 @@ no_longer m fs [] rest x none good e = omega arith
 no_longer m [] (g ∷ gs) rest x none good e = absurd (none g (flat_map line gs ++ x) good.0 (sym (append_assoc (line g) (flat_map line gs) x) ∙ e))
 no_longer m (f ∷ fs) (g ∷ gs) rest x none good e =
     let a = one_newline f in
-    let left : line g ++ (flat_map line gs ++ x) ≡ a.front ++ (10 ∷ (flat_map line fs ++ rest)) = sym (append_assoc (line g) (flat_map line gs) x) ∙ e ∙ append_assoc (line f) (flat_map line fs) rest ∙ line_front f (flat_map line fs ++ rest) in
+    let left : line g ++ (flat_map line gs ++ x) ≡ a.front ++ (10 ∷ (flat_map line fs ++ rest)) =
+    sym (append_assoc (line g) (flat_map line gs) x) ∙ e ∙ append_assoc (line f) (flat_map line fs) rest ∙ line_front f (flat_map line fs ++ rest) in
     let others = line_first g a.front (flat_map line gs ++ x) (flat_map line fs ++ rest) a.none_before left in
     omega (arith, no_longer m fs gs rest x none good.1 others.1)
 
-pub is_longest : (m : ℕ) (bytes : List ℕ) (frames : List Frame) (rest : List ℕ) → AllStrict m frames → bytes ≡ lines frames ++ rest → IsAtNone m rest → IsLongestText m bytes frames rest
+-- Lines that are followed by no line are the longest text in front of some bytes.
+pub is_longest : (m : ℕ) (bytes : List ℕ) (frames : List Frame) (rest : List ℕ) → AllStrict m frames
+    → bytes ≡ lines frames ++ rest → IsAtNone m rest → IsLongestText m bytes frames rest
 is_longest m bytes frames rest good parts none = record {
   are_strict = are_strict m frames good;
   parts = parts;

@@ -1,5 +1,6 @@
 -- Laws of texts: the longest is one, what was dumped is read back, and strict bytes and texts correspond.
-use Rattle.std.proofs.Common.{◌≡◌, ◌≢◌, ◌↔◌, ℕ, false, List, [], ◌∷◌, ◌++◌, length, Some, None, Ok, refl, sym, ap, ap₂, subst, ◌∙◌, append_assoc, append-nil, arith, Result, Err}
+use Rattle.std.proofs.Common.{◌≡◌, ◌≢◌, ◌↔◌, ℕ, false, List, [], ◌∷◌, ◌++◌, length, Some, None, Ok, refl, sym, ap, ap₂, subst, ◌∙◌, append_assoc}
+use Rattle.std.proofs.Common.{append-nil, arith, Result, Err}
 use Rattle.std.specs.List.{AllByRecursion, flat_map}
 use Rattle.std.proofs.lemmas.List.{take_all}
 use Rattle.std.proofs.lemmas.Bool.{ne_eqb}
@@ -30,17 +31,22 @@ use Rattle.amqp_lines.proofs.TextFronts.{AllStrict, all_strict, at_clean, holds_
 
 -- ---- the longest text is one
 
-same_text : (m : ℕ) (fs gs : List Frame) (rest more : List ℕ) → AllStrict m fs → AllStrict m gs → length fs ≡ length gs → lines fs ++ rest ≡ lines gs ++ more → IsSameText fs gs rest more
+same_text : (m : ℕ) (fs gs : List Frame) (rest more : List ℕ) → AllStrict m fs → AllStrict m gs
+    → length fs ≡ length gs → lines fs ++ rest ≡ lines gs ++ more → IsSameText fs gs rest more
 unfolding lines
 same_text m [] [] rest more p q n e = record { frames = refl; rests = e }
 same_text m [] (g ∷ gs) rest more p q n e = absurd (omega arith)
 same_text m (f ∷ fs) [] rest more p q n e = absurd (omega arith)
 same_text m (f ∷ fs) (g ∷ gs) rest more p q n e =
-    let s = split f g (flat_map line fs ++ rest) (flat_map line gs ++ more) (sym (append_assoc (line f) (flat_map line fs) rest) ∙ e ∙ append_assoc (line g) (flat_map line gs) more) in
+    let s =
+    split f g (flat_map line fs ++ rest) (flat_map line gs ++ more)
+    (sym (append_assoc (line f) (flat_map line fs) rest) ∙ e ∙ append_assoc (line g) (flat_map line gs) more) in
     let others = same_text m fs gs rest more p.1 q.1 (omega arith) s.others in
     record { frames = ap₂ (λ (x : Frame) (xs : List Frame). x ∷ xs) (same_frame f g p.0.is_strict q.0.is_strict s.first) others.frames; rests = others.rests }
 
-pub one_longest : (m : ℕ) (bytes : List ℕ) (fs gs : List Frame) (rest more : List ℕ) → IsLongestText m bytes fs rest → IsLongestText m bytes gs more → IsSameText fs gs rest more
+-- Within a limit, some bytes begin with one longest text only.
+pub one_longest : (m : ℕ) (bytes : List ℕ) (fs gs : List Frame) (rest more : List ℕ)
+    → IsLongestText m bytes fs rest → IsLongestText m bytes gs more → IsSameText fs gs rest more
 one_longest m bytes fs gs rest more h k =
     let up = h.longest gs k.are_strict (more, sym k.parts) in
     let down = k.longest fs h.are_strict (rest, sym h.parts) in
@@ -48,16 +54,19 @@ one_longest m bytes fs gs rest more h k =
 
 -- ---- what was dumped
 
+-- What is dumped of some bytes is, to its end, the text of the frames at the front of these bytes.
 pub dumped_back : (m : ℕ) (bytes : List ℕ) → IsBytes bytes → IsLongestText m (dumped m bytes) (front plain (Some m) bytes) []
 dumped_back m bytes fits =
     let frames = front plain (Some m) bytes in
     let cut = front-is_sequence plain (Some m) bytes fits in
     let used = bytes_front cut.used (place plain (Some m) bytes) bytes cut.parts fits in
-    let good : AreStrict m frames = ((one_strict plain (Some m) cut.used frames cut.sequence).canonical, canonical_bytes (Some m) cut.used frames used cut.sequence) in
+    let good : AreStrict m frames =
+    ((one_strict plain (Some m) cut.used frames cut.sequence).canonical, canonical_bytes (Some m) cut.used frames used cut.sequence) in
     is_longest m (lines frames) frames [] (all_strict m frames good) (sym (append-nil (lines frames))) (at_clean m [] tt)
 
 -- what stands after the text, and is none of it
-undoes : (m : ℕ) (bytes : List ℕ) (k l : Store) (r : Result (Unit {0}) UndumpError) (u : UndumpsExactly m (dumped m bytes) k l r) → u.frames ≡ front plain (Some m) bytes → u.rest ≡ [] → Undoes m bytes k l r
+undoes : (m : ℕ) (bytes : List ℕ) (k l : Store) (r : Result (Unit {0}) UndumpError) (u : UndumpsExactly m (dumped m bytes) k l r)
+    → u.frames ≡ front plain (Some m) bytes → u.rest ≡ [] → Undoes m bytes k l r
 undoes m bytes k l (Ok done) u frames none = record {
   never_bad = λ e. absurd cc;
   never_short = λ e. absurd cc;
@@ -70,7 +79,9 @@ undoes m bytes k l (Err errors.ReadFault) u frames none = record { never_bad = �
 undoes m bytes k l (Err errors.WriteFault) u frames none = record { never_bad = λ e. absurd cc; never_short = λ e. absurd cc; written = λ e. absurd cc }
 undoes m bytes k l (Err errors.NoMemory) u frames none = record { never_bad = λ e. absurd cc; never_short = λ e. absurd cc; written = λ e. absurd cc }
 
-pub undump_undoes : (m : ℕ) (bytes : List ℕ) (k l : Store) (r : Result (Unit {0}) UndumpError) → IsBytes bytes → UndumpsExactly m (dumped m bytes) k l r → Undoes m bytes k l r
+-- Reading back what was dumped finds no bad line, and writes the canonical bytes of the frames at the front of the bytes.
+pub undump_undoes : (m : ℕ) (bytes : List ℕ) (k l : Store) (r : Result (Unit {0}) UndumpError)
+    → IsBytes bytes → UndumpsExactly m (dumped m bytes) k l r → Undoes m bytes k l r
 undump_undoes m bytes k l r fits u =
     let same = one_longest m (dumped m bytes) u.frames (front plain (Some m) bytes) u.rest [] u.text (dumped_back m bytes fits) in
     undoes m bytes k l r u same.frames same.rests
@@ -89,9 +100,11 @@ each_strict : (m : ℕ) (fs : List Frame) → AllStrict m fs → AllByRecursion 
 each_strict m [] h = tt
 each_strict m (f ∷ fs) h = (h.0.is_strict, each_strict m fs h.1)
 
+-- Bytes that encode a sequence of frames strictly have one text only.
 pub one_text : (m : ℕ) (bytes t u : List ℕ) → AreBytesAndText m bytes t → AreBytesAndText m bytes u → t ≡ u
 one_text m bytes t u h k = h.is_text ∙ ap lines (one_sequence strict (Some m) bytes h.frames k.frames h.is_sequence k.is_sequence) ∙ sym k.is_text
 
+-- One text is that of one sequence of canonical bytes only.
 pub one_text_bytes : (m : ℕ) (b c text : List ℕ) → AreBytesAndText m b text → AreBytesAndText m c text → b ≡ c
 one_text_bytes m b c text h k =
     let fs = each_strict m h.frames (all_strict m h.frames (are_strict_frames m b text h)) in
@@ -128,8 +141,11 @@ usual_strict f held fits h =
     let found = verdict-spells strict None (canon f) (read_back f) n fits (rw (append-nil (canon f)) at back) in
     record {
       are_bytes = fits;
-      encodes = subst (λ (g : Frame). Spells strict (canon f) g) (back_same f h.belongs) (subst (λ (bs : List ℕ). Spells strict bs (read_back f)) (take_all n (canon f) (omega arith)) found.0);
+      encodes =
+          subst (λ (g : Frame). Spells strict (canon f) g) (back_same f h.belongs)
+          (subst (λ (bs : List ℕ). Spells strict bs (read_back f)) (take_all n (canon f) (omega arith)) found.0);
     }
 
+-- A frame that programs hold is encoded strictly by its canonical bytes exactly where it is usual.
 pub strict_is_usual : (f : Frame) → IsFrameHeld f → IsBytes (canon f) → IsStrict f ↔ IsUsual f
 strict_is_usual f held fits = (strict_usual f, usual_strict f held fits)

@@ -15,9 +15,16 @@ use Rattle.amqp_stream.specs.Runs.{Runs}
 use Rattle.amqp_stream.specs.Reports.{EndsAt, IsRestBy, unreported}
 use Rattle.amqp_lines.specs.Lines.{line, lines}
 
--- The line of each frame by itself, of whatever can be read. No frame is refused, the stream may end anywhere, and memory may run out at any frame.
+-- The line of each frame by itself, of whatever can be read. No frame is refused, the stream may
+-- end anywhere, and memory may run out at any frame.
 abbrev pub dumping : Manner (Unit {0}) Infallible
-dumping = record { level = plain; step = λ s f. Ok (line f, s); end = λ s. None; wants = λ kind. true; compact = false }
+dumping = record {
+  level = plain;
+  step = λ s f. Ok (line f, s);
+  end = λ s. None;
+  wants = λ kind. true;
+  compact = false;
+}
 
 -- the lines of the frames at the front of some bytes
 abbrev pub dumped : ℕ → List ℕ → List ℕ
@@ -30,26 +37,33 @@ pub record WritesLines : Type 0 where
 
 -- A whole call: a is the source before it and b after it, k and l the sink.
 abbrev pub Dumps : ℕ → ℕ → Supply → Supply → Store → Store → Result (Unit {0}) StreamError → Type 0
-Dumps m turns a b k l result = Streams dumping tt tt m turns a b k l (ending_of (as_run result))
+Dumps m budget a b k l result = Streams dumping tt tt m budget a b k l (ending_of (as_run result))
 
 -- what a call returns over a source that reports its bytes
 abbrev pub DumpsExactly : ℕ → List ℕ → Store → Store → Result (Unit {0}) StreamError → Type 0
 DumpsExactly m bytes k l result = StreamsExactly dumping tt m bytes k l (ending_of (as_run result))
 
 -- a run that writes the lines of the frames
-abbrev pub DumpRun : {S K : Type 0} → (S → Supply) → (K → Store) → ℕ → ℕ → S → S → K → K → Result (Unit {0}) StreamError → Type 0
-DumpRun supply store m turns source source' sink sink' result = Runs supply store turns source source' sink sink'
-    (Dumps m turns (supply source) (supply source') (store sink) (store sink') result)
+abbrev pub DumpRun : {S K : Type 0} → (S → Supply) → (K → Store)
+    → ℕ → ℕ → S → S → K → K → Result (Unit {0}) StreamError → Type 0
+DumpRun supply store m budget source source' sink sink' result =
+    Runs supply store budget source source' sink sink'
+    (Dumps m budget (supply source) (supply source') (store sink) (store sink') result)
     (result ≡ Err errors.TurnsSpent)
     (λ bytes. DumpsExactly m bytes (store sink) (store sink') result)
-    (IsValid plain m turns)
+    (IsValid plain m budget)
     (IsOkOrNoMemory result)
 
 -- the report of such a run
 abbrev pub IsDumpReport : ℕ → Supply → Supply → RunReport StreamError → Type 0
-IsDumpReport m a b report = EndsAt plain m a b (λ taken sequence rest. IsRestBy dumping tt m taken rest (stopped_by (cause_of report.error))) report.place report.channel
+IsDumpReport m a b report =
+    EndsAt plain m a b
+    (λ taken sequence rest. IsRestBy dumping tt m taken rest (stopped_by (cause_of report.error)))
+    report.place report.channel
 
 -- such a run, with its report
-abbrev pub DumpReport : {S K : Type 0} → (S → Supply) → (K → Store) → ℕ → ℕ → S → S → K → K → Result (Unit {0}) (RunReport StreamError) → Type 0
-DumpReport supply store m turns source source' sink sink' result =
-    DumpRun supply store m turns source source' sink sink' (unreported result) × IfErr result (IsDumpReport m (supply source) (supply source'))
+abbrev pub DumpReport : {S K : Type 0} → (S → Supply) → (K → Store) → ℕ → ℕ
+    → S → S → K → K → Result (Unit {0}) (RunReport StreamError) → Type 0
+DumpReport supply store m budget source source' sink sink' result =
+    DumpRun supply store m budget source source' sink sink' (unreported result)
+    × IfErr result (IsDumpReport m (supply source) (supply source'))

@@ -18,11 +18,15 @@ pub record HasOneNewline (text : List ℕ) : Type 0 where
 abbrev pub LinesHaveOneNewline : Type 0
 LinesHaveOneNewline = (frame : Frame) → HasOneNewline (line frame)
 
--- The line of a frame is at most four times as long as the bytes that encode it strictly, and 400 bytes.
+-- The line of a frame is at most four times as long as the bytes that encode it
+-- strictly, and 400 bytes.
 abbrev pub LinesAreBounded : Type 0
-LinesAreBounded = (bytes : List ℕ) (frame : Frame) → Spells strict bytes frame → length (line frame) ≤ 4 * length bytes + 400
+LinesAreBounded =
+    (bytes : List ℕ) (frame : Frame) → Spells strict bytes frame
+    → length (line frame) ≤ 4 * length bytes + 400
 
--- A frame that its canonical bytes encode strictly. So it is no heartbeat on channel 0 that does not belong there, it is not long and not too deep.
+-- A frame that its canonical bytes encode strictly. So it is no heartbeat on channel 0 that does
+-- not belong there, it is not long and not too deep.
 pub record IsStrict (frame : Frame) : Type 0 where
   pub are_bytes : IsBytes (canon frame)
   pub encodes : Spells strict (canon frame) frame
@@ -33,4 +37,6 @@ EqualLinesAreEqualFrames = (f g : Frame) → IsStrict f → IsStrict g → line 
 
 -- two sequences of such frames with equal text are equal
 abbrev pub EqualTextsAreEqualSequences : Type 0
-EqualTextsAreEqualSequences = (fs gs : List Frame) → AllByRecursion IsStrict fs → AllByRecursion IsStrict gs → lines fs ≡ lines gs → fs ≡ gs
+EqualTextsAreEqualSequences =
+    (fs gs : List Frame) → AllByRecursion IsStrict fs
+    → AllByRecursion IsStrict gs → lines fs ≡ lines gs → fs ≡ gs

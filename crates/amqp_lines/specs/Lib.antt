@@ -13,4 +13,5 @@ pub mod Laws
 pub mod UndumpLaws
 pub mod Errors
 pub mod Reading
+pub mod UndumpReports
 pub mod LineReading

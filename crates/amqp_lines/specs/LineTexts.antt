@@ -19,7 +19,8 @@ HasNoLine raw cause = ⊥
 
 -- the canonical bytes of the frame that a borrowed one is, or why there are none
 abbrev pub PutsCanonical : Raw → List ℕ → Result (Unit {0}) StreamError → Type 0
-PutsCanonical raw canonical (Ok done) = (frame : Frame) × (whole raw ≡ Ok frame) × (canonical ≡ canon frame)
+PutsCanonical raw canonical (Ok done) =
+    (frame : Frame) × (whole raw ≡ Ok frame) × (canonical ≡ canon frame)
 PutsCanonical raw canonical (Err error) = HasNoLine raw (cause_of error)
 
 -- the line of that frame
@@ -29,12 +30,14 @@ PutsLine raw text (Err error) = HasNoLine raw (cause_of error)
 
 -- its canonical bytes and its line
 abbrev pub PutsBoth : Raw → List ℕ → List ℕ → Result (Unit {0}) StreamError → Type 0
-PutsBoth raw canonical text (Ok done) = (frame : Frame) × (whole raw ≡ Ok frame) × (canonical ≡ canon frame) × (text ≡ line frame)
+PutsBoth raw canonical text (Ok done) =
+    (frame : Frame) × (whole raw ≡ Ok frame) × (canonical ≡ canon frame) × (text ≡ line frame)
 PutsBoth raw canonical text (Err error) = HasNoLine raw (cause_of error)
 
 -- ---- frames that are to be written
 
--- The line of a frame that has a size is appended. A refusal is that of measuring the frame, or memory, and leaves the vector as it was.
+-- The line of a frame that has a size is appended. A refusal is that of measuring the frame, or
+-- memory, and leaves the vector as it was.
 abbrev pub AppendsLine : List ℕ → List ℕ → Frame → Result (Unit {0}) GenError → Type 0
 AppendsLine old new frame (Ok done) = IsOk (size_of frame) × (new ≡ old ++ line frame)
 AppendsLine old new frame (Err refusals.NoMemory) = new ≡ old

@@ -16,11 +16,14 @@ spaced number = codes " " ++ decimal number
 
 -- the class and the method by their numbers, and a word for each field that is not reserved
 unfoldable pub method_words : Method → List ℕ
-method_words m = spaced m.class ++ (codes "." ++ (decimal m.id ++ slots_text (unwrap_or (slots_at m.class m.id) []) m.items))
+method_words m =
+    spaced m.class
+    ++ (codes "." ++ (decimal m.id ++ slots_text (unwrap_or (slots_at m.class m.id) []) m.items))
 
 -- the class, the size of the body, and each property that is set
 unfoldable pub header_words : ContentHeader → List ℕ
-header_words header = spaced header.class_id ++ (spaced header.body_size ++ set_text properties header.options)
+header_words header =
+    spaced header.class_id ++ (spaced header.body_size ++ set_text properties header.options)
 
 -- A heartbeat on a channel where none belongs names that channel; on channel 0 it is a heartbeat.
 abbrev pub beat_words : ℕ → List ℕ
@@ -28,7 +31,9 @@ beat_words channel = if channel == 0 then [] else spaced channel
 
 -- what a line says of a frame
 unfoldable pub words : Frame → List ℕ
-words (Proto major minor revision) = codes "proto " ++ (decimal major ++ (codes "." ++ (decimal minor ++ (codes "." ++ decimal revision))))
+words (Proto major minor revision) =
+    codes "proto "
+    ++ (decimal major ++ (codes "." ++ (decimal minor ++ (codes "." ++ decimal revision))))
 words (Meth channel m) = codes "method" ++ (spaced channel ++ method_words m)
 words (Head channel header) = codes "header" ++ (spaced channel ++ header_words header)
 words (Body channel content) = codes "body" ++ (spaced channel ++ (codes " x" ++ hex content))

@@ -32,11 +32,14 @@ pub record IsLineOf (m : ℕ) (text canonical : List ℕ) : Type 0 where
 
 -- The canonical bytes of the frame of a line are appended. An error leaves the vector as it was.
 abbrev pub AppendsCanonical : ℕ → List ℕ → List ℕ → List ℕ → Result (Unit {0}) TextError → Type 0
-AppendsCanonical m text old new (Ok done) = (canonical : List ℕ) × IsLineOf m text canonical × (new ≡ old ++ canonical)
+AppendsCanonical m text old new (Ok done) =
+    (canonical : List ℕ) × IsLineOf m text canonical × (new ≡ old ++ canonical)
 AppendsCanonical m text old new (Err texts.BadText) = IsNoLine m text × (new ≡ old)
 AppendsCanonical m text old new (Err texts.NoMemory) = new ≡ old
 
--- The line of a borrowed frame is appended. An error is the fault of its payload, or memory, and leaves the vector as it was.
+-- The line of a borrowed frame is appended. An error is the fault of its payload, or memory, and
+-- leaves the vector as it was.
 abbrev pub AppendsRawLine : Raw → List ℕ → List ℕ → Result (Unit {0}) StreamError → Type 0
-AppendsRawLine raw old new (Ok done) = (frame : Frame) × (whole raw ≡ Ok frame) × (new ≡ old ++ line frame)
+AppendsRawLine raw old new (Ok done) =
+    (frame : Frame) × (whole raw ≡ Ok frame) × (new ≡ old ++ line frame)
 AppendsRawLine raw old new (Err error) = HasNoLine raw (cause_of error) × (new ≡ old)

@@ -34,7 +34,8 @@ pub record IsIn (outline : FrameOutline) (payload : List ℕ) (frame : Frame) : 
 
 -- the words of a method in front of its fields
 abbrev pub ids_words : ℕ → ℕ → ℕ → List ℕ
-ids_words channel class id = codes "method" ++ (spaced channel ++ (spaced class ++ (codes "." ++ decimal id)))
+ids_words channel class id =
+    codes "method" ++ (spaced channel ++ (spaced class ++ (codes "." ++ decimal id)))
 
 -- the words of a content header in front of its properties
 abbrev pub sizes_words : ℕ → ℕ → ℕ → List ℕ
@@ -46,8 +47,13 @@ fields_at class id = unwrap_or (slots_at class id) []
 
 -- what is written for a method with these ids, out of its payload
 abbrev pub SaysMethod : ℕ → ℕ → ℕ → List ℕ → List ℕ → List ℕ → Result (Unit {0}) NoMemory → Type 0
-SaysMethod channel class id payload old new r = (m : Method) → class ≡ m.class → id ≡ m.id → SpellsPayload strict payload m → AppendsText old new (words (Meth channel m)) r
+SaysMethod channel class id payload old new r =
+    (m : Method) → class ≡ m.class → id ≡ m.id → SpellsPayload strict payload m
+    → AppendsText old new (words (Meth channel m)) r
 
 -- what is written for a content header of this class and size, out of its payload
 abbrev pub SaysHeader : ℕ → ℕ → ℕ → List ℕ → List ℕ → List ℕ → Result (Unit {0}) NoMemory → Type 0
-SaysHeader channel class size payload old new r = (header : ContentHeader) → class ≡ header.class_id → size ≡ header.body_size → SpellsContentHeader strict payload header → AppendsText old new (words (Head channel header)) r
+SaysHeader channel class size payload old new r =
+    (header : ContentHeader) → class ≡ header.class_id
+    → size ≡ header.body_size → SpellsContentHeader strict payload header
+    → AppendsText old new (words (Head channel header)) r

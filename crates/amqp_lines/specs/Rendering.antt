@@ -1,5 +1,7 @@
--- What calls write of canonical bytes. Where the bytes of a thing stand at the front, its text is appended; where other bytes stand there, or memory runs out, nothing is said.
-use Rattle.std.specs.Prelude.{◌≡◌, ℕ, ◌-◌, ◌<◌, Option, Some, None, List, [], ◌∷◌, ◌++◌, length, map, codes, true, Result, Ok, Err}
+-- What calls write of canonical bytes. Where the bytes of a thing stand at the front, its text is
+-- appended; where other bytes stand there, or memory runs out, nothing is said.
+use Rattle.std.specs.Prelude.{◌≡◌, ℕ, ◌-◌, ◌<◌, Option, Some, None, List, [], ◌∷◌, ◌++◌, length}
+use Rattle.std.specs.Prelude.{map, codes, true, Result, Ok, Err}
 use Rattle.std.specs.Fmt.{decimal, signed_decimal}
 use Rattle.amqp_canonical.specs.Writes.{IsRead}
 use Rattle.amqp_types.specs.Levels.{strict}
@@ -12,8 +14,10 @@ use Rattle.amqp_types.specs.Strings.{judge_long_string, SpellsShortString}
 use Rattle.amqp_types.specs.Flags.{judge_flags}
 use Rattle.amqp_types.specs.Values.{FieldValue, Entry}
 use Rattle.amqp_types.specs.ValueJudging.{judge_decimal}
-use Rattle.amqp_types.specs.ValueSpelling.{SpellsEach, SpellsArray, SpellsTable, SpellsValue, SpellsFieldTable}
-use Rattle.amqp_types.specs.Slots.{Item, Form, number_form, flags_form, short_string_form, long_string_form, table_form, Slot, kept_slot, reserved_slot}
+use Rattle.amqp_types.specs.ValueSpelling.{SpellsEach, SpellsArray, SpellsTable}
+use Rattle.amqp_types.specs.ValueSpelling.{SpellsValue, SpellsFieldTable}
+use Rattle.amqp_types.specs.Slots.{Item, Form, number_form, flags_form, short_string_form}
+use Rattle.amqp_types.specs.Slots.{long_string_form, table_form, Slot, kept_slot, reserved_slot}
 use Rattle.amqp_types.specs.Properties.{Property}
 use Rattle.amqp_types.specs.PropertyLaws.{give_one}
 use Rattle.amqp_types.specs.PropertySpelling.{SpellsSet}
@@ -37,18 +41,25 @@ Renders (took text used) old new (Ok n) = (n ≡ used) × (new ≡ old ++ text)
 Renders rendered old new result = Unit {0}
 
 -- the same of what is encoded so at the front
-abbrev pub WritesText : {A : Type 0} → (List ℕ → A → Type 0) → (A → List ℕ) → List ℕ → List ℕ → List ℕ → Result ℕ NoMemory → Type 0
-WritesText {A} Spells text i old new (Ok n) = (bytes rest : List ℕ) (x : A) → i ≡ bytes ++ rest → Spells bytes x → (n ≡ length bytes) × (new ≡ old ++ text x)
+abbrev pub WritesText : {A : Type 0} → (List ℕ → A → Type 0)
+    → (A → List ℕ) → List ℕ → List ℕ → List ℕ → Result ℕ NoMemory → Type 0
+WritesText {A} Spells text i old new (Ok n) =
+    (bytes rest : List ℕ) (x : A) → i ≡ bytes ++ rest
+    → Spells bytes x → (n ≡ length bytes) × (new ≡ old ++ text x)
 WritesText Spells text i old new (Err error) = Unit {0}
 
 -- the same, where no number is returned
-abbrev pub Says : {A : Type 0} → (List ℕ → A → Type 0) → (A → List ℕ) → List ℕ → List ℕ → List ℕ → Result (Unit {0}) NoMemory → Type 0
-Says {A} Spells text i old new (Ok done) = (bytes rest : List ℕ) (x : A) → i ≡ bytes ++ rest → Spells bytes x → new ≡ old ++ text x
+abbrev pub Says : {A : Type 0} → (List ℕ → A → Type 0) → (A → List ℕ)
+    → List ℕ → List ℕ → List ℕ → Result (Unit {0}) NoMemory → Type 0
+Says {A} Spells text i old new (Ok done) =
+    (bytes rest : List ℕ) (x : A) → i ≡ bytes ++ rest → Spells bytes x → new ≡ old ++ text x
 Says Spells text i old new (Err error) = Unit {0}
 
 -- the texts of the things that fill some bytes are appended, parted by commas
-abbrev pub WritesEach : {A : Type 0} → (List ℕ → A → Type 0) → (A → List ℕ) → List ℕ → List ℕ → List ℕ → Result (Unit {0}) NoMemory → Type 0
-WritesEach {A} Spells text i old new (Ok done) = (xs : List A) → SpellsEach Spells i xs → new ≡ old ++ parted (map text xs)
+abbrev pub WritesEach : {A : Type 0} → (List ℕ → A → Type 0) → (A → List ℕ)
+    → List ℕ → List ℕ → List ℕ → Result (Unit {0}) NoMemory → Type 0
+WritesEach {A} Spells text i old new (Ok done) =
+    (xs : List A) → SpellsEach Spells i xs → new ≡ old ++ parted (map text xs)
 WritesEach Spells text i old new (Err error) = Unit {0}
 
 -- what a length covers at the front, and how many bytes both are
@@ -95,11 +106,16 @@ WritesAfter room tag.LongUInt i old new r = Renders (rendered_number bytes4 i) o
 WritesAfter room tag.LongLongInt i old new r = Renders (rendered_signed bytes8 i) old new r
 WritesAfter room tag.Float i old new r = Renders (rendered_number bytes4 i) old new r
 WritesAfter room tag.Double i old new r = Renders (rendered_number bytes8 i) old new r
-WritesAfter room tag.DecimalValue i old new r = Renders (judge_map decimal_text judge_decimal i) old new r
-WritesAfter room tag.LongString i old new r = Renders (judge_map quoted judge_long_string i) old new r
-WritesAfter room tag.FieldArray i old new r = 0 < room → WritesText (SpellsArray (SpellsValue strict (room - 1))) array_text i old new r
+WritesAfter room tag.DecimalValue i old new r =
+    Renders (judge_map decimal_text judge_decimal i) old new r
+WritesAfter room tag.LongString i old new r =
+    Renders (judge_map quoted judge_long_string i) old new r
+WritesAfter room tag.FieldArray i old new r =
+    0 < room → WritesText (SpellsArray (SpellsValue strict (room - 1))) array_text i old new r
 WritesAfter room tag.Timestamp i old new r = Renders (rendered_number bytes8 i) old new r
-WritesAfter room tag.FieldTable i old new r = 0 < room → WritesText (SpellsTable strict (SpellsValue strict (room - 1))) table_text i old new r
+WritesAfter room tag.FieldTable i old new r =
+    0 < room
+    → WritesText (SpellsTable strict (SpellsValue strict (room - 1))) table_text i old new r
 WritesAfter room tag.ByteArray i old new r = Renders (judge_map hex judge_long_string i) old new r
 WritesAfter room tag.Void i old new r = Renders (took [] 0) old new r
 
@@ -108,7 +124,8 @@ WritesAfter room tag.Void i old new r = Renders (took [] 0) old new r
 -- what is written for a field or a property of this form
 unfoldable pub WritesForm : Form → List ℕ → List ℕ → List ℕ → Result ℕ NoMemory → Type 0
 WritesForm (number_form width) i old new r = Renders (rendered_number width i) old new r
-WritesForm (flags_form count) i old new r = Renders (judge_map signs (judge_flags count) i) old new r
+WritesForm (flags_form count) i old new r =
+    Renders (judge_map signs (judge_flags count) i) old new r
 WritesForm short_string_form i old new r = WritesText SpellsShortString quoted i old new r
 WritesForm long_string_form i old new r = Renders (judge_map quoted judge_long_string i) old new r
 WritesForm table_form i old new r = WritesText (SpellsFieldTable strict) table_text i old new r

@@ -1,8 +1,11 @@
 -- The text of the fields of methods and of properties.
-use Rattle.std.specs.Prelude.{ℕ, ◌==◌, List, [], ◌∷◌, ◌++◌, take, drop, codes, Option, Some, None, unwrap_or}
+use Rattle.std.specs.Prelude.{ℕ, ◌==◌, List, [], ◌∷◌, ◌++◌, take, drop, codes}
+use Rattle.std.specs.Prelude.{Option, Some, None, unwrap_or}
 use Rattle.std.specs.Fmt.{decimal}
 use Rattle.std.specs.Map.{lookup}
-use Rattle.amqp_types.specs.Slots.{Item, number_item, text_item, bytes_item, entries_item, Form, number_form, flags_form, short_string_form, long_string_form, table_form, Slot, kept_slot, reserved_slot}
+use Rattle.amqp_types.specs.Slots.{Item, number_item, text_item, bytes_item, entries_item, Form}
+use Rattle.amqp_types.specs.Slots.{number_form, flags_form, short_string_form, long_string_form}
+use Rattle.amqp_types.specs.Slots.{table_form, Slot, kept_slot, reserved_slot}
 use Rattle.amqp_types.specs.SlotBytes.{item_count, flags_of}
 use Rattle.amqp_types.specs.Properties.{Property}
 use Rattle.amqp_lines.specs.Words.{quoted, signs}
@@ -22,7 +25,9 @@ form_text form items = []
 -- a word for each field that is not reserved, with a space in front
 unfoldable pub slots_text : List Slot → List Item → List ℕ
 slots_text [] items = []
-slots_text (kept_slot form ∷ slots) items = (codes " " ++ form_text form (take (item_count form) items)) ++ slots_text slots (drop (item_count form) items)
+slots_text (kept_slot form ∷ slots) items =
+    (codes " " ++ form_text form (take (item_count form) items))
+    ++ slots_text slots (drop (item_count form) items)
 slots_text (reserved_slot form constant ∷ slots) items = slots_text slots items
 
 -- ---- properties
@@ -53,7 +58,8 @@ property_name bit = unwrap_or (lookup (λ k. bit == k) property_names) []
 -- a property that is set, with a space in front
 unfoldable pub option_text : Property → Option Item → List ℕ
 option_text p None = []
-option_text p (Some item) = codes " " ++ (property_name p.bit ++ (codes "=" ++ form_text p.form (item ∷ [])))
+option_text p (Some item) =
+    codes " " ++ (property_name p.bit ++ (codes "=" ++ form_text p.form (item ∷ [])))
 
 -- each property that is set, in the order in which they stand
 unfoldable pub set_text : List Property → List (Option Item) → List ℕ

@@ -22,22 +22,31 @@ pub record IsSameText (fs gs : List Frame) (rest more : List ℕ) : Type 0 where
 
 -- within a limit, some bytes begin with at most one longest text
 abbrev pub OneLongestText : Type 0
-OneLongestText = (m : ℕ) (bytes : List ℕ) (fs gs : List Frame) (rest more : List ℕ) → IsLongestText m bytes fs rest → IsLongestText m bytes gs more → IsSameText fs gs rest more
+OneLongestText =
+    (m : ℕ) (bytes : List ℕ) (fs gs : List Frame) (rest more : List ℕ)
+    → IsLongestText m bytes fs rest → IsLongestText m bytes gs more → IsSameText fs gs rest more
 
--- What `dump` writes for some bytes is, to its end, the text of the frames at the front of the bytes.
+-- What `dump` writes for some bytes is, to its end, the text of the frames at the
+-- front of the bytes.
 abbrev pub DumpedTextIsReadBack : Type 0
-DumpedTextIsReadBack = (m : ℕ) (bytes : List ℕ) → IsBytes bytes → IsLongestText m (dumped m bytes) (front plain (Some m) bytes) []
+DumpedTextIsReadBack =
+    (m : ℕ) (bytes : List ℕ) → IsBytes bytes
+    → IsLongestText m (dumped m bytes) (front plain (Some m) bytes) []
 
--- What `undump` returns and writes over what `dump` writes for some bytes: it finds no bad text and no line cut short, and at the end of
--- input has written the canonical bytes of the frames at the front of the bytes.
-pub record Undoes (m : ℕ) (bytes : List ℕ) (k l : Store) (result : Result (Unit {0}) UndumpError) : Type 0 where
+-- What `undump` returns and writes over what `dump` writes for some bytes: it finds no bad text and
+-- no line cut short, and at the end of input has written the canonical bytes of the frames at the
+-- front of the bytes.
+pub record Undoes (m : ℕ) (bytes : List ℕ) (k l : Store)
+    (result : Result (Unit {0}) UndumpError) : Type 0 where
   pub never_bad : result ≢ Err errors.BadText
   pub never_short : result ≢ Err errors.CutShort
   pub written : result ≡ Ok tt → Gains k l (canon_frames (front plain (Some m) bytes))
 
 -- so it is for both calls with the same limit, where the source of `undump` reports its bytes
 abbrev pub UndumpUndoesDump : Type 0
-UndumpUndoesDump = (m : ℕ) (bytes : List ℕ) (k l : Store) (result : Result (Unit {0}) UndumpError) → IsBytes bytes → UndumpsExactly m (dumped m bytes) k l result → Undoes m bytes k l result
+UndumpUndoesDump =
+    (m : ℕ) (bytes : List ℕ) (k l : Store) (result : Result (Unit {0}) UndumpError)
+    → IsBytes bytes → UndumpsExactly m (dumped m bytes) k l result → Undoes m bytes k l result
 
 -- bytes that encode a sequence of frames strictly within a limit, and its text
 pub record AreBytesAndText (m : ℕ) (bytes text : List ℕ) : Type 0 where
@@ -48,15 +57,20 @@ pub record AreBytesAndText (m : ℕ) (bytes text : List ℕ) : Type 0 where
 
 -- they correspond one to one
 pub record CorrespondOneToOne : Type 0 where
-  pub one_text : (m : ℕ) (bytes t u : List ℕ) → AreBytesAndText m bytes t → AreBytesAndText m bytes u → t ≡ u
-  pub one_sequence : (m : ℕ) (b c text : List ℕ) → AreBytesAndText m b text → AreBytesAndText m c text → b ≡ c
+  pub one_text : (m : ℕ) (bytes t u : List ℕ)
+      → AreBytesAndText m bytes t → AreBytesAndText m bytes u → t ≡ u
+  pub one_sequence : (m : ℕ) (b c text : List ℕ)
+      → AreBytesAndText m b text → AreBytesAndText m c text → b ≡ c
 
--- a frame that is no heartbeat on channel 0 that does not belong there, and neither too deep nor long
+-- a frame that is no heartbeat on channel 0 that does not belong there, and neither
+-- too deep nor long
 pub record IsUsual (frame : Frame) : Type 0 where
   pub belongs : frame ≢ BadBeat 0
   pub not_deep : is_deep frame ≡ false
   pub not_long : is_long frame ≡ false
 
--- a frame that programs hold, and whose canonical bytes are bytes, is encoded strictly by them exactly where it is usual
+-- a frame that programs hold, and whose canonical bytes are bytes, is encoded strictly by them
+-- exactly where it is usual
 abbrev pub StrictFramesAreUsual : Type 0
-StrictFramesAreUsual = (frame : Frame) → IsFrameHeld frame → IsBytes (canon frame) → IsStrict frame ↔ IsUsual frame
+StrictFramesAreUsual =
+    (frame : Frame) → IsFrameHeld frame → IsBytes (canon frame) → IsStrict frame ↔ IsUsual frame

@@ -1,7 +1,10 @@
 -- The text of values, arrays and tables: a tag letter, and after a colon what the value is.
 use Rattle.std.specs.Prelude.{List, [], ◌∷◌, ◌++◌, ℕ, Bool, true, false, codes}
 use Rattle.std.specs.Fmt.{decimal, signed_decimal}
-use Rattle.amqp_types.specs.Values.{FieldValue, FieldValues, FieldEntries, Entry, boolean_value, signed_value, unsigned_value, decimal_value, bytes_value, array_value, table_value, void_value, long_string, byte_array, no_values, next_value, no_entries, next_entry, entries_of}
+use Rattle.amqp_types.specs.Values.{FieldValue, FieldValues, FieldEntries, Entry, boolean_value}
+use Rattle.amqp_types.specs.Values.{signed_value, unsigned_value, decimal_value, bytes_value}
+use Rattle.amqp_types.specs.Values.{array_value, table_value, void_value, long_string, byte_array}
+use Rattle.amqp_types.specs.Values.{no_values, next_value, no_entries, next_entry, entries_of}
 use Rattle.amqp_types.specs.Tags.{tag_byte, tag_of}
 use Rattle.amqp_types.specs.declared.tag.FieldTag.{FieldTag}
 use Rattle.amqp_types.specs.declared.tag.FieldTag.TheVariants as tag
@@ -38,7 +41,8 @@ abbrev mutual
   -- the text of each entry: its key, `=` and its value
   pub entries_texts : FieldEntries → List (List ℕ)
   entries_texts no_entries = []
-  entries_texts (next_entry k v es) = (quoted k ++ (codes "=" ++ (tag_text (tag_of v) ++ content_text v))) ∷ entries_texts es
+  entries_texts (next_entry k v es) =
+      (quoted k ++ (codes "=" ++ (tag_text (tag_of v) ++ content_text v))) ∷ entries_texts es
 
 -- a value with its tag letter
 unfoldable pub value_text : FieldValue → List ℕ

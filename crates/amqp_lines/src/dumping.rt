@@ -56,7 +56,7 @@ impl FrameWriter for Dumper {
     }
 }
 
-/// Writes the line of each frame of a stream, to the end of input or an error, and reports where that is. `turns` is the
+/// Writes the line of each frame of a stream, to the end of input or an error, and reports where that is. `budget` is the
 /// read budget: so many reads at most are made. `max_payload` is in bytes; a longer payload is `TooLarge`. Memory may
 /// run out at any frame: a line is longer than its frame.
 pub fn dump_reported<S: Source, K: Sink>(
@@ -64,16 +64,17 @@ pub fn dump_reported<S: Source, K: Sink>(
     source: &mut S,
     sink: &mut K,
     max_payload: ChunkSize,
-    turns: u64,
+    budget: u64,
 ) -> Result<(), RunReport<StreamError>>
-    ensures run { DumpReport S.supply K.store max_payload turns source.old source.new sink.old sink.new result
+    ensures run { DumpReport S.supply K.store max_payload
+        budget source.old source.new sink.old sink.new result
         ⊎ NeverBeganReport source.old source.new sink.old sink.new StreamError.NoMemory result }
     ensures never_untidy { unreported result ≢ Err StreamError.NotTidy }
 {
     match LineText::open(alloc) {
         Ok(text) => {
             let mut writer = Dumper { text };
-            let run = run_stream_reported(alloc, &mut writer, source, sink, max_payload, turns);
+            let run = run_stream_reported(alloc, &mut writer, source, sink, max_payload, budget);
             unrefused_report(run)
         }
         Err(_) => Err(RunReport::at_start(StreamError::NoMemory)),
@@ -86,11 +87,12 @@ pub fn dump<S: Source, K: Sink>(
     source: &mut S,
     sink: &mut K,
     max_payload: ChunkSize,
-    turns: u64,
+    budget: u64,
 ) -> Result<(), StreamError>
-    ensures run { DumpRun S.supply K.store max_payload turns source.old source.new sink.old sink.new result
+    ensures run { DumpRun S.supply K.store max_payload
+        budget source.old source.new sink.old sink.new result
         ⊎ NeverBegan source.old source.new sink.old sink.new StreamError.NoMemory result }
     ensures never_untidy { result ≢ Err StreamError.NotTidy }
 {
-    unreported(dump_reported(alloc, source, sink, max_payload, turns))
+    unreported(dump_reported(alloc, source, sink, max_payload, budget))
 }

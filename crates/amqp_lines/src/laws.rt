@@ -1,8 +1,11 @@
 //! Laws of lines, each the contract of a function that does nothing.
 
 ghost use Rattle.amqp_lines.specs.Dumping.{WritesLines};
-ghost use Rattle.amqp_lines.specs.Laws.{EqualLinesAreEqualFrames, EqualTextsAreEqualSequences, LinesAreBounded, LinesHaveOneNewline};
-ghost use Rattle.amqp_lines.specs.UndumpLaws.{CorrespondOneToOne, DumpedTextIsReadBack, OneLongestText, StrictFramesAreUsual, UndumpUndoesDump};
+ghost use Rattle.amqp_lines.specs.Laws.{EqualLinesAreEqualFrames, EqualTextsAreEqualSequences};
+ghost use Rattle.amqp_lines.specs.Laws.{LinesAreBounded, LinesHaveOneNewline};
+ghost use Rattle.amqp_lines.specs.UndumpLaws.{CorrespondOneToOne};
+ghost use Rattle.amqp_lines.specs.UndumpLaws.{DumpedTextIsReadBack, OneLongestText};
+ghost use Rattle.amqp_lines.specs.UndumpLaws.{StrictFramesAreUsual, UndumpUndoesDump};
 
 /// A line holds one newline, which is its last byte.
 pub fn lines_have_one_newline()

@@ -10,6 +10,7 @@ mod line_text;
 mod lines;
 mod one_line;
 mod reading;
+pub mod report;
 mod slots;
 mod undumping;
 mod values;
@@ -26,4 +27,5 @@ pub use laws::{
 pub use line_text::payload_in;
 pub use lines::write_line;
 pub use one_line::{dump_line, undump_line};
-pub use undumping::{line_end, undump};
+pub use report::{UndumpReport, unreported_lines};
+pub use undumping::{line_end, undump, undump_reported};

@@ -60,7 +60,8 @@ pub(crate) fn without_last(bytes: &[u8]) -> &[u8]
 
 /// The payload in the canonical bytes of a frame.
 pub fn payload_in(outline: FrameOutline, bytes: &[u8]) -> &[u8]
-    ensures { (frame : Frame) → outline ≡ outline_of frame → bytes.now ≡ canon frame → result.now ≡ payload_of frame }
+    ensures { (frame : Frame) → outline ≡ outline_of frame
+        → bytes.now ≡ canon frame → result.now ≡ payload_of frame }
 {
     match outline {
         FrameOutline::ProtocolHeader => bytes_from(bytes, 5),
@@ -70,7 +71,8 @@ pub fn payload_in(outline: FrameOutline, bytes: &[u8]) -> &[u8]
 
 /// Puts the line of a frame into a vector, in place of what was there, by its outline and its canonical payload.
 fn put_line(out: &mut Vec<u8>, outline: FrameOutline, payload: &[u8]) -> Result<(), StreamError>
-    ensures line { OnOk result ((frame : Frame) → IsIn outline payload.now frame → out.new.items ≡ line frame) }
+    ensures line { OnOk result
+        ((frame : Frame) → IsIn outline payload.now frame → out.new.items ≡ line frame) }
     ensures memory { IfErr result (λ error. error ≡ StreamError.NoMemory) }
 {
     out.clear();

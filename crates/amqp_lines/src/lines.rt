@@ -7,7 +7,8 @@ ghost use Rattle.amqp_wire.specs.Frames.{Frame, Proto, Body};
 ghost use Rattle.amqp_lines.specs.Slots.{slots_text};
 ghost use Rattle.amqp_lines.specs.Rendering.{AppendsText, Says};
 ghost use Rattle.amqp_lines.specs.Lines.{beat_words, line, spaced, words};
-ghost use Rattle.amqp_lines.specs.Payloads.{IsIn, SaysHeader, SaysMethod, fields_at, ids_words, sizes_words};
+ghost use Rattle.amqp_lines.specs.Payloads.{IsIn, SaysHeader, SaysMethod};
+ghost use Rattle.amqp_lines.specs.Payloads.{fields_at, ids_words, sizes_words};
 
 use crate::slots::{write_properties, write_slots};
 use crate::words::{write_bytes, write_decimal, write_hex};
@@ -49,7 +50,8 @@ fn write_ids(
     class_id: Identifier,
     method_id: Identifier,
 ) -> Result<(), NoMemory>
-    ensures { AppendsText out.old.items out.new.items (ids_words channel_id class_id method_id) result }
+    ensures { AppendsText out.old.items out.new.items
+        (ids_words channel_id class_id method_id) result }
 {
     write_bytes(out, b"method")?;
     write_spaced(out, channel_id as u64)?;
@@ -66,7 +68,8 @@ fn write_fields(
     method_id: Identifier,
     i: &[u8],
 ) -> Result<(), NoMemory>
-    ensures { Says (SpellsSlots strict (fields_at class_id method_id)) (slots_text (fields_at class_id method_id)) i.now out.old.items out.new.items result }
+    ensures { Says (SpellsSlots strict (fields_at class_id method_id))
+        (slots_text (fields_at class_id method_id)) i.now out.old.items out.new.items result }
 {
     match shapes_of(class_id, method_id) {
         Some(shapes) => write_slots(out, shapes, i),
@@ -82,7 +85,8 @@ fn write_method(
     method_id: Identifier,
     payload: &[u8],
 ) -> Result<(), NoMemory>
-    ensures { SaysMethod channel_id class_id method_id payload.now out.old.items out.new.items result }
+    ensures { SaysMethod channel_id class_id method_id
+        payload.now out.old.items out.new.items result }
 {
     write_ids(out, channel_id, class_id, method_id)?;
     write_fields(out, class_id, method_id, bytes_from(payload, 4))
@@ -95,7 +99,8 @@ fn write_sizes(
     class_id: Identifier,
     body_size: PayloadSize,
 ) -> Result<(), NoMemory>
-    ensures { AppendsText out.old.items out.new.items (sizes_words channel_id class_id body_size) result }
+    ensures { AppendsText out.old.items out.new.items
+        (sizes_words channel_id class_id body_size) result }
 {
     write_bytes(out, b"header")?;
     write_spaced(out, channel_id as u64)?;
@@ -111,7 +116,8 @@ fn write_header(
     body_size: PayloadSize,
     payload: &[u8],
 ) -> Result<(), NoMemory>
-    ensures { SaysHeader channel_id class_id body_size payload.now out.old.items out.new.items result }
+    ensures { SaysHeader channel_id class_id body_size
+        payload.now out.old.items out.new.items result }
 {
     write_sizes(out, channel_id, class_id, body_size)?;
     write_properties(out, bytes_from(payload, 12))
@@ -130,7 +136,8 @@ fn write_body(out: &mut Vec<u8>, channel_id: ChannelId, payload: &[u8]) -> Resul
 
 /// A heartbeat, which names the channel where none belongs.
 fn write_beat(out: &mut Vec<u8>, channel_id: ChannelId) -> Result<(), NoMemory>
-    ensures { AppendsText out.old.items out.new.items (codes "beat" ++ beat_words channel_id) result }
+    ensures { AppendsText out.old.items out.new.items
+        (codes "beat" ++ beat_words channel_id) result }
 {
     write_bytes(out, b"beat")?;
     if channel_id == 0 {
@@ -141,7 +148,8 @@ fn write_beat(out: &mut Vec<u8>, channel_id: ChannelId) -> Result<(), NoMemory>
 
 /// What the line of a frame says, by its outline and its canonical payload.
 fn write_words(out: &mut Vec<u8>, outline: FrameOutline, payload: &[u8]) -> Result<(), NoMemory>
-    ensures { (frame : Frame) → IsIn outline payload.now frame → AppendsText out.old.items out.new.items (words frame) result }
+    ensures { (frame : Frame) → IsIn outline payload.now frame
+        → AppendsText out.old.items out.new.items (words frame) result }
 {
     match outline {
         FrameOutline::ProtocolHeader => write_version(out, payload),
@@ -162,7 +170,8 @@ fn write_words(out: &mut Vec<u8>, outline: FrameOutline, payload: &[u8]) -> Resu
 
 /// Appends the line of a frame, by its outline and its canonical payload.
 pub fn write_line(out: &mut Vec<u8>, outline: FrameOutline, payload: &[u8]) -> Result<(), NoMemory>
-    ensures { (frame : Frame) → IsIn outline payload.now frame → AppendsText out.old.items out.new.items (line frame) result }
+    ensures { (frame : Frame) → IsIn outline payload.now frame
+        → AppendsText out.old.items out.new.items (line frame) result }
 {
     write_words(out, outline, payload)?;
     out.push(b'\n')?;

@@ -11,7 +11,8 @@ ghost use Rattle.amqp_types.specs.Strings.{SpellsShortString};
 ghost use Rattle.amqp_canonical.specs.Shapes.{form_of, property_of, slot_of, slots_of};
 ghost use Rattle.amqp_lines.specs.Words.{quoted, signs};
 ghost use Rattle.amqp_lines.specs.Slots.{property_name, set_text, slots_text};
-ghost use Rattle.amqp_lines.specs.Rendering.{AppendsText, Renders, Says, SpellsOnes, WritesForm, WritesText, slot_text};
+ghost use Rattle.amqp_lines.specs.Rendering.{AppendsText, Renders, Says, SpellsOnes};
+ghost use Rattle.amqp_lines.specs.Rendering.{WritesForm, WritesText, slot_text};
 
 use crate::values::{
     write_long_long_uint, write_long_string, write_long_uint, write_short_short_uint,
@@ -24,7 +25,8 @@ use amqp_types::{INNER_DEPTH, Identifier, NoMemory};
 /// So many flags of a byte.
 #[tactic(auto, unfolding(amqp_types::specs::Flags::judge_flags))]
 fn write_flags(out: &mut Vec<u8>, count: u8, i: &[u8]) -> Result<usize, NoMemory>
-    ensures { Renders (judge_map signs (judge_flags count) i.now) out.old.items out.new.items result }
+    ensures { Renders (judge_map signs (judge_flags count) i.now)
+        out.old.items out.new.items result }
 {
     match i {
         [byte, ..] => {
@@ -65,7 +67,8 @@ fn write_form(out: &mut Vec<u8>, form: Form, i: &[u8]) -> Result<usize, NoMemory
 /// A field: a space and a word, or nothing where it is reserved.
 #[tactic(auto, using(crate::proofs::RenderedSlots::kept_written))]
 fn write_slot(out: &mut Vec<u8>, slot: Slot, i: &[u8]) -> Result<usize, NoMemory>
-    ensures { WritesText (SpellsSlot strict (slot_of slot)) (slot_text (slot_of slot)) i.now out.old.items out.new.items result }
+    ensures { WritesText (SpellsSlot strict (slot_of slot))
+        (slot_text (slot_of slot)) i.now out.old.items out.new.items result }
 {
     match slot {
         Slot::Reserved(form, _) => Ok(form_size(form, i)),
@@ -78,7 +81,8 @@ fn write_slot(out: &mut Vec<u8>, slot: Slot, i: &[u8]) -> Result<usize, NoMemory
 
 /// Appends the text of fields of these shapes, one after another.
 pub(crate) fn write_slots(out: &mut Vec<u8>, shapes: &[Slot], i: &[u8]) -> Result<(), NoMemory>
-    ensures { Says (SpellsSlots strict (slots_of shapes.now)) (slots_text (slots_of shapes.now)) i.now out.old.items out.new.items result }
+    ensures { Says (SpellsSlots strict (slots_of shapes.now))
+        (slots_text (slots_of shapes.now)) i.now out.old.items out.new.items result }
 {
     match shapes {
         [] => Ok(()),
@@ -115,7 +119,8 @@ pub(crate) fn property_name(bit: Identifier) -> &'static [u8]
 
 /// A space, the name of the property with this bit, and `=`.
 fn write_name(out: &mut Vec<u8>, bit: u16) -> Result<(), NoMemory>
-    ensures { AppendsText out.old.items out.new.items (codes " " ++ (property_name bit ++ codes "=")) result }
+    ensures { AppendsText out.old.items out.new.items
+        (codes " " ++ (property_name bit ++ codes "=")) result }
 {
     out.push(b' ')?;
     write_bytes(out, property_name(bit))?;
@@ -125,7 +130,8 @@ fn write_name(out: &mut Vec<u8>, bit: u16) -> Result<(), NoMemory>
 
 /// The properties of these bits and shapes that the mask has, one after another.
 fn write_set(out: &mut Vec<u8>, mask: u16, shapes: &[(u16, Form)], i: &[u8]) -> Result<(), NoMemory>
-    ensures { Says (SpellsOnes mask (map property_of shapes.now)) (set_text (map property_of shapes.now)) i.now out.old.items out.new.items result }
+    ensures { Says (SpellsOnes mask (map property_of shapes.now))
+        (set_text (map property_of shapes.now)) i.now out.old.items out.new.items result }
 {
     match shapes {
         [] => Ok(()),
@@ -143,7 +149,8 @@ fn write_set(out: &mut Vec<u8>, mask: u16, shapes: &[(u16, Form)], i: &[u8]) -> 
 /// Appends the text of the properties that are set.
 #[tactic(auto, using(crate::proofs::RenderedSlots::no_properties))]
 pub(crate) fn write_properties(out: &mut Vec<u8>, i: &[u8]) -> Result<(), NoMemory>
-    ensures { Says (SpellsProperties strict) (set_text properties) i.now out.old.items out.new.items result }
+    ensures { Says (SpellsProperties strict)
+        (set_text properties) i.now out.old.items out.new.items result }
 {
     match i {
         [a, b, rest @ ..] => write_set(out, u16::from_be_bytes([*a, *b]), property_shapes(), rest),

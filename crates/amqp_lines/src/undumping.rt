@@ -1,12 +1,17 @@
 //! Streams of lines, whose frames are written as their canonical bytes.
 
-ghost use Rattle.std.specs.Prelude.{◌≡◌, ◌-◌, ◌<◌, ◌≤◌, [], Err, drop, length, take, vec_len, IfOk};
+ghost use Rattle.std.specs.Prelude.{◌≡◌, ◌-◌, ◌<◌, ◌≤◌, [], Err, drop, length, take, vec_len};
+ghost use Rattle.std.specs.Prelude.{IfErr, IfOk};
 ghost use Rattle.amqp_stream.specs.Ends.{Supply};
-ghost use Rattle.amqp_lines.specs.LineReading.{EndsLine, GathersLine, GathersLines, HasNoNewline, ReadsOnce, StopsWith, end_of_text};
-ghost use Rattle.amqp_lines.specs.Undumping.{Undumps, UndumpRun, read_size};
+ghost use Rattle.amqp_lines.specs.LineReading.{EndsLine, GathersLine, GathersLines, HasNoNewline};
+ghost use Rattle.amqp_lines.specs.LineReading.{Decides, PassesLine, ReadsOnce, StopsWith};
+ghost use Rattle.amqp_lines.specs.LineReading.{end_of_text};
+ghost use Rattle.amqp_lines.specs.UndumpReports.{IsUndumpReport, first_line, unreported_lines};
+ghost use Rattle.amqp_lines.specs.Undumping.{UndumpRun, read_size};
 
 use crate::errors::UndumpError;
 use crate::line_reading::LineReader;
+use crate::report::{LinePlace, UndumpReport, unreported_lines};
 use crate::words::write_bytes;
 use amqp_canonical::bytes_from;
 use amqp_stream::{OutputBuffer, Sink, Source, flush, gather};
@@ -41,20 +46,23 @@ fn first_bytes(text: &[u8], end: usize) -> &[u8]
     &text[..end]
 }
 
-/// Gathers the canonical bytes of the frame of a line.
+/// Gathers the canonical bytes of the frame of a line, which is then passed.
 fn gather_line<K: Sink>(
     reader: &mut LineReader,
+    at: &mut LinePlace,
     out: &mut OutputBuffer,
     sink: &mut K,
     text: &[u8],
     max_payload: ChunkSize,
 ) -> Result<(), UndumpError>
-    ensures { GathersLine max_payload text.now (K.store sink.old) (K.store sink.new) out.old.bytes out.new.bytes result }
+    ensures gathers { GathersLine max_payload text.now (K.store sink.old)
+        (K.store sink.new) out.old.bytes out.new.bytes result }
+    ensures passes { PassesLine text.now at.old at.new result }
 {
     match reader.is_line(text, max_payload) {
         Err(_) => return Err(UndumpError::NoMemory),
         Ok(false) => return Err(UndumpError::BadText),
-        Ok(true) => {}
+        Ok(true) => at.pass(text.len()),
     }
     match gather(out, sink, reader.canonical()) {
         Ok(()) => Ok(()),
@@ -66,6 +74,7 @@ fn gather_line<K: Sink>(
 /// lines.
 fn gather_lines<K: Sink>(
     reader: &mut LineReader,
+    at: &mut LinePlace,
     out: &mut OutputBuffer,
     sink: &mut K,
     text: &[u8],
@@ -74,7 +83,8 @@ fn gather_lines<K: Sink>(
 ) -> Result<usize, UndumpError>
     requires within { searched ≤ length text.now }
     requires none { HasNoNewline (take searched text.now) }
-    ensures { GathersLines max_payload text.now (K.store sink.old) (K.store sink.new) out.old.bytes out.new.bytes result }
+    ensures { GathersLines max_payload text.now at.old at.new (K.store sink.old)
+        (K.store sink.new) out.old.bytes out.new.bytes result }
 {
     let mut rest = text;
     let mut seen = searched;
@@ -82,7 +92,7 @@ fn gather_lines<K: Sink>(
         match line_end(rest, seen) {
             None => return Ok(rest.len()),
             Some(end) => {
-                match gather_line(reader, out, sink, first_bytes(rest, end), max_payload) {
+                match gather_line(reader, at, out, sink, first_bytes(rest, end), max_payload) {
                     Err(error) => return Err(error),
                     Ok(()) => {}
                 }
@@ -112,7 +122,8 @@ fn read_once<S: Source>(
     held: &mut Vec<u8>,
 ) -> Result<usize, UndumpError>
     requires { length piece.old.items ≡ read_size }
-    ensures reads { ReadsOnce (S.supply source.old) (S.supply source.new) held.old.items held.new.items result }
+    ensures reads { ReadsOnce (S.supply source.old)
+        (S.supply source.new) held.old.items held.new.items result }
     ensures room { length piece.new.items ≡ length piece.old.items }
 {
     match source.read(piece) {
@@ -149,11 +160,13 @@ fn end_of_input(held: &[u8]) -> Result<(), UndumpError>
     }
 }
 
-/// What a call holds between two reads, in memory that is used again: a part of a line, and a piece for a read.
+/// What a call holds between two reads, in memory that is used again: a part of a line, the place of this line in the
+/// text, and a piece for a read.
 #[derive(Drop)]
 struct Lines {
     reader: LineReader,
     held: Vec<u8>,
+    at: LinePlace,
     piece: Vec<u8>,
     ghost room: { vec_len piece ≡ 65536 },
 }
@@ -161,11 +174,13 @@ struct Lines {
 impl Lines {
     /// Nothing is held yet.
     fn open(alloc: Global) -> Result<Lines, NoMemory>
-        ensures { IfOk result (λ lines. lines.held.items ≡ []) }
+        ensures held { IfOk result (λ lines. lines.held.items ≡ []) }
+        ensures at { IfOk result (λ lines. lines.at ≡ first_line) }
     {
         Ok(Lines {
             reader: LineReader::open(alloc)?,
             held: Vec::new(alloc),
+            at: LinePlace::first(),
             piece: vec![in alloc; 0u8; PIECE]?,
         })
     }
@@ -179,16 +194,18 @@ fn run<S: Source, K: Sink>(
     source: &mut S,
     sink: &mut K,
     max_payload: ChunkSize,
-    turns: u64,
+    budget: u64,
 ) -> Result<(), UndumpError>
     requires none { lines.old.held.items ≡ [] }
-    ensures stream { Undumps max_payload turns (S.supply source.old) (S.supply source.new) (K.store sink.old) (K.store sink.new) result }
-    ensures unread { turns ≡ 0 → source.new ≡ source.old }
-    ensures spent { turns ≡ 0 → result ≡ Err UndumpError.TurnsSpent }
-    ensures unwritten { turns ≡ 0 → sink.new ≡ sink.old }
+    requires first { lines.old.at ≡ first_line }
+    ensures stream { Decides max_payload budget (S.supply source.old) (S.supply source.new)
+        (K.store sink.old) (K.store sink.new) lines.new.at result }
+    ensures unread { budget ≡ 0 → source.new ≡ source.old }
+    ensures spent { budget ≡ 0 → result ≡ Err UndumpError.TurnsSpent }
+    ensures unwritten { budget ≡ 0 → sink.new ≡ sink.old }
 {
     out.clear();
-    let mut left = turns;
+    let mut left = budget;
     'reads: loop {
         if left == 0 {
             return Err(UndumpError::TurnsSpent);
@@ -202,6 +219,7 @@ fn run<S: Source, K: Sink>(
         }
         match gather_lines(
             &mut lines.reader,
+            &mut lines.at,
             out,
             sink,
             &lines.held,
@@ -218,23 +236,44 @@ fn run<S: Source, K: Sink>(
     }
 }
 
-/// Writes the canonical bytes of the frame of each line of a stream, to the end of input or an error. `turns` is the
-/// read budget: so many reads at most are made, each of 65536 bytes at most. `max_payload` is in bytes; the line of a
-/// longer payload is bad text. Memory is taken for one line and one read.
+/// Writes the canonical bytes of the frame of each line of a stream, to the end of input or an error, and reports at
+/// which line that is. `budget` is the read budget: so many reads at most are made, each of 65536 bytes at most. `max_payload` is in
+/// bytes; the line of a longer payload is bad text. Memory is taken for one line and one read.
+pub fn undump_reported<S: Source, K: Sink>(
+    alloc: Global,
+    source: &mut S,
+    sink: &mut K,
+    max_payload: ChunkSize,
+    budget: u64,
+) -> Result<(), UndumpReport>
+    ensures run { UndumpRun S.supply K.store max_payload budget
+        source.old source.new sink.old sink.new (unreported_lines result) }
+    ensures report { IfErr result (IsUndumpReport S.supply max_payload budget
+        source.old source.new (K.store sink.old) (K.store sink.new)) }
+{
+    let first = LinePlace::first();
+    match Lines::open(alloc) {
+        Err(_) => first.reported(Err(UndumpError::NoMemory)),
+        Ok(mut lines) => match OutputBuffer::open(alloc, PIECE) {
+            Err(_) => first.reported(Err(UndumpError::NoMemory)),
+            Ok(mut out) => {
+                let answer = run(&mut lines, &mut out, source, sink, max_payload, budget);
+                lines.at.reported(answer)
+            }
+        },
+    }
+}
+
+/// The same, without where it ended.
 pub fn undump<S: Source, K: Sink>(
     alloc: Global,
     source: &mut S,
     sink: &mut K,
     max_payload: ChunkSize,
-    turns: u64,
+    budget: u64,
 ) -> Result<(), UndumpError>
-    ensures run { UndumpRun S.supply K.store max_payload turns source.old source.new sink.old sink.new result }
+    ensures run { UndumpRun S.supply K.store max_payload
+        budget source.old source.new sink.old sink.new result }
 {
-    match Lines::open(alloc) {
-        Err(_) => Err(UndumpError::NoMemory),
-        Ok(mut lines) => match OutputBuffer::open(alloc, PIECE) {
-            Err(_) => Err(UndumpError::NoMemory),
-            Ok(mut out) => run(&mut lines, &mut out, source, sink, max_payload, turns),
-        },
-    }
+    unreported_lines(undump_reported(alloc, source, sink, max_payload, budget))
 }

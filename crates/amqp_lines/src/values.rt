@@ -8,10 +8,14 @@ ghost use Rattle.amqp_types.specs.Booleans.{judge_boolean};
 ghost use Rattle.amqp_types.specs.Sequences.{judge_map};
 ghost use Rattle.amqp_types.specs.Strings.{judge_long_string};
 ghost use Rattle.amqp_types.specs.ValueJudging.{judge_decimal};
-ghost use Rattle.amqp_types.specs.ValueSpelling.{SpellsArray, SpellsEntry, SpellsTable, SpellsValue};
+ghost use Rattle.amqp_types.specs.ValueSpelling.{SpellsArray, SpellsEntry};
+ghost use Rattle.amqp_types.specs.ValueSpelling.{SpellsTable, SpellsValue};
 ghost use Rattle.amqp_lines.specs.Words.{hex, quoted};
 ghost use Rattle.amqp_lines.specs.Values.{tag_text, table_text, truth_text, value_text};
-ghost use Rattle.amqp_lines.specs.Rendering.{AppendsText, FindsContent, Renders, WritesAfter, WritesEach, WritesText, array_text, comma_before, decimal_text, entry_text, rendered_number, rendered_signed};
+ghost use Rattle.amqp_lines.specs.Rendering.{AppendsText, FindsContent, Renders, WritesAfter};
+ghost use Rattle.amqp_lines.specs.Rendering.{WritesEach, WritesText, array_text};
+ghost use Rattle.amqp_lines.specs.Rendering.{comma_before, decimal_text, entry_text};
+ghost use Rattle.amqp_lines.specs.Rendering.{rendered_number, rendered_signed};
 
 use crate::words::{write_bytes, write_decimal, write_hex, write_quoted, write_signed};
 use amqp_canonical::{bytes_from, split_key};
@@ -143,7 +147,8 @@ fn write_long_long_int(out: &mut Vec<u8>, i: &[u8]) -> Result<usize, NoMemory>
 
 /// A truth value.
 fn write_boolean(out: &mut Vec<u8>, i: &[u8]) -> Result<usize, NoMemory>
-    ensures rendered { Renders (judge_map truth_text judge_boolean i.now) out.old.items out.new.items result }
+    ensures rendered { Renders (judge_map truth_text judge_boolean i.now)
+        out.old.items out.new.items result }
     ensures used { IfOk result (λ n. n ≤ length i.now) }
 {
     match i {
@@ -161,7 +166,8 @@ fn write_boolean(out: &mut Vec<u8>, i: &[u8]) -> Result<usize, NoMemory>
 
 /// A scale and an unsigned number.
 fn write_decimal_value(out: &mut Vec<u8>, i: &[u8]) -> Result<usize, NoMemory>
-    ensures rendered { Renders (judge_map decimal_text judge_decimal i.now) out.old.items out.new.items result }
+    ensures rendered { Renders (judge_map decimal_text judge_decimal i.now)
+        out.old.items out.new.items result }
     ensures used { IfOk result (λ n. n ≤ length i.now) }
 {
     match i {
@@ -177,7 +183,8 @@ fn write_decimal_value(out: &mut Vec<u8>, i: &[u8]) -> Result<usize, NoMemory>
 
 /// A long string.
 pub(crate) fn write_long_string(out: &mut Vec<u8>, i: &[u8]) -> Result<usize, NoMemory>
-    ensures rendered { Renders (judge_map quoted judge_long_string i.now) out.old.items out.new.items result }
+    ensures rendered { Renders (judge_map quoted judge_long_string i.now)
+        out.old.items out.new.items result }
     ensures used { IfOk result (λ n. n ≤ length i.now) }
 {
     match split_long(i) {
@@ -191,7 +198,8 @@ pub(crate) fn write_long_string(out: &mut Vec<u8>, i: &[u8]) -> Result<usize, No
 
 /// A byte array.
 fn write_byte_array(out: &mut Vec<u8>, i: &[u8]) -> Result<usize, NoMemory>
-    ensures rendered { Renders (judge_map hex judge_long_string i.now) out.old.items out.new.items result }
+    ensures rendered { Renders (judge_map hex judge_long_string i.now)
+        out.old.items out.new.items result }
     ensures used { IfOk result (λ n. n ≤ length i.now) }
 {
     match split_long(i) {
@@ -233,7 +241,8 @@ fn write_tag(out: &mut Vec<u8>, tag: FieldTag) -> Result<(), NoMemory>
 /// deep in it.
 #[cycle(render)]
 pub(crate) fn write_value(out: &mut Vec<u8>, i: &[u8], depth_left: usize) -> Result<usize, NoMemory>
-    ensures written { WritesText (SpellsValue strict depth_left) value_text i.now out.old.items out.new.items result }
+    ensures written { WritesText (SpellsValue strict depth_left)
+        value_text i.now out.old.items out.new.items result }
     ensures used { IfOk result (λ n. (0 < n) × (n ≤ length i.now + 1)) }
 {
     match i {
@@ -284,7 +293,8 @@ fn write_after_tag(
 /// An array.
 #[cycle(render)]
 fn write_array(out: &mut Vec<u8>, i: &[u8], depth_left: usize) -> Result<usize, NoMemory>
-    ensures written { WritesText (SpellsArray (SpellsValue strict depth_left)) array_text i.now out.old.items out.new.items result }
+    ensures written { WritesText (SpellsArray (SpellsValue strict depth_left))
+        array_text i.now out.old.items out.new.items result }
     ensures used { IfOk result (λ n. n ≤ length i.now) }
 {
     match split_long(i) {
@@ -302,7 +312,8 @@ fn write_array(out: &mut Vec<u8>, i: &[u8], depth_left: usize) -> Result<usize, 
 /// deep in its values.
 #[cycle(render)]
 pub(crate) fn write_table(out: &mut Vec<u8>, i: &[u8], depth_left: usize) -> Result<usize, NoMemory>
-    ensures written { WritesText (SpellsTable strict (SpellsValue strict depth_left)) table_text i.now out.old.items out.new.items result }
+    ensures written { WritesText (SpellsTable strict (SpellsValue strict depth_left))
+        table_text i.now out.old.items out.new.items result }
     ensures used { IfOk result (λ n. n ≤ length i.now) }
 {
     match split_long(i) {
@@ -319,7 +330,8 @@ pub(crate) fn write_table(out: &mut Vec<u8>, i: &[u8], depth_left: usize) -> Res
 /// The values that fill an array.
 #[cycle(render)]
 fn write_values(out: &mut Vec<u8>, content: &[u8], depth_left: usize) -> Result<(), NoMemory>
-    ensures { WritesEach (SpellsValue strict depth_left) value_text content.now out.old.items out.new.items result }
+    ensures { WritesEach (SpellsValue strict depth_left)
+        value_text content.now out.old.items out.new.items result }
 {
     let mut rest = content;
     while !rest.is_empty() {
@@ -333,7 +345,8 @@ fn write_values(out: &mut Vec<u8>, content: &[u8], depth_left: usize) -> Result<
 /// The entries that fill a table.
 #[cycle(render)]
 fn write_entries(out: &mut Vec<u8>, content: &[u8], depth_left: usize) -> Result<(), NoMemory>
-    ensures { WritesEach (SpellsEntry (SpellsValue strict depth_left)) entry_text content.now out.old.items out.new.items result }
+    ensures { WritesEach (SpellsEntry (SpellsValue strict depth_left))
+        entry_text content.now out.old.items out.new.items result }
 {
     let mut rest = content;
     while !rest.is_empty() {
@@ -347,7 +360,8 @@ fn write_entries(out: &mut Vec<u8>, content: &[u8], depth_left: usize) -> Result
 /// An entry: its key, `=` and its value.
 #[cycle(render)]
 fn write_entry(out: &mut Vec<u8>, i: &[u8], depth_left: usize) -> Result<usize, NoMemory>
-    ensures written { WritesText (SpellsEntry (SpellsValue strict depth_left)) entry_text i.now out.old.items out.new.items result }
+    ensures written { WritesText (SpellsEntry (SpellsValue strict depth_left))
+        entry_text i.now out.old.items out.new.items result }
     ensures used { IfOk result (λ n. (0 < n) × (n ≤ length i.now + 2)) }
 {
     let (key, value) = split_key(i);

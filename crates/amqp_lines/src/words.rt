@@ -3,7 +3,8 @@
 ghost use Rattle.std.specs.Prelude.{◌≡◌, ◌+◌, ◌<◌, ◌≤◌, [], ◌∷◌, drop, length};
 ghost use Rattle.std.specs.Fmt.{decimal, signed_decimal};
 ghost use Rattle.amqp_types.specs.Flags.{flags_from};
-ghost use Rattle.amqp_lines.specs.Words.{escaped, hex, hex_byte, hex_digit, is_plain, quoted, sign, signs};
+ghost use Rattle.amqp_lines.specs.Words.{escaped, hex, hex_byte, hex_digit};
+ghost use Rattle.amqp_lines.specs.Words.{is_plain, quoted, sign, signs};
 ghost use Rattle.amqp_lines.specs.Rendering.{AppendsText};
 
 use amqp_canonical::has_bit;

@@ -22,7 +22,8 @@ use Rattle.amqp_named_lines.specs.NamedLines.{method_words, named_as, names_in, 
 
 -- a method of the table
 pub named : (old new : List ℕ) (r : Result (Unit {0}) NoMemory) (c : Class) (m : Method) {class : Option ClassNames} {method : Option MethodNames}
-    → Some (class_names_of c) ≡ class → Some (method_names m) ≡ method → AppendsText old new (method_words (class_names_of c) (method_names m)) r → AppendsText old new (named_as class method) r
+    → Some (class_names_of c) ≡ class → Some (method_names m) ≡ method
+    → AppendsText old new (method_words (class_names_of c) (method_names m)) r → AppendsText old new (named_as class method) r
 named old new r c m {class = class} {method = method} is-c is-m h =
     subst (λ x. AppendsText old new (named_as x method) r) is-c (subst (λ y. AppendsText old new (named_as (Some (class_names_of c)) y) r) is-m h)
 
@@ -30,7 +31,9 @@ named old new r c m {class = class} {method = method} is-c is-m h =
 pub no_class : (old : List ℕ) {class : Option ClassNames} (method : Option MethodNames) → None ≡ class → old ≡ old ++ named_as class method
 no_class old method none = subst (λ x. old ≡ old ++ named_as x method) none (sym (append-nil old))
 
-pub no_method : (old : List ℕ) (c : Class) {class : Option ClassNames} {method : Option MethodNames} → Some (class_names_of c) ≡ class → None ≡ method → old ≡ old ++ named_as class method
+-- Where a class of the table does not have the method, no names are appended.
+pub no_method : (old : List ℕ) (c : Class) {class : Option ClassNames} {method : Option MethodNames}
+    → Some (class_names_of c) ≡ class → None ≡ method → old ≡ old ++ named_as class method
 no_method old c {method = method} is-c none =
     subst (λ x. old ≡ old ++ named_as x method) is-c (subst (λ y. old ≡ old ++ named_as (Some (class_names_of c)) y) none (sym (append-nil old)))
 
@@ -40,14 +43,18 @@ no_method old c {method = method} is-c none =
 pub alone : {first names bytes : List ℕ} → first ≡ [] → names ≡ first ++ bytes → names ≡ bytes
 alone {bytes = bytes} none is = is ∙ ap (λ (xs : List ℕ). xs ++ bytes) none
 
-pub finished : (old new text names : List ℕ) (outline : FrameOutline) (f : Frame) (r : Result (Unit {0}) GenError) → outline ≡ outline_of f → names ≡ names_in outline → IsOk (size_of f) → text ≡ names ++ line f
+-- The names in the outline of a frame and then its line, appended, are its named line.
+pub finished : (old new text names : List ℕ) (outline : FrameOutline) (f : Frame) (r : Result (Unit {0}) GenError)
+    → outline ≡ outline_of f → names ≡ names_in outline → IsOk (size_of f) → text ≡ names ++ line f
     → Appends old new (Ok (length text)) text r → AppendsNamedLine old new f r
-finished old new text names outline f (Ok done) of is ok same h = (ok, h.1 ∙ ap (λ (xs : List ℕ). old ++ xs) (same ∙ ap (λ (xs : List ℕ). xs ++ line f) (is ∙ ap names_in of)))
+finished old new text names outline f (Ok done) of is ok same h =
+    (ok, h.1 ∙ ap (λ (xs : List ℕ). old ++ xs) (same ∙ ap (λ (xs : List ℕ). xs ++ line f) (is ∙ ap names_in of)))
 finished old new text names outline f (Err refusals.NoMemory) of is ok same h = h
 finished old new text names outline f (Err refusals.TooDeep) of is ok same h = absurd (let e = h.0 in cc)
 finished old new text names outline f (Err refusals.TooLong) of is ok same h = absurd (let e = h.0 in cc)
 finished old new text names outline f (Err refusals.BufferTooSmall) of is ok same h = absurd (let e = h.0 in cc)
 
+-- An error in appending the line of a frame is the error of its named line, of which then nothing is appended.
 pub refused : (old before after : List ℕ) (f : Frame) (error : GenError) → AppendsLine before after f (Err error) → AppendsNamedLine old old f (Err error)
 refused old before after f refusals.NoMemory h = refl
 refused old before after f refusals.TooDeep h = (h.0, refl)

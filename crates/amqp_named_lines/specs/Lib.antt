@@ -1,2 +1,3 @@
 -- The definitions of amqp_named_lines.
 pub mod NamedLines
+pub mod Laws

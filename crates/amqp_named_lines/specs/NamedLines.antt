@@ -1,5 +1,6 @@
 -- The line of a frame, with the names of its method and of the method's fields in front.
-use Rattle.std.specs.Prelude.{◌≡◌, ℕ, List, [], ◌++◌, codes, Option, Some, None, Result, Ok, Err, IsOk}
+use Rattle.std.specs.Prelude.{◌≡◌, ℕ, List, [], ◌++◌, codes, Option}
+use Rattle.std.specs.Prelude.{Some, None, Result, Ok, Err, IsOk}
 use Rattle.std.specs.List.{flat_map}
 use Rattle.amqp_types.specs.declared.errors.GenError.{GenError}
 use Rattle.amqp_types.specs.declared.errors.GenError.TheVariants as refusals
@@ -18,7 +19,8 @@ field_words names = flat_map (λ name. codes " " ++ name) names
 
 -- the name of a class and of a method, those of its fields, and a colon and a space
 abbrev pub method_words : ClassNames → MethodNames → List ℕ
-method_words class method = class.name ++ (codes "." ++ (method.name ++ (field_words method.fields ++ codes ": ")))
+method_words class method =
+    class.name ++ (codes "." ++ (method.name ++ (field_words method.fields ++ codes ": ")))
 
 -- the same of what a table has; where it has none, nothing
 abbrev pub named_as : Option ClassNames → Option MethodNames → List ℕ
@@ -34,7 +36,8 @@ names_in outline = []
 abbrev pub named_line : Frame → List ℕ
 named_line frame = names_in (outline_of frame) ++ line frame
 
--- The named line of a frame that has a size is appended. A refusal is that of measuring the frame, or memory, and leaves the vector as it was.
+-- The named line of a frame that has a size is appended. A refusal is that of measuring the frame,
+-- or memory, and leaves the vector as it was.
 abbrev pub AppendsNamedLine : List ℕ → List ℕ → Frame → Result (Unit {0}) GenError → Type 0
 AppendsNamedLine old new frame (Ok done) = IsOk (size_of frame) × (new ≡ old ++ named_line frame)
 AppendsNamedLine old new frame (Err refusals.NoMemory) = new ≡ old

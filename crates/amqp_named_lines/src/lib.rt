@@ -2,9 +2,11 @@
 //! of the frame.
 #![tactic(auto)]
 
+mod laws;
 mod named_lines;
 mod names;
 #[cfg(test)]
 mod tests;
 
+pub use laws::classes_are_named;
 pub use named_lines::gen_named_line;

@@ -1,5 +1,6 @@
 -- What a search of the tables finds.
-use Rattle.std.proofs.Common.{Bor, ◌≡◌, ◌∙◌, ap, sym, ℕ, zero, suc, ◌-◌, ◌<◌, ◌≤◌, Bool, true, List, [], ◌∷◌, ◌++◌, length, take, drop, get_or, Option, Some, None, refl, arith, rules}
+use Rattle.std.proofs.Common.{Bor, ◌≡◌, ◌∙◌, ap, sym, ℕ, zero, suc, ◌-◌, ◌<◌, ◌≤◌, Bool, true, List, [], ◌∷◌, ◌++◌, length, take, drop, get_or, Option}
+use Rattle.std.proofs.Common.{Some, None, refl, arith, rules}
 use Rattle.std.specs.Prelude.{◌==◌, map, is_some, nat_lt, option_copied, option_map, option_and_then, slice_get, IfSome}
 use Rattle.std.proofs.lemmas.Option.{slice_get-get_or, slice_get-map, slice_get_past}
 use Rattle.std.proofs.lemmas.List.{take_all}
@@ -8,13 +9,14 @@ use Rattle.std.specs.List.{find, flat_map, list_all}
 use Rattle.std.specs.Map.{lookup}
 use Rattle.std.proofs.lemmas.Map.Made.{lookup-map_values}
 use Rattle.amqp_types.specs.Rows.{Row, classes, rows_of, slots_at}
-use Rattle.amqp_fields.specs.Meaning.{kinds_in}
 use Rattle.amqp_names.specs.declared.naming.Class.{Class}
 use Rattle.amqp_names.specs.declared.naming.Method.{Method}
 use Rattle.amqp_names.specs.declared.naming.MethodAt.{MethodAt}
 use Rattle.amqp_names.specs.Naming.{ClassNames, MethodNames}
 use Rattle.amqp_names.specs.Names.{class_names}
-use Rattle.amqp_names.specs.Tables.{all_methods, class_at, class_kinds, class_names_of, field_name, kinds_at, known_kinds, known_rows, located, method_in, method_kinds, method_names, row_kinds}
+use Rattle.amqp_names.specs.Kinds.{kinds_in}
+use Rattle.amqp_names.specs.Tables.{all_methods, class_at, class_kinds, class_names_of, field_name, kinds_at, known_kinds, known_rows, located, method_in}
+use Rattle.amqp_names.specs.Tables.{method_kinds, method_names, row_kinds}
 
 -- the first of the images that passes is the image of the first whose image passes
 pub find-map : {X Y : Type 0} (v : X → Y) (test : Y → Bool) (xs : List X) → find test (map v xs) ≡ option_map v (find (λ x. test (v x)) xs)
@@ -30,11 +32,14 @@ lookup-map key v test pair same (x ∷ xs) = rw (same x) (grind (arith, lookup-m
 -- ---- classes
 
 -- the names of what is found
-pub class_named : (id : ℕ) (xs : List Class) (r : Option Class) → map class_names_of xs ≡ class_names → r ≡ find (λ c. id == c.id) xs → option_map class_names_of r ≡ class_at id
-class_named id xs r names found = ap (option_map class_names_of) found ∙ (sym (find-map class_names_of (λ n. id == n.id) xs) ∙ ap (find (λ (n : ClassNames). id == n.id)) names)
+pub class_named : (id : ℕ) (xs : List Class) (r : Option Class) → map class_names_of xs ≡ class_names
+    → r ≡ find (λ c. id == c.id) xs → option_map class_names_of r ≡ class_at id
+class_named id xs r names found =
+    ap (option_map class_names_of) found ∙ (sym (find-map class_names_of (λ n. id == n.id) xs) ∙ ap (find (λ (n : ClassNames). id == n.id)) names)
 
 -- its kinds
-pub class_rows : (id : ℕ) (xs : List Class) (r : Option Class) → map known_kinds xs ≡ map known_rows classes → r ≡ find (λ c. id == c.id) xs → option_map class_kinds r ≡ option_map row_kinds (rows_of id)
+pub class_rows : (id : ℕ) (xs : List Class) (r : Option Class) → map known_kinds xs ≡ map known_rows classes
+    → r ≡ find (λ c. id == c.id) xs → option_map class_kinds r ≡ option_map row_kinds (rows_of id)
 unfolding rows_of
 class_rows id xs r kinds found =
     ap (option_map class_kinds) found
@@ -45,7 +50,8 @@ class_rows id xs r kinds found =
 -- ---- methods
 
 -- the names of what is found
-pub method_named : (class id : ℕ) (c : Class) (r : Option Method) → Some (class_names_of c) ≡ class_at class → r ≡ find (λ m. id == m.id) c.methods.now → option_map method_names r ≡ method_in class id
+pub method_named : (class id : ℕ) (c : Class) (r : Option Method) → Some (class_names_of c) ≡ class_at class
+    → r ≡ find (λ m. id == m.id) c.methods.now → option_map method_names r ≡ method_in class id
 method_named class id c r names found =
     ap (option_map method_names) found
     ∙ (sym (find-map method_names (λ n. id == n.id) c.methods.now)
@@ -56,7 +62,8 @@ pub no_class : (class id : ℕ) → None ≡ class_at class → None ≡ method_
 no_class class id names = ap (option_and_then (λ (n : ClassNames). find (λ m. id == m.id) n.methods)) names
 
 -- the kinds of a method among the rows of its class
-row_kinds_found : (id : ℕ) (c : Class) (r : Option Method) (rows : Option (List Row)) → Some (class_kinds c) ≡ option_map row_kinds rows → r ≡ find (λ m. id == m.id) c.methods.now
+row_kinds_found : (id : ℕ) (c : Class) (r : Option Method) (rows : Option (List Row))
+    → Some (class_kinds c) ≡ option_map row_kinds rows → r ≡ find (λ m. id == m.id) c.methods.now
     → option_map method_kinds r ≡ option_map kinds_in (option_and_then (λ rows. lookup (λ k. id == k) rows) rows)
 row_kinds_found id c r None kinds found = search rules
 row_kinds_found id c r (Some rows) kinds found =
@@ -67,13 +74,15 @@ row_kinds_found id c r (Some rows) kinds found =
     ∙ lookup-map_values kinds_in (λ k. id == k) rows))
 
 -- the kinds of what is found
-pub method_row : (class id : ℕ) (c : Class) (r : Option Method) → Some (class_kinds c) ≡ option_map row_kinds (rows_of class) → r ≡ find (λ m. id == m.id) c.methods.now
+pub method_row : (class id : ℕ) (c : Class) (r : Option Method)
+    → Some (class_kinds c) ≡ option_map row_kinds (rows_of class) → r ≡ find (λ m. id == m.id) c.methods.now
     → option_map method_kinds r ≡ kinds_at class id
 unfolding slots_at
 method_row class id c r kinds found = row_kinds_found id c r (rows_of class) kinds found
 
 -- where there are no rows of the class
-no_row_kinds : (id : ℕ) (rows : Option (List Row)) → None ≡ option_map row_kinds rows → None ≡ option_map kinds_in (option_and_then (λ rows. lookup (λ k. id == k) rows) rows)
+no_row_kinds : (id : ℕ) (rows : Option (List Row)) → None ≡ option_map row_kinds rows
+    → None ≡ option_map kinds_in (option_and_then (λ rows. lookup (λ k. id == k) rows) rows)
 no_row_kinds id None kinds = refl
 no_row_kinds id (Some rows) kinds = search rules
 
@@ -97,7 +106,8 @@ get_second (y ∷ xs) ys zero at = search rules
 get_second (y ∷ xs) ys (suc k) at = let e : suc k - suc (length xs) ≡ k - length xs = omega arith in ap (slice_get ys) e ∙ get_second xs ys k at
 
 -- what `get` returns
-pub got : {X : Type 0} (xs : List X) (k : ℕ) (r : Option (Bor X)) → is_some r ≡ nat_lt k (length xs) → IfSome r (λ x. x.now ≡ get_or xs k x.now) → option_copied r ≡ slice_get xs k
+pub got : {X : Type 0} (xs : List X) (k : ℕ) (r : Option (Bor X)) → is_some r ≡ nat_lt k (length xs)
+    → IfSome r (λ x. x.now ≡ get_or xs k x.now) → option_copied r ≡ slice_get xs k
 got xs k None some at = let past : length xs ≤ k = grind arith in sym (slice_get_past xs k past)
 got xs k (Some x) some at = let within : k < length xs = grind arith in sym (slice_get-get_or xs k x.now within ∙ ap Some (sym at))
 
@@ -112,7 +122,8 @@ others_are : (c : Class) (cs : List Class) → take (length (c ∷ cs) - 1) (dro
 others_are c cs = take_all (length (c ∷ cs) - 1) cs (omega arith)
 
 -- what is seen of the methods of classes, one after another, each with the id of its class
-module _ {A X : Type 0} (see : Method → X) (of : Class → A) (methods : A → List (ℕ × X)) (are : (c : Class) → methods (of c) ≡ map (λ x. (c.id, x)) (map see c.methods.now)) where
+module _ {A X : Type 0} (see : Method → X) (of : Class → A) (methods : A → List (ℕ × X))
+    (are : (c : Class) → methods (of c) ≡ map (λ x. (c.id, x)) (map see c.methods.now)) where
   abbrev seen_in : List Class → List (ℕ × X)
   seen_in cs = flat_map methods (map of cs)
 
@@ -136,7 +147,8 @@ module _ {A X : Type 0} (see : Method → X) (of : Class → A) (methods : A →
       twice (Some m) = refl
 
   -- a method of the first of some classes
-  pub counted_first : (cs : List Class) (none : Class) (k : ℕ) (m : Method) → 1 ≤ length cs → slice_get (get_or cs 0 none).methods.now k ≡ Some m → Some (in_class (get_or cs 0 none) m) ≡ slice_get (seen_in cs) k
+  pub counted_first : (cs : List Class) (none : Class) (k : ℕ) (m : Method) → 1 ≤ length cs
+      → slice_get (get_or cs 0 none).methods.now k ≡ Some m → Some (in_class (get_or cs 0 none) m) ≡ slice_get (seen_in cs) k
   counted_first [] none k m some at = search rules
   counted_first (c ∷ cs) none k m some at = get_first (methods (of c)) (seen_in cs) k (in_class c m) (in_front c k ∙ ap (option_map (in_class c)) at)
 

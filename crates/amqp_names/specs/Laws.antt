@@ -1,13 +1,14 @@
 -- What laws say of the table of names.
-use Rattle.std.specs.Prelude.{◌==◌, ◌&&◌, ◌||◌, ℕ, nat_eq, nat_lt, Bool, true, false, not, List, [], ◌∷◌, ◌++◌, length, map, codes}
+use Rattle.std.specs.Prelude.{◌==◌, ◌&&◌, ◌||◌, ℕ, nat_eq, nat_lt, Bool, true, false, not, List, []}
+use Rattle.std.specs.Prelude.{◌∷◌, ◌++◌, length, map, codes}
 use Rattle.std.specs.List.{flat_map, list_any}
 use Rattle.std.specs.Cmp.Lexicographic.{pointwise}
 use Rattle.amqp_types.specs.Rows.{Row, classes}
-use Rattle.amqp_fields.specs.Meaning.{kinds_in}
 use Rattle.amqp_turns.specs.Units.{is_opening_id}
 use Rattle.amqp_names.specs.declared.naming.Follows.{Follows}
 use Rattle.amqp_names.specs.declared.naming.Follows.TheVariants as follows
 use Rattle.amqp_names.specs.Naming.{ClassNames, MethodNames}
+use Rattle.amqp_names.specs.Kinds.{kinds_in}
 use Rattle.amqp_names.specs.Tables.{all_methods}
 
 -- ---- ids and numbers of fields
@@ -20,7 +21,8 @@ ids_of m = (m.0, m.1.id)
 abbrev pub named_fields : ℕ × MethodNames → ℕ
 named_fields m = length m.1.fields
 
--- the ids of each method of a class that has fields on the wire, and how many of these are not reserved, each flag one
+-- the ids of each method of a class that has fields on the wire, and how many of these are not
+-- reserved, each flag one
 abbrev rows_in : ℕ × List Row → List ((ℕ × ℕ) × ℕ)
 rows_in class = map (λ row. ((class.0, row.0), length (kinds_in row.1))) class.1
 
@@ -78,7 +80,9 @@ is_same a b = pointwise nat_eq a b
 
 -- a method whose class has a method of its name and `-ok`
 abbrev pub has_ok : ℕ × MethodNames → Bool
-has_ok m = list_any (λ other. (other.0 == m.0) && is_same (m.1.name ++ codes "-ok") other.1.name) all_methods
+has_ok m =
+    list_any
+    (λ other. (other.0 == m.0) && is_same (m.1.name ++ codes "-ok") other.1.name) all_methods
 
 -- ---- names
 

@@ -3,7 +3,8 @@ use Prim.Native.String.{String}
 use Rattle.std.specs.Prelude.{ℕ, List, codes, map}
 use Rattle.amqp_names.specs.declared.naming.Follows.{Follows}
 
--- a method: its id, its name, what follows it, and the names of its fields that are not reserved, in the order in which they stand, each flag one
+-- a method: its id, its name, what follows it, and the names of its fields that are not reserved,
+-- in the order in which they stand, each flag one
 pub record MethodNames : Type 0 where
   pub id : ℕ
   pub name : List ℕ
@@ -18,7 +19,8 @@ pub record ClassNames : Type 0 where
 
 -- a method with these
 abbrev pub named_method : ℕ → List ℕ → Follows → List (List ℕ) → MethodNames
-named_method id name follows fields = record { id = id; name = name; follows = follows; fields = fields }
+named_method id name follows fields =
+    record { id = id; name = name; follows = follows; fields = fields }
 
 -- a class with these
 abbrev pub named_class : ℕ → List ℕ → List MethodNames → ClassNames

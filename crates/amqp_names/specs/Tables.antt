@@ -3,14 +3,13 @@ use Rattle.std.specs.Prelude.{◌==◌, ℕ, List, map, Option, option_map, opti
 use Rattle.std.specs.List.{find, flat_map}
 use Rattle.amqp_types.specs.Rows.{Row, classes, slots_at}
 use Rattle.amqp_types.specs.Properties.{Property}
-use Rattle.amqp_fields.specs.Kinds.{kind_of}
-use Rattle.amqp_fields.specs.Meaning.{kinds_in}
 use Rattle.amqp_names.specs.declared.naming.Field.{Field}
 use Rattle.amqp_names.specs.declared.naming.Method.{Method}
 use Rattle.amqp_names.specs.declared.naming.MethodAt.{MethodAt}
 use Rattle.amqp_names.specs.declared.naming.Class.{Class}
 use Rattle.amqp_names.specs.Naming.{ClassNames, MethodNames, named_class, named_method}
 use Rattle.amqp_names.specs.Names.{class_names}
+use Rattle.amqp_names.specs.Kinds.{kind_of, kinds_in}
 
 -- ---- what the program has
 
@@ -90,6 +89,7 @@ all_methods = flat_map methods_of class_names
 abbrev pub kinds_of : ℕ × List (ℕ × List ℕ) → List (ℕ × (ℕ × List ℕ))
 kinds_of class = map (λ m. (class.0, m)) class.1
 
--- the kinds of the fields of all methods, in the same order, by the fields that they have on the wire
+-- the kinds of the fields of all methods, in the same order, by the fields that they
+-- have on the wire
 abbrev pub all_kinds : List (ℕ × (ℕ × List ℕ))
 all_kinds = flat_map kinds_of (map known_rows classes)

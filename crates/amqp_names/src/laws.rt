@@ -4,7 +4,9 @@ ghost use Rattle.std.specs.Prelude.{◌≡◌, length, map, true};
 ghost use Rattle.std.specs.List.{list_all};
 ghost use Rattle.amqp_names.specs.Names.{class_names, property_names};
 ghost use Rattle.amqp_names.specs.Tables.{all_methods};
-ghost use Rattle.amqp_names.specs.Laws.{all_rows, ascend, class_name, differ, fields_differ, has_answer, has_content, has_ok, ids_of, methods_differ, named_fields, opens, row_count, row_ids};
+ghost use Rattle.amqp_names.specs.Laws.{all_rows, ascend, class_name, differ, fields_differ};
+ghost use Rattle.amqp_names.specs.Laws.{has_answer, has_content, has_ok, ids_of, methods_differ};
+ghost use Rattle.amqp_names.specs.Laws.{named_fields, opens, row_count, row_ids};
 
 /// The methods that have names are those that have fields on the wire, each once and in the same order, and each has as
 /// many names of fields as it has fields that are not reserved.

@@ -5,8 +5,8 @@ ghost use Rattle.amqp_types.specs.Properties.{properties};
 ghost use Rattle.amqp_names.specs.Names.{property_names};
 ghost use Rattle.amqp_names.specs.Tables.{field_kind, field_name, property_kind};
 
+use crate::kinds::{LONG_LONG, OCTET, SHORT_STRING, TABLE};
 use crate::naming::Field;
-use amqp_fields::{LONG_LONG, OCTET, SHORT_STRING, TABLE};
 
 /// A property: the name and the kind.
 macro_rules! property {
@@ -48,7 +48,8 @@ pub fn properties() -> &'static [Field]
 /// The property at a place, counted from 0.
 pub fn property_at(place: u8) -> Option<Field>
     ensures name { option_map field_name result ≡ slice_get property_names place }
-    ensures kind { option_map field_kind result ≡ option_map property_kind (slice_get properties place) }
+    ensures kind { option_map field_kind result
+        ≡ option_map property_kind (slice_get properties place) }
 {
     properties().get(place as usize).copied()
 }

@@ -1,14 +1,18 @@
 //! The classes and their methods, as the reference of the standard has them, with the class access of earlier versions and
 //! the extensions that RabbitMQ has made.
 
-ghost use Rattle.std.specs.Prelude.{◌≡◌, ◌==◌, ◌≤◌, length, map, IfSome, option_copied, option_map, slice_get};
+ghost use Rattle.std.specs.Prelude.{◌≡◌, ◌==◌, ◌≤◌, length, map, IfSome};
+ghost use Rattle.std.specs.Prelude.{option_copied, option_map, slice_get};
 ghost use Rattle.std.specs.List.{find, flat_map};
 ghost use Rattle.amqp_types.specs.Rows.{classes as rows, rows_of};
 ghost use Rattle.amqp_names.specs.Names.{class_names};
-ghost use Rattle.amqp_names.specs.Tables.{all_kinds, all_methods, class_at, class_kinds, class_names_of, kinds_at, kinds_of, known_kinds, known_rows, located, located_kinds, method_in, method_kinds, method_names, methods_of, row_kinds};
+ghost use Rattle.amqp_names.specs.Tables.{all_kinds, all_methods, class_at, class_kinds};
+ghost use Rattle.amqp_names.specs.Tables.{class_names_of, kinds_at, kinds_of, known_kinds};
+ghost use Rattle.amqp_names.specs.Tables.{known_rows, located, located_kinds, method_in};
+ghost use Rattle.amqp_names.specs.Tables.{method_kinds, method_names, methods_of, row_kinds};
 
+use crate::kinds::{FLAG, LONG, LONG_LONG, LONG_STRING, OCTET, SHORT, SHORT_STRING, TABLE};
 use crate::naming::{Class, Field, Follows, Method, MethodAt};
-use amqp_fields::{FLAG, LONG, LONG_LONG, LONG_STRING, OCTET, SHORT, SHORT_STRING, TABLE};
 use amqp_types::Identifier;
 
 /// A row: the id, the name, what follows the method, and its fields.
@@ -205,8 +209,10 @@ pub fn find_method(class_id: Identifier, method_id: Identifier) -> Option<Method
 
 /// Method `k` of these classes, counted from 0.
 fn counted(classes: &'static [Class], k: usize) -> Option<MethodAt>
-    ensures names { option_map located result ≡ slice_get (flat_map methods_of (map class_names_of classes.now)) k }
-    ensures kinds { option_map located_kinds result ≡ slice_get (flat_map kinds_of (map known_kinds classes.now)) k }
+    ensures names { option_map located result
+        ≡ slice_get (flat_map methods_of (map class_names_of classes.now)) k }
+    ensures kinds { option_map located_kinds result
+        ≡ slice_get (flat_map kinds_of (map known_kinds classes.now)) k }
 {
     let [class, others @ ..] = classes else {
         return None;

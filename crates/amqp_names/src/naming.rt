@@ -21,7 +21,7 @@ pub struct Field {
     /// In lower case, with hyphens.
     pub name: &'static str,
 
-    /// 1 to 8, as the kinds of nodes are numbered.
+    /// One of the kinds from `OCTET`, 1, to `TABLE`, 8, as the kinds of nodes are numbered.
     pub kind: u8,
 }
 

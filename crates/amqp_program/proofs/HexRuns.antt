@@ -1,5 +1,6 @@
 -- How a run over a hex text ends.
-use Rattle.std.proofs.Common.{◌≡◌, ◌≢◌, ℕ, ◌+◌, ◌≤◌, List, [], ◌∷◌, ◌++◌, length, Some, Result, Ok, Err, refl, sym, ap, subst, ◌∙◌, inl, inr, arith}
+use Rattle.std.proofs.Common.{◌≡◌, ◌≢◌, ℕ, ◌+◌, ◌≤◌, ◌<◌, List, [], ◌∷◌, ◌++◌, length, Some, None, Result, Ok, Err, refl, sym, ap}
+use Rattle.std.proofs.Common.{subst, ◌∙◌, inl, inr, lit<, arith}
 use Rattle.std.proofs.lemmas.List.{length-append}
 use Rattle.std.specs.Io.BufRead.{strip_last}
 use Rattle.hex.specs.Hex.{decode_of, encode_lower}
@@ -22,9 +23,15 @@ use Rattle.amqp_stream.specs.declared.sink.SinkFault.{SinkFault}
 use Rattle.amqp_stream.proofs.Adding.{Gains-none}
 use Rattle.amqp_stream.proofs.Exactly.{split_of, all_taken}
 use Rattle.amqp_program.specs.declared.text.InputError.TheVariants as errors
+use Rattle.amqp_program.specs.declared.outcome.Outcome.{Outcome}
+use Rattle.amqp_program.specs.declared.outcome.Place.TheVariants as places
+use Rattle.amqp_program.specs.HexPlaces.{IsHexPlace}
+use Rattle.amqp_program.specs.Reporting.{ReportsHex}
 use Rattle.amqp_program.specs.Texts.{longest, ReadsText}
 use Rattle.amqp_program.specs.Reports.{Printed, printed, report, report_of, report_at, max_payload}
-use Rattle.amqp_program.specs.Runs.{IsWhole, HexEnds, no_memory, read_failed, too_long, write_failed, reported, AcceptsHex, IsValidHex, IsDoneOrNoMemory, RunsHex}
+use Rattle.amqp_program.specs.Runs.{IsWhole, HexEnds, no_memory, read_failed, too_long, write_failed, reported, AcceptsHex}
+use Rattle.amqp_program.specs.Runs.{IsValidHex, IsDoneOrNoMemory, RunsHex}
+use Rattle.amqp_program.proofs.HexPlaces.{text_place}
 use Rattle.amqp_program.proofs.Statuses.{answer_status_zero, report_at-status, report_status_not_two}
 
 -- ---- what status 0 says
@@ -41,11 +48,13 @@ answered_sequence level m bytes fits e =
     let none = nothing_left (place level (Some m) bytes) (place_verdict level m bytes) (splits_of level (Some m) bytes).stop e in
     (front level (Some m) bytes, sequence_of_all level (Some m) bytes fits none)
 
-report_at-text : (level : Level) (bytes : List ℕ) → answer_to level max_payload bytes ≡ Ok tt → (report_at level bytes).text ≡ encode_lower (canon_of level max_payload bytes) ++ 10 ∷ []
+report_at-text : (level : Level) (bytes : List ℕ) → answer_to level max_payload bytes ≡ Ok tt
+    → (report_at level bytes).text ≡ encode_lower (canon_of level max_payload bytes) ++ 10 ∷ []
 unfolding report_at
 report_at-text level bytes e = ap (λ r. (printed (encode_lower (canon_of level max_payload bytes) ++ 10 ∷ []) r).text) e
 
-accepted : (level : Level) (text written : List ℕ) (b : Supply) (d : Result (List ℕ) FromHexError) → decode_of (strip_last 10 text) ≡ d → IsWhole text b → (report_of level d).status ≡ 0 → written ≡ (report_of level d).text → AcceptsHex level text written b
+accepted : (level : Level) (text written : List ℕ) (b : Supply) (d : Result (List ℕ) FromHexError) → decode_of (strip_last 10 text) ≡ d
+    → IsWhole text b → (report_of level d).status ≡ 0 → written ≡ (report_of level d).text → AcceptsHex level text written b
 accepted level text written b (Ok bytes) e whole zero w =
     let ok : answer_to level max_payload bytes ≡ Ok tt = answer_status_zero (answer_to level max_payload bytes) (sym (report_at-status level bytes) ∙ zero) in
     record {
@@ -57,7 +66,8 @@ accepted level text written b (Ok bytes) e whole zero w =
     }
 accepted level text written b (Err error) e whole zero w = absurd (omega arith)
 
-accepts : (level : Level) (text written : List ℕ) (a b : Supply) (k l : Store) (status : ℕ) → HexEnds level text written a b k l status → status ≡ 0 → AcceptsHex level text written b
+accepts : (level : Level) (text written : List ℕ) (a b : Supply) (k l : Store) (status : ℕ)
+    → HexEnds level text written a b k l status → status ≡ 0 → AcceptsHex level text written b
 accepts level text written a b k l status (no_memory s w few) zero = absurd (omega arith)
 accepts level text written a b k l status (read_failed s w few r) zero = absurd (omega arith)
 accepts level text written a b k l status (too_long s w h) zero = absurd (omega arith)
@@ -66,7 +76,8 @@ accepts level text written a b k l status (reported s whole w) zero = accepted l
 
 -- ---- valid input ends with 0, unless memory runs out
 
-completes : (level : Level) (text written input : List ℕ) (a b : Supply) (k l : Store) (status : ℕ) → HexEnds level text written a b k l status → Some input ≡ prepended text b.left → IsValidHex level input → NoFaults a b k l → IsDoneOrNoMemory status
+completes : (level : Level) (text written input : List ℕ) (a b : Supply) (k l : Store) (status : ℕ) → HexEnds level text written a b k l status
+    → Some input ≡ prepended text b.left → IsValidHex level input → NoFaults a b k l → IsDoneOrNoMemory status
 completes level text written input a b k l status (no_memory s w few) e v f = inr s
 completes level text written input a b k l status (read_failed s w few r) e v f = absurd (omega (arith, r f.source_below, f.source))
 completes level text written input a b k l status (too_long s w h) e v f =
@@ -84,12 +95,14 @@ not_two level text written a b k l status (too_long s w h) e = absurd (omega ari
 not_two level text written a b k l status (write_failed s whole r p) h = absurd (omega arith)
 not_two level text written a b k l status (reported s whole w) h = report_status_not_two level (decode_of (strip_last 10 text)) (sym s ∙ h)
 
+-- a run of `hex` or `tidy` does not end with 2
 pub hex_not_two : (level : Level) (a b : Supply) (k l : Store) (status : ℕ) → RunsHex level a b k l status → status ≢ 2
 hex_not_two level a b k l status run = not_two level run.text run.written a b k l status run.ends
 
 -- ---- the ways in which a run ends
 
-runs : (level : Level) (a b : Supply) (k l : Store) (text written : List ℕ) (reads status : ℕ) → Takes a b text reads → reads ≤ longest + 1 → Gains k l written → HexEnds level text written a b k l status → RunsHex level a b k l status
+unfoldable runs : (level : Level) (a b : Supply) (k l : Store) (text written : List ℕ) (reads status : ℕ) → Takes a b text reads
+    → reads ≤ longest + 1 → Gains k l written → HexEnds level text written a b k l status → RunsHex level a b k l status
 runs level a b k l text written reads status takes at_most gains ends = record {
   text = text;
   reads = reads;
@@ -102,34 +115,112 @@ runs level a b k l text written reads status takes at_most gains ends = record {
   complete = λ input e v f. completes level text written input a b k l status ends (sym e ∙ takes.bytes) v f;
 }
 
-pub hex_read_fault : (level : Level) (a b : Supply) (k : Store) → ReadsText a b (Err errors.ReadFault) → RunsHex level a b k k 4
-hex_read_fault level a b k r = runs level a b k k r.taken [] r.reads 4 r.takes r.at_most (Gains-none k) (read_failed refl refl r.ends.0 r.ends.1)
+-- a run that ends with 0, 3 or 5 has no place
+unplaced : (level : Level) (text : List ℕ) (status : ℕ) → status < 4 → IsHexPlace level text status None
+unplaced level text status below = record {
+  no_place = λ h. refl;
+  read_failed = λ h. absurd (omega arith);
+  write_failed = λ h. absurd (omega arith);
+  too_long = λ h. absurd (omega arith);
+  not_hex = λ h. absurd (omega arith);
+  decoded = λ h. absurd (omega arith);
+}
 
-pub hex_too_long : (level : Level) (a b : Supply) (k : Store) → ReadsText a b (Err errors.TooLong) → RunsHex level a b k k 6
-hex_too_long level a b k r = runs level a b k k r.taken [] r.reads 6 r.takes r.at_most (Gains-none k) (too_long refl refl r.ends)
+after_failed_write : (level : Level) (text : List ℕ) → IsHexPlace level text 5 None
+after_failed_write level text = record {
+  no_place = λ h. absurd (omega arith);
+  read_failed = λ h. absurd (omega arith);
+  write_failed = λ h. refl;
+  too_long = λ h. absurd (omega arith);
+  not_hex = λ h. absurd (omega arith);
+  decoded = λ h. absurd (omega arith);
+}
 
-pub hex_no_memory : (level : Level) (a b : Supply) (k : Store) → ReadsText a b (Err errors.NoMemory) → RunsHex level a b k k 3
-hex_no_memory level a b k r = runs level a b k k r.taken [] r.reads 3 r.takes r.at_most (Gains-none k) (no_memory refl refl r.ends)
+after_failed_read : (level : Level) (text : List ℕ) (after : ℕ) → after ≡ length text → IsHexPlace level text 4 (Some (places.Text after))
+after_failed_read level text after e = record {
+  no_place = λ h. absurd (omega arith);
+  read_failed = λ h. ap (λ n. Some (places.Text n)) e;
+  write_failed = λ h. absurd (omega arith);
+  too_long = λ h. absurd (omega arith);
+  not_hex = λ h. absurd (omega arith);
+  decoded = λ h. absurd (omega arith);
+}
+
+after_longest : (level : Level) (text : List ℕ) → IsHexPlace level text 6 (Some (places.Text longest))
+after_longest level text = record {
+  no_place = λ h. absurd (omega arith);
+  read_failed = λ h. absurd (omega arith);
+  write_failed = λ h. absurd (omega arith);
+  too_long = λ h. refl;
+  not_hex = λ h. absurd (omega arith);
+  decoded = λ h. absurd (omega arith);
+}
+
+-- a run that ended with this status, without a place
+abbrev pub unplaced_as : ℕ → Outcome
+unplaced_as status = record { status = status; place = None }
+
+-- a read failed
+pub hex_read_fault : (level : Level) (a b : Supply) (k : Store) (after : ℕ) (outcome : Outcome)
+    → outcome ≡ text_place 4 after → ReadsText a b (Err (errors.ReadFault after)) → ReportsHex level a b k k outcome
+unfolding runs
+hex_read_fault level a b k after outcome e r = subst (ReportsHex level a b k k) (sym e) (record {
+  run = runs level a b k k r.taken [] r.reads 4 r.takes r.at_most (Gains-none k) (read_failed refl refl r.ends.1 r.ends.2);
+  place = after_failed_read level _ after r.ends.0;
+})
+
+-- the text is too long
+pub hex_too_long : (level : Level) (a b : Supply) (k : Store) → ReadsText a b (Err errors.TooLong)
+    → ReportsHex level a b k k (text_place 6 longest)
+hex_too_long level a b k r =
+    record { run = runs level a b k k r.taken [] r.reads 6 r.takes r.at_most (Gains-none k) (too_long refl refl r.ends); place = after_longest level _ }
+
+-- memory ran out as the text was read
+pub hex_no_memory : (level : Level) (a b : Supply) (k : Store) → ReadsText a b (Err errors.NoMemory) → ReportsHex level a b k k (unplaced_as 3)
+hex_no_memory level a b k r =
+    record { run = runs level a b k k r.taken [] r.reads 3 r.takes r.at_most (Gains-none k) (no_memory refl refl r.ends); place = unplaced level _ 3 (lit< tt) }
 
 -- memory ran out on the way to the report
-pub hex_no_report : (level : Level) (a b : Supply) (k : Store) (text : List ℕ) → ReadsText a b (Ok text) → RunsHex level a b k k 3
-hex_no_report level a b k text r = runs level a b k k r.taken [] r.reads 3 r.takes r.at_most (Gains-none k) (no_memory refl refl r.ends.1)
+pub hex_no_report : (level : Level) (a b : Supply) (k : Store) (text : List ℕ) (outcome : Outcome)
+    → outcome ≡ unplaced_as 3 → ReadsText a b (Ok text) → ReportsHex level a b k k outcome
+hex_no_report level a b k text outcome e r = subst (ReportsHex level a b k k) (sym e) (record {
+  run = runs level a b k k r.taken [] r.reads 3 r.takes r.at_most (Gains-none k) (no_memory refl refl r.ends.1);
+  place = unplaced level _ 3 (lit< tt);
+})
 
 abbrev pub printed_as : List ℕ → ℕ → Printed
 printed_as text status = record { text = text; status = status }
 
-pub hex_done : (level : Level) (a b : Supply) (k l : Store) (text out : List ℕ) (status : ℕ) (u : Unit {0}) → ReadsText a b (Ok text) → printed_as out status ≡ report level text → WritesAll k l out (Ok u) → RunsHex level a b k l status
-hex_done level a b k l text out status u r e w =
-    let all : printed_as out status ≡ report level r.taken = e ∙ ap (report level) r.ends.0 in
-    runs level a b k l r.taken w.piece r.reads status r.takes r.at_most w.gains (reported (ap (λ p. p.status) all) (record { few = r.ends.1; end = r.ends.2 }) (w.ok ∙ ap (λ p. p.text) all))
+-- the report was written whole
+pub hex_done : (level : Level) (a b : Supply) (k l : Store) (text out : List ℕ) (outcome : Outcome) (u : Unit {0})
+    → ReadsText a b (Ok text) → printed_as out outcome.status ≡ report level text
+    → IsHexPlace level text outcome.status outcome.place → WritesAll k l out (Ok u) → ReportsHex level a b k l outcome
+unfolding runs
+hex_done level a b k l text out outcome u r e place w =
+    let all : printed_as out outcome.status ≡ report level r.taken = e ∙ ap (report level) r.ends.0 in
+    record {
+      run =
+          runs level a b k l r.taken w.piece r.reads outcome.status r.takes r.at_most w.gains
+          (reported (ap (λ p. p.status) all) (record { few = r.ends.1; end = r.ends.2 }) (w.ok ∙ ap (λ p. p.text) all));
+      place = subst (λ (xs : List ℕ). IsHexPlace level xs outcome.status outcome.place) r.ends.0 place;
+    }
 
-pub hex_write_fault : (level : Level) (a b : Supply) (k l : Store) (text out : List ℕ) (status : ℕ) (f : SinkFault) → ReadsText a b (Ok text) → printed_as out status ≡ report level text → WritesAll k l out (Err f) → RunsHex level a b k l 5
-hex_write_fault level a b k l text out status f r e w =
+-- the report was not written whole
+pub hex_write_fault : (level : Level) (a b : Supply) (k l : Store) (text out : List ℕ) (status : ℕ) (outcome : Outcome) (f : SinkFault)
+    → outcome ≡ unplaced_as 5 → ReadsText a b (Ok text) → printed_as out status ≡ report level text
+    → WritesAll k l out (Err f) → ReportsHex level a b k l outcome
+hex_write_fault level a b k l text out status outcome f is r e w =
     let all : printed_as out status ≡ report level r.taken = e ∙ ap (report level) r.ends.0 in
-    runs level a b k l r.taken w.piece r.reads 5 r.takes r.at_most w.gains (write_failed refl (record { few = r.ends.1; end = r.ends.2 }) w.err (w.prefix.0, w.prefix.1 ∙ ap (λ p. p.text) all))
+    subst (ReportsHex level a b k l) (sym is) (record {
+      run =
+          runs level a b k l r.taken w.piece r.reads 5 r.takes r.at_most w.gains
+          (write_failed refl (record { few = r.ends.1; end = r.ends.2 }) w.err (w.prefix.0, w.prefix.1 ∙ ap (λ p. p.text) all));
+      place = after_failed_write level _;
+    })
 
 -- what a sink that held nothing took is what was written
-pub answered : (level : Level) (m n : ℕ) (bytes : List ℕ) (old new : KeptBytes) (r : Result (Unit {0}) StreamError) → m ≡ n → old ≡ record { bytes = []; faults = 0 } → AnswersExactly level m bytes (store_of old) (store_of new) r → IsAnswerTo canon_frames level n bytes new.bytes r
+pub answered : (level : Level) (m n : ℕ) (bytes : List ℕ) (old new : KeptBytes) (r : Result (Unit {0}) StreamError) → m ≡ n
+    → old ≡ record { bytes = []; faults = 0 } → AnswersExactly level m bytes (store_of old) (store_of new) r → IsAnswerTo canon_frames level n bytes new.bytes r
 answered level m n bytes old new r limit empty h =
     let none : old.bytes ≡ [] = ap (λ s. s.bytes) empty in
     let all : Bytes new.bytes ≡ Bytes (old.bytes ++ h.written) = h.gains.bytes in

@@ -1,5 +1,6 @@
 -- The lemmas of amqp_program.
 pub mod TextReading
+pub mod HexPlaces
 pub mod HexRuns
 pub mod HexApart
 pub mod Ran
@@ -11,5 +12,9 @@ pub mod Selections
 pub mod SelectRuns
 pub mod Statuses
 pub mod Owners
+pub mod Forms
+pub mod ArgumentFaults
+pub mod RuleParts
+pub mod Reporting
 pub mod Numerals
 pub mod MakeRuns

@@ -23,7 +23,8 @@ IsNumbered (commands.Recut n) = Unit {0}
 IsNumbered command = ⊥
 
 -- a single word asks for another command
-other_word : (named : Bool) (command wanted : Command) (rest : Option Command) → command ≢ wanted → rest ≢ Some wanted → (if named then Some command else rest) ≢ Some wanted
+other_word : (named : Bool) (command wanted : Command) (rest : Option Command) → command ≢ wanted
+    → rest ≢ Some wanted → (if named then Some command else rest) ≢ Some wanted
 other_word true command wanted rest other none e = other (let same : Some command ≡ Some wanted = e in cc)
 other_word false command wanted rest other none e = none e
 
@@ -65,16 +66,21 @@ recut_named false true frames (Some k) n e = let found = sized k n (k == 0) refl
 recut_named false true frames None n e = absurd cc
 recut_named false false frames size n e = absurd cc
 
+-- `make` is asked for at most as many frames as may be made
 pub make_few : (words : List (List ℕ)) (n : ℕ) → command_of words ≡ Some (commands.Make n) → n ≤ most_frames
 make_few [] n e = absurd cc
 make_few (word ∷ []) n e = absurd (one_word word (commands.Make n) tt e)
-make_few (word ∷ number ∷ []) n e = few most_frames number n (make_named (bytes_eq word (codes "make")) (bytes_eq word (codes "recut")) (number_named most_frames number) (number_named max_payload number) n e)
+make_few (word ∷ number ∷ []) n e =
+    few most_frames number n
+    (make_named (bytes_eq word (codes "make")) (bytes_eq word (codes "recut")) (number_named most_frames number) (number_named max_payload number) n e)
 make_few (word ∷ number ∷ other ∷ more) n e = absurd cc
 
+-- `recut` is asked for a size from 1 to the limit on payloads
 pub recut_fits : (words : List (List ℕ)) (n : ℕ) → command_of words ≡ Some (commands.Recut n) → (1 ≤ n) × (n ≤ max_payload)
 recut_fits [] n e = absurd cc
 recut_fits (word ∷ []) n e = absurd (one_word word (commands.Recut n) tt e)
 recut_fits (word ∷ number ∷ []) n e =
-    let found = recut_named (bytes_eq word (codes "make")) (bytes_eq word (codes "recut")) (number_named most_frames number) (number_named max_payload number) n e in
+    let found =
+    recut_named (bytes_eq word (codes "make")) (bytes_eq word (codes "recut")) (number_named most_frames number) (number_named max_payload number) n e in
     (found.1, few max_payload number n found.0)
 recut_fits (word ∷ number ∷ other ∷ more) n e = absurd cc

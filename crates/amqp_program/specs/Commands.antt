@@ -28,18 +28,26 @@ abbrev pub recut_by : Option ℕ → Option Command
 recut_by None = None
 recut_by (Some size) = if size == 0 then None else Some (commands.Recut size)
 
--- the command of two words: `make` and a number of frames, or `recut` and a size from 1 to the limit on payloads
+-- the command of two words: `make` and a number of frames, or `recut` and a size from 1 to the
+-- limit on payloads
 abbrev pub command_with : List ℕ → List ℕ → Option Command
 command_with word number =
     if bytes_eq word (codes "make") then option_map commands.Make (number_named most_frames number)
-    else (if bytes_eq word (codes "recut") then recut_by (number_named max_payload number) else None)
+    else (if bytes_eq word (codes "recut") then recut_by (number_named max_payload number)
+    else None)
 
--- the command that the words after the program's name ask for, but for those by rules: each form is one word, or two
+-- the command that the words after the program's name ask for, but for those by rules: each form is
+-- one word, or two
 abbrev pub command_of : List (List ℕ) → Option Command
 command_of [] = None
 command_of (word ∷ []) = command_named word
 command_of (word ∷ number ∷ []) = command_with word number
 command_of (word ∷ number ∷ other ∷ more) = None
+
+-- the command that the first two words ask for, whatever follows them
+abbrev pub command_in_front : List (List ℕ) → Option Command
+command_in_front (word ∷ number ∷ more) = command_with word number
+command_in_front words = None
 
 -- the words after the first, where that is this one
 abbrev pub after_word : List ℕ → List (List ℕ) → Option (List (List ℕ))

@@ -18,10 +18,17 @@ bytes_written n = length (canon_of plain max_payload (made n))
 
 -- a line with the three numbers
 abbrev pub make_text : ℕ → List ℕ
-make_text n = codes "frames " ++ (decimal n ++ (codes " in " ++ (decimal (bytes_read n) ++ (codes " out " ++ (decimal (bytes_written n) ++ 10 ∷ [])))))
+make_text n =
+    codes "frames "
+    ++ (decimal n
+    ++ (codes " in "
+    ++ (decimal (bytes_read n) ++ (codes " out " ++ (decimal (bytes_written n) ++ 10 ∷ [])))))
 
--- The text was printed, or memory ran out before it, or a part of its front was printed and then the sink failed. k is the sink before the run and l after it.
+-- The text was printed, or memory ran out before it, or a part of its front was printed and then
+-- the sink failed. k is the sink before the run and l after it.
 pub record RunsMake (n : ℕ) (k l : Store) (status : ℕ) : Type 0 where
   pub written : List ℕ
   pub gains : Gains k l written
-  pub ends : ((status ≡ 0) × (written ≡ make_text n)) ⊎ (((status ≡ 3) × (written ≡ [])) ⊎ ((status ≡ 5) × IsPrefix written (make_text n) × Rises k.faults l.faults))
+  pub ends : ((status ≡ 0) × (written ≡ make_text n))
+      ⊎ (((status ≡ 3) × (written ≡ []))
+      ⊎ ((status ≡ 5) × IsPrefix written (make_text n) × Rises k.faults l.faults))

@@ -21,22 +21,30 @@ pub record Printed : Type 0 where
 
 -- a report as contracts see it, its text as a list of bytes
 abbrev pub printed_of : Report → Printed
-printed_of r = record { text = r.text.items; status = r.status }
+printed_of r = record { text = r.text.items; status = r.outcome.status }
 
 -- a line with the front in hex, and after a fault a line with its name
 abbrev pub printed : List ℕ → Result (Unit {0}) StreamError → Printed
 printed front (Ok done) = record { text = front; status = 0 }
-printed front (Err error) = record { text = front ++ (stream_error_name error ++ 10 ∷ []); status = stream_error_status error }
+printed front (Err error) =
+    record {
+      text = front ++ (stream_error_name error ++ 10 ∷ []);
+      status = stream_error_status error;
+    }
 
--- The canonical bytes of the frames at the front in lower-case hex. Where that is not all, the place's fault is named, or that the input is cut short.
+-- The canonical bytes of the frames at the front in lower-case hex. Where that is not all, the
+-- place's fault is named, or that the input is cut short.
 unfoldable pub report_at : Level → List ℕ → Printed
-report_at level bytes = printed (encode_lower (canon_of level max_payload bytes) ++ 10 ∷ []) (answer_to level max_payload bytes)
+report_at level bytes =
+    printed (encode_lower (canon_of level max_payload bytes) ++ 10 ∷ [])
+    (answer_to level max_payload bytes)
 
 -- the report on decoded bytes; of a text that is not hex, the line BadHex with status 7
 abbrev pub report_of : Level → Result (List ℕ) FromHexError → Printed
 report_of level (Ok bytes) = report_at level bytes
 report_of level (Err error) = record { text = codes "BadHex" ++ 10 ∷ []; status = 7 }
 
--- Hex digits of either case, an even number of them, with at most one newline after them, which is dropped.
+-- Hex digits of either case, an even number of them, with at most one newline after them,
+-- which is dropped.
 abbrev pub report : Level → List ℕ → Printed
 report level text = report_of level (decode_of (strip_last 10 text))

@@ -9,11 +9,12 @@ use Rattle.amqp_program.specs.declared.text.InputError.TheVariants as errors
 abbrev pub longest : ℕ
 longest = 16777216
 
--- When each result of reading a text comes, by the bytes taken: Ok with all of them at the end of input, TooLong where they are more than the longest
--- text.
+-- When each result of reading a text comes, by the bytes taken: Ok with all of them at the end of
+-- input, TooLong where they are more than the longest text.
 abbrev pub TextEnds : List ℕ → Supply → Supply → Result (List ℕ) InputError → Type 0
 TextEnds taken old new (Ok text) = (text ≡ taken) × (length taken ≤ longest) × IsEmpty new.left
-TextEnds taken old new (Err errors.ReadFault) = (length taken ≤ longest) × Rises old.faults new.faults
+TextEnds taken old new (Err (errors.ReadFault after)) =
+    (after ≡ length taken) × (length taken ≤ longest) × Rises old.faults new.faults
 TextEnds taken old new (Err errors.TooLong) = longest < length taken
 TextEnds taken old new (Err errors.NoMemory) = length taken ≤ longest
 

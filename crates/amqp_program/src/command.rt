@@ -1,14 +1,17 @@
 //! The words after the program's name, and what they ask for.
 
-ghost use Rattle.std.specs.Prelude.{◌≡◌};
+ghost use Rattle.std.specs.Prelude.{◌≡◌, codes, None, is_some};
 ghost use Rattle.std.specs.Option.{option_map};
 ghost use Rattle.amqp_select.specs.Refusals.{texts_of};
 ghost use Rattle.amqp_types.specs.Numerals.{number_named};
 ghost use Rattle.amqp_stream.specs.Made.{most_frames};
 ghost use Rattle.amqp_program.specs.declared.command.Command.TheVariants as commands;
-ghost use Rattle.amqp_program.specs.Commands.{after_word, command_named, command_of, command_with, recut_by};
+ghost use Rattle.amqp_program.specs.Arguments.{IsArgumentFault};
+ghost use Rattle.amqp_program.specs.Commands.{after_word, command_in_front, command_named};
+ghost use Rattle.amqp_program.specs.Commands.{command_of, command_with, recut_by};
 ghost use Rattle.amqp_program.specs.Reports.{max_payload};
 
+use crate::outcome::{ArgumentFault, Expected, whole};
 use crate::report::MAX_PAYLOAD;
 use amqp_types::parse_decimal;
 
@@ -115,10 +118,42 @@ pub fn parse_command(words: &[String]) -> Option<Command>
 
 /// The words after the first, where that is this one.
 pub fn words_after<'a>(first: &str, words: &'a [String]) -> Option<&'a [String]>
-    ensures { option_map (λ rules. texts_of rules.now) result ≡ after_word first.now (texts_of words.now) }
+    ensures { option_map (λ rules. texts_of rules.now) result
+        ≡ after_word first.now (texts_of words.now) }
 {
     match words {
         [word, more @ ..] if word.as_str() == first => Some(more),
         _ => None,
+    }
+}
+
+/// Whether the first two words are a command.
+fn begins_with_two(words: &[String]) -> bool
+    ensures { result ≡ is_some (command_in_front (texts_of words.now)) }
+{
+    match words {
+        [word, number, ..] => parse_words(word.as_str(), number.as_str()).is_some(),
+        _ => false,
+    }
+}
+
+/// The first of these words that is at fault, where they are no command and do not begin as a form by rules.
+pub fn command_fault(words: &[String]) -> ArgumentFault
+    requires no_command { command_of (texts_of words.now) ≡ None }
+    requires no_selection { after_word (codes "select") (texts_of words.now) ≡ None }
+    requires no_filtering { after_word (codes "filter") (texts_of words.now) ≡ None }
+    ensures { IsArgumentFault (texts_of words.now) result }
+{
+    if begins_with_two(words) {
+        return whole(2, Expected::Nothing);
+    }
+    let Some(first) = words.first() else {
+        return whole(0, Expected::Command);
+    };
+    match first.as_str() {
+        "make" => whole(1, Expected::Frames),
+        "recut" => whole(1, Expected::Size),
+        word if parse_word(word).is_some() => whole(1, Expected::Nothing),
+        _ => whole(0, Expected::Command),
     }
 }

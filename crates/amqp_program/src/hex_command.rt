@@ -3,10 +3,11 @@
 ghost use Rattle.std.specs.Prelude.{◌≡◌, ◌≤◌};
 ghost use Rattle.amqp_types.specs.Levels.{level_of};
 ghost use Rattle.amqp_stream.specs.Writing.{AsksTidy};
-ghost use Rattle.amqp_program.specs.Runs.{RunsHex};
+ghost use Rattle.amqp_program.specs.Reporting.{ReportsHex};
 
+use crate::outcome::{Outcome, in_text, placeless};
 use crate::report::report_of;
-use crate::text::{InputError, read_text};
+use crate::text::{InputError, LONGEST_TEXT, read_text};
 use amqp_stream::{Sink, Source, write_all};
 use amqp_types::Profile;
 use std::alloc::Global;
@@ -18,21 +19,22 @@ pub fn run_hex<S: Source, K: Sink>(
     profile: Profile,
     source: &mut S,
     sink: &mut K,
-) -> u8
-    ensures report { RunsHex (level_of profile) (S.supply source.old) (S.supply source.new) (K.store sink.old) (K.store sink.new) result }
-    ensures few { 23 ≤ result → (result ≡ 23) × AsksTidy (level_of profile) }
+) -> Outcome
+    ensures report { ReportsHex (level_of profile) (S.supply source.old)
+        (S.supply source.new) (K.store sink.old) (K.store sink.new) result }
+    ensures few { 23 ≤ result.status → (result.status ≡ 23) × AsksTidy (level_of profile) }
 {
     let text = match read_text(alloc, source) {
         Ok(text) => text,
-        Err(InputError::ReadFault) => return 4,
-        Err(InputError::TooLong) => return 6,
-        Err(InputError::NoMemory) => return 3,
+        Err(InputError::ReadFault { after }) => return in_text(4, after),
+        Err(InputError::TooLong) => return in_text(6, LONGEST_TEXT),
+        Err(InputError::NoMemory) => return placeless(3),
     };
     let Ok(report) = report_of(alloc, profile, text.as_slice()) else {
-        return 3;
+        return placeless(3);
     };
     match write_all(sink, report.text.as_slice()) {
-        Ok(()) => report.status,
-        Err(_) => 5,
+        Ok(()) => report.outcome,
+        Err(_) => placeless(5),
     }
 }

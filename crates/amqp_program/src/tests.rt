@@ -7,16 +7,18 @@ mod line_rows;
 mod word_rows;
 
 use super::*;
-use amqp_stream::{PieceSource, ScriptSink};
+use crate::run::run;
+use amqp_stream::{CountSink, PieceSource, ScriptSink};
 use std::alloc::Global;
 use std::test::Fail;
 
-/// A run: its words, the parts of its input, the parts of what is written, and the status.
+/// A run: its words, the parts of its input, the parts of what is written, the status, and how the line about it begins.
 type Row = (
     &'static [&'static str],
     &'static [&'static [u8]],
     &'static [&'static [u8]],
     u8,
+    &'static str,
 );
 
 /// A run: its words, its input, the sizes of the pieces that are read and written, and which reads and writes fail.
@@ -58,7 +60,21 @@ fn ended(alloc: Global, script: &Script<'_>, wanted: &[u8]) -> Option<(u8, usize
     Some((status, written.len(), wanted.starts_with(written)))
 }
 
-/// Whether a run over pieces of these sizes ends as it should.
+/// Whether what is said of a run over pieces of these sizes begins so.
+fn says_so(alloc: Global, script: &Script<'_>, line: &str) -> Option<bool> {
+    let words = words_in(alloc, script.words)?;
+    let mut source = PieceSource::new(script.input, script.pieces, &[]);
+    let mut sink = CountSink::new();
+    let outcome = run_reported(alloc, words.as_slice(), &mut source, &mut sink);
+    let message = Message {
+        outcome,
+        words: words.as_slice(),
+    };
+    let said = format!(in alloc; "{message}").ok()?;
+    Some(said.as_str().starts_with(line))
+}
+
+/// Whether a run over pieces of these sizes ends as it should, and what is said of it is right.
 fn ends_so(alloc: Global, row: &Row, pieces: &[usize]) -> Option<bool> {
     let input = joined(alloc, row.1)?;
     let wanted = joined(alloc, row.2)?;
@@ -70,7 +86,7 @@ fn ends_so(alloc: Global, row: &Row, pieces: &[usize]) -> Option<bool> {
         failing_writes: &[],
     };
     let found = ended(alloc, &script, wanted.as_slice())?;
-    Some(found == (row.3, wanted.len(), true))
+    Some(found == (row.3, wanted.len(), true) && says_so(alloc, &script, row.4)?)
 }
 
 #[test]

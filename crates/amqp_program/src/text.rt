@@ -10,7 +10,10 @@ use std::alloc::Global;
 #[derive(Clone, Copy, Debug, PartialEq, Eq)]
 pub enum InputError {
     /// A read failed.
-    ReadFault,
+    ReadFault {
+        /// How many bytes were taken before it.
+        after: usize,
+    },
 
     /// More than `LONGEST_TEXT` bytes were taken.
     TooLong,
@@ -30,7 +33,7 @@ pub fn read_text<S: Source>(alloc: Global, source: &mut S) -> Result<Vec<u8>, In
     let mut chunk = [0u8; 4096];
     loop {
         match source.read(&mut chunk) {
-            Err(_) => return Err(InputError::ReadFault),
+            Err(_) => return Err(InputError::ReadFault { after: text.len() }),
             Ok(count) => {
                 if count == 0 {
                     return Ok(text);

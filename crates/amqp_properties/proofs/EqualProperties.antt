@@ -63,5 +63,6 @@ all_decide p q = search (both, text_decides, number_decides, table_decides) dept
 all_is : (p q : AMQPProperties) → AreSame p q ↔ (p ≡ q)
 all_is p q = search rules
 
+-- The test of equal properties is true exactly where contracts see the same.
 pub same_properties : (p q : AMQPProperties) → Decides (properties.ghosts.eq p q) (p ≡ q)
 same_properties p q = decides_same (properties.ghosts.eq p q) (all_decide p q) (all_is p q)

@@ -1,12 +1,14 @@
 -- The size of all properties, from those of each: only a table is refused.
-use Rattle.std.proofs.Common.{◌≡◌, ℕ, ◌+◌, ◌||◌, List, [], ◌∷◌, ◌++◌, length, Bool, true, false, Option, Some, None, option_map, Result, Ok, Err, refl, ap, ◌∙◌, arith}
+use Rattle.std.proofs.Common.{◌≡◌, ℕ, ◌+◌, ◌||◌, List, [], ◌∷◌, ◌++◌, length, Bool, true, false, Option, Some, None, option_map, Result}
+use Rattle.std.proofs.Common.{Ok, Err, refl, ap, ◌∙◌, arith}
 use Rattle.std.proofs.lemmas.List.{length-append}
 use Rattle.amqp_types.specs.Numbers.{bytes2, number_bytes}
 use Rattle.amqp_types.specs.Sizes.{measured}
 use Rattle.amqp_types.specs.Slots.{Item, number_item, text_item, entries_item, number_form}
 use Rattle.amqp_types.specs.SlotBytes.{form_bytes}
 use Rattle.amqp_types.specs.Properties.{Property, properties, later_properties}
-use Rattle.amqp_types.specs.PropertyBytes.{mask_of, optional_bytes, set_bytes, properties_bytes, properties_size, is_deep_option, is_long_option, any_deep_option, any_long_option}
+use Rattle.amqp_types.specs.PropertyBytes.{mask_of, optional_bytes, set_bytes, properties_bytes, properties_size, is_deep_option, is_long_option}
+use Rattle.amqp_types.specs.PropertyBytes.{any_deep_option, any_long_option}
 use Rattle.amqp_types.specs.declared.errors.GenError.{GenError}
 use Rattle.amqp_types.proofs.Numbers.{number_bytes-length}
 use Rattle.amqp_properties.specs.Options.{options}
@@ -25,6 +27,7 @@ set_length [] options = refl
 set_length (p ∷ ps) [] = refl
 set_length (p ∷ ps) (option ∷ options) = omega (arith, length-append (optional_bytes p.form option) (set_bytes ps options), set_length ps options)
 
+-- Properties are encoded in two bytes for the mask, and as many as those that are set take.
 pub properties_length : (options : List (Option Item)) → length (properties_bytes options) ≡ 2 + set_size properties options
 unfolding properties_bytes form_bytes
 properties_length options =
@@ -102,16 +105,22 @@ refused_alike true long headers all e h = h
 refused_alike false true headers all e h = h
 refused_alike false false headers all e h = absurd cc
 
-counted : (deep long : Bool) (headers all : List ℕ) (rest n : ℕ) → length all ≡ rest + length headers → Ok n ≡ measured deep long headers → Ok (rest + n) ≡ measured deep long all
+counted : (deep long : Bool) (headers all : List ℕ) (rest n : ℕ) → length all ≡ rest + length headers
+    → Ok n ≡ measured deep long headers → Ok (rest + n) ≡ measured deep long all
 counted true long headers all rest n sum h = absurd cc
 counted false true headers all rest n sum h = absurd cc
 counted false false headers all rest n sum h = let e : n ≡ length headers = cc in ap Ok (omega (arith, e, sum))
 
-pub size_refused : (p : AMQPProperties) (headers : List ℕ) (e : GenError) → Err e ≡ measured (is_deep_option (option_map entries_item p.headers)) (is_long_option (option_map entries_item p.headers)) headers → Err e ≡ properties_size (options p)
+-- The error of measuring the headers table is the error of measuring all properties.
+pub size_refused : (p : AMQPProperties) (headers : List ℕ) (e : GenError)
+    → Err e ≡ measured (is_deep_option (option_map entries_item p.headers)) (is_long_option (option_map entries_item p.headers)) headers
+    → Err e ≡ properties_size (options p)
 unfolding properties_size
 size_refused p headers e h = rw (only_headers_deep p, only_headers_long p) (refused_alike _ _ headers (properties_bytes (options p)) e h)
 
+-- Where the headers table is measured, the size of all properties is its bytes and those of the rest.
 pub size_counted : (p : AMQPProperties) (headers : List ℕ) (rest n : ℕ) → length (properties_bytes (options p)) ≡ rest + length headers
-    → Ok n ≡ measured (is_deep_option (option_map entries_item p.headers)) (is_long_option (option_map entries_item p.headers)) headers → Ok (rest + n) ≡ properties_size (options p)
+    → Ok n ≡ measured (is_deep_option (option_map entries_item p.headers)) (is_long_option (option_map entries_item p.headers)) headers
+    → Ok (rest + n) ≡ properties_size (options p)
 unfolding properties_size
 size_counted p headers rest n sum h = rw (only_headers_deep p, only_headers_long p) (counted _ _ headers (properties_bytes (options p)) rest n sum h)

@@ -4,8 +4,8 @@ use Rattle.amqp_types.specs.Slots.{Item, number_item, text_item, entries_item}
 use Rattle.amqp_properties.specs.declared.properties.AMQPProperties.{AMQPProperties}
 use Rattle.amqp_properties.specs.declared.parsing.LaterProperties.{LaterProperties}
 
--- The 14 properties in the order of the mask, from bit 15 down to bit 2 (AMQP 0-9-1, section 4.2.6.1),
--- each with its item where it is set.
+-- The 14 properties in the order of the mask, from bit 15 down to bit 2 (AMQP 0-9-1, section
+-- 4.2.6.1), each with its item where it is set.
 abbrev pub options : AMQPProperties → List (Option Item)
 options p =
     option_map text_item p.content_type ∷

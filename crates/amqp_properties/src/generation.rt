@@ -21,7 +21,8 @@ use std::alloc::Global;
 /// The mask, and the properties that are set.
 #[tactic(auto, unfolding(crate::proofs::AllProperties::all_properties))]
 pub(crate) fn properties_fields(p: &AMQPProperties) -> [Field<'_>; 15]
-    ensures lists { Lists result (properties_size (options p.now)) (properties_bytes (options p.now)) }
+    ensures lists { Lists result (properties_size (options p.now))
+        (properties_bytes (options p.now)) }
     ensures held { AreFieldsHeld result → AreOptionsHeld properties (options p.now) }
 {
     [
@@ -67,7 +68,8 @@ pub fn size_properties(value: &AMQPProperties) -> Result<u64, GenError>
 /// Puts the mask and the properties that are set at a place of a slice, and returns the place after
 /// them.
 pub fn put_properties(buf: &mut [u8], at: usize, value: &AMQPProperties) -> usize
-    requires { HasRoom buf.old at (properties_size (options value.now)) (properties_bytes (options value.now)) }
+    requires { HasRoom buf.old at (properties_size (options value.now))
+        (properties_bytes (options value.now)) }
     ensures { Puts buf.old buf.new at (properties_bytes (options value.now)) result }
 {
     put_fields(buf, at, &properties_fields(value))
@@ -79,7 +81,8 @@ pub fn gen_properties(
     out: &mut Vec<u8>,
     props: &AMQPProperties,
 ) -> Result<(), GenError>
-    ensures { Appends out.old.items out.new.items (properties_size (options props.now)) (properties_bytes (options props.now)) result }
+    ensures { Appends out.old.items out.new.items (properties_size (options props.now))
+        (properties_bytes (options props.now)) result }
 {
     gen_fields(out, &properties_fields(props))
 }

@@ -1,8 +1,12 @@
 //! Laws of properties and content headers, each the contract of a function that does nothing.
 
-ghost use Rattle.amqp_types.specs.PropertyLaws.{SetsAreLawful, PropertiesAreLawful, SpelledPropertiesAreBounded, HeldPropertiesAreReadBack};
+ghost use Rattle.amqp_types.specs.PropertyLaws.{SetsAreLawful, PropertiesAreLawful};
+ghost use Rattle.amqp_types.specs.PropertyLaws.{SpelledPropertiesAreBounded};
+ghost use Rattle.amqp_types.specs.PropertyLaws.{HeldPropertiesAreReadBack};
 ghost use Rattle.amqp_types.specs.PayloadFaults.{ContentHeadersFailInside};
-ghost use Rattle.amqp_types.specs.ContentHeaders.{ContentHeadersAreLawful, SpelledContentHeadersAreBounded, HeldContentHeadersAreReadBack};
+ghost use Rattle.amqp_types.specs.ContentHeaders.{ContentHeadersAreLawful};
+ghost use Rattle.amqp_types.specs.ContentHeaders.{SpelledContentHeadersAreBounded};
+ghost use Rattle.amqp_types.specs.ContentHeaders.{HeldContentHeadersAreReadBack};
 ghost use Rattle.amqp_types.specs.Tidiness.{TidyPropertiesAreDecided, TidyContentHeadersAreDecided};
 
 /// The laws of lists of properties that give one item each, whatever the mask.

@@ -4,7 +4,8 @@ ghost use Rattle.std.specs.Prelude.{◌≡◌, ◌≤◌, ◌<◌, length, IfOk}
 ghost use Rattle.std.specs.Option.{option_map};
 ghost use Rattle.amqp_types.specs.Numbers.{bytes1, bytes8};
 ghost use Rattle.amqp_types.specs.Flags.{flag_at};
-ghost use Rattle.amqp_types.specs.Slots.{Item, number_item, text_item, entries_item, number_form, short_string_form, table_form};
+ghost use Rattle.amqp_types.specs.Slots.{Item, number_item, text_item, entries_item, number_form};
+ghost use Rattle.amqp_types.specs.Slots.{short_string_form, table_form};
 ghost use Rattle.amqp_types.specs.SlotJudging.{Steps};
 ghost use Rattle.amqp_types.specs.PropertyJudging.{judge_optional};
 ghost use Rattle.amqp_types.specs.PropertyBytes.{worth_of};
@@ -30,7 +31,8 @@ pub fn read_short_string(
     alloc: Global,
     present: bool,
 ) -> Result<Option<ShortString>, ParserError>
-    ensures step { Steps (option_map text_item) result slots.old.rest.now slots.new.rest.now (judge_optional present short_string_form) }
+    ensures step { Steps (option_map text_item) result slots.old.rest.now slots.new.rest.now
+        (judge_optional present short_string_form) }
     ensures left { length slots.new.rest.now ≤ length slots.old.rest.now }
 {
     if present {
@@ -47,7 +49,8 @@ pub fn read_table(
     alloc: Global,
     present: bool,
 ) -> Result<Option<FieldTable>, ParserError>
-    ensures step { Steps (option_map entries_item) result slots.old.rest.now slots.new.rest.now (judge_optional present table_form) }
+    ensures step { Steps (option_map entries_item) result slots.old.rest.now
+        slots.new.rest.now (judge_optional present table_form) }
     ensures left { length slots.new.rest.now ≤ length slots.old.rest.now }
 {
     if present {
@@ -63,7 +66,8 @@ pub fn read_short_short_uint(
     slots: &mut SlotReader<'_>,
     present: bool,
 ) -> Result<Option<ShortShortUInt>, ParserError>
-    ensures step { Steps (option_map number_item) result slots.old.rest.now slots.new.rest.now (judge_optional present (number_form bytes1)) }
+    ensures step { Steps (option_map number_item) result slots.old.rest.now slots.new.rest.now
+        (judge_optional present (number_form bytes1)) }
     ensures left { length slots.new.rest.now ≤ length slots.old.rest.now }
 {
     if present {
@@ -79,7 +83,8 @@ pub fn read_long_long_uint(
     slots: &mut SlotReader<'_>,
     present: bool,
 ) -> Result<Option<LongLongUInt>, ParserError>
-    ensures step { Steps (option_map number_item) result slots.old.rest.now slots.new.rest.now (judge_optional present (number_form bytes8)) }
+    ensures step { Steps (option_map number_item) result slots.old.rest.now slots.new.rest.now
+        (judge_optional present (number_form bytes8)) }
     ensures left { length slots.new.rest.now ≤ length slots.old.rest.now }
 {
     if present {

@@ -3,7 +3,8 @@
 
 ghost use Rattle.std.specs.Option.{option_map};
 ghost use Rattle.amqp_types.specs.Numbers.{bytes1, bytes8};
-ghost use Rattle.amqp_types.specs.Slots.{number_item, text_item, entries_item, number_form, short_string_form, table_form};
+ghost use Rattle.amqp_types.specs.Slots.{number_item, text_item, entries_item, number_form};
+ghost use Rattle.amqp_types.specs.Slots.{short_string_form, table_form};
 ghost use Rattle.amqp_properties.specs.OptionalFields.{IsOptionalField};
 
 use amqp_values::{Field, FieldTable, LongLongUInt, ShortShortUInt, ShortString};

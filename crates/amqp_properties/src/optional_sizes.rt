@@ -5,7 +5,8 @@ ghost use Rattle.std.specs.Prelude.{◌≡◌, ◌≤◌, ◌<◌, ◌^◌, leng
 ghost use Rattle.std.specs.Option.{option_map};
 ghost use Rattle.amqp_types.specs.Numbers.{bytes1, bytes8};
 ghost use Rattle.amqp_types.specs.Sizes.{measured};
-ghost use Rattle.amqp_types.specs.Slots.{number_item, text_item, entries_item, number_form, short_string_form, table_form};
+ghost use Rattle.amqp_types.specs.Slots.{number_item, text_item, entries_item, number_form};
+ghost use Rattle.amqp_types.specs.Slots.{short_string_form, table_form};
 ghost use Rattle.amqp_types.specs.PropertyBytes.{optional_bytes, is_deep_option, is_long_option};
 
 use amqp_values::{
@@ -14,7 +15,8 @@ use amqp_values::{
 
 /// The size of a short string, where it is there.
 pub fn size_optional_text(option: &Option<ShortString>) -> u64
-    ensures size { result ≡ length (optional_bytes short_string_form (option_map text_item option.now)) }
+    ensures size { result
+        ≡ length (optional_bytes short_string_form (option_map text_item option.now)) }
     ensures bound { result ≤ 256 }
 {
     match option {
@@ -38,7 +40,8 @@ pub fn size_optional_table(option: &Option<FieldTable>) -> Result<u64, GenError>
 
 /// The size of a number of 1 byte, where it is there.
 pub fn size_optional_byte(option: &Option<ShortShortUInt>) -> u64
-    ensures size { result ≡ length (optional_bytes (number_form bytes1) (option_map number_item option.now)) }
+    ensures size { result
+        ≡ length (optional_bytes (number_form bytes1) (option_map number_item option.now)) }
     ensures bound { result ≤ 1 }
 {
     match option {
@@ -49,7 +52,8 @@ pub fn size_optional_byte(option: &Option<ShortShortUInt>) -> u64
 
 /// The size of a number of 8 bytes, where it is there.
 pub fn size_optional_time(option: &Option<LongLongUInt>) -> u64
-    ensures size { result ≡ length (optional_bytes (number_form bytes8) (option_map number_item option.now)) }
+    ensures size { result
+        ≡ length (optional_bytes (number_form bytes8) (option_map number_item option.now)) }
     ensures bound { result ≤ 8 }
 {
     match option {

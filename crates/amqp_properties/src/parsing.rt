@@ -33,7 +33,8 @@ fn read_later(
     alloc: Global,
     mask: ShortUInt,
 ) -> Result<LaterProperties, ParserError>
-    ensures step { Steps later_options result slots.old.rest.now slots.new.rest.now (judge_set mask later_properties) }
+    ensures step { Steps later_options result slots.old.rest.now slots.new.rest.now
+        (judge_set mask later_properties) }
     ensures left { length slots.new.rest.now ≤ length slots.old.rest.now }
 {
     let expiration = read_short_string(slots, alloc, is_set(mask, 8))?;
@@ -61,7 +62,8 @@ fn read_properties(
     alloc: Global,
     mask: ShortUInt,
 ) -> Result<AMQPProperties, ParserError>
-    ensures step { Steps options result slots.old.rest.now slots.new.rest.now (judge_set mask properties) }
+    ensures step { Steps options result slots.old.rest.now slots.new.rest.now
+        (judge_set mask properties) }
     ensures left { length slots.new.rest.now ≤ length slots.old.rest.now }
 {
     let content_type = read_short_string(slots, alloc, is_set(mask, 15))?;

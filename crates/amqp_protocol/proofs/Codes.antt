@@ -22,7 +22,8 @@ among_code code (first ∷ others) id error h = elim (cases_eq id (code first)) 
   | inr other ↦ among_code code others id error (sym (ap (λ b. if b then Some first else error_among code others id) (ne_eqb id (code first) other)) ∙ h)
 ]
 
-else_code : (id : ℕ) (one : Option AMQPSoftError) (other : Option AMQPHardError) (kind : AMQPErrorKind) → ((error : AMQPSoftError) → one ≡ Some error → soft_code error ≡ id) → ((error : AMQPHardError) → other ≡ Some error → hard_code error ≡ id)
+else_code : (id : ℕ) (one : Option AMQPSoftError) (other : Option AMQPHardError) (kind : AMQPErrorKind)
+    → ((error : AMQPSoftError) → one ≡ Some error → soft_code error ≡ id) → ((error : AMQPHardError) → other ≡ Some error → hard_code error ≡ id)
     → kind_else one other ≡ Some kind → kind_code kind ≡ id
 else_code id (Some error) other kind p q h = let is : kinds.Soft error ≡ kind = cc in sym (ap kind_code is) ∙ p error refl
 else_code id None (Some error) kind p q h = let is : kinds.Hard error ≡ kind = cc in sym (ap kind_code is) ∙ q error refl
@@ -56,10 +57,12 @@ no_error id none kind is =
     let found : Some kind ≡ None = sym (of_error kind) ∙ ap kind_at is ∙ none in
     cc
 
-found_none : (id : ℕ) (found : Option AMQPErrorKind) → ((kind : AMQPErrorKind) → found ≡ Some kind → kind_code kind ≡ id) → ((kind : AMQPErrorKind) → kind_code kind ≢ id) → found ≡ None
+found_none : (id : ℕ) (found : Option AMQPErrorKind) → ((kind : AMQPErrorKind) → found ≡ Some kind → kind_code kind ≡ id)
+    → ((kind : AMQPErrorKind) → kind_code kind ≢ id) → found ≡ None
 found_none id None p q = refl
 found_none id (Some kind) p q = absurd (q kind (p kind refl))
 
+-- The code of an error names that error, a named code is that of its error, and a code names none exactly where no error has it.
 pub codes_are_names : CodesNameErrors
 codes_are_names = record {
   of_error = of_error;

@@ -45,17 +45,21 @@ itself (classes.Queue a) = (queue.same_method a a).1 refl
 itself (classes.Tx a) = (tx.same_method a a).1 refl
 itself (classes.Confirm a) = (confirm.same_method a a).1 refl
 
+-- The test of equal methods of any class is true exactly where contracts see the same.
 pub same_class : (a b : AMQPClass) → Decides (class.ghosts.eq a b) (a ≡ b)
 same_class a b = (same a b, λ e. let P : AMQPClass → Type 0 = λ x. class.ghosts.eq a x ≡ true in subst P e (itself a))
 
 -- ---- errors
 
+-- The test of equal soft errors is true exactly where contracts see the same.
 pub same_soft_error : (a b : AMQPSoftError) → Decides (soft_error.ghosts.eq a b) (a ≡ b)
 same_soft_error a b = search rules
 
+-- The test of equal hard errors is true exactly where contracts see the same.
 pub same_hard_error : (a b : AMQPHardError) → Decides (hard_error.ghosts.eq a b) (a ≡ b)
 same_hard_error a b = search rules
 
+-- The test of equal login mechanisms is true exactly where contracts see the same.
 pub same_mechanism : (a b : SASLMechanism) → Decides (mechanism.ghosts.eq a b) (a ≡ b)
 same_mechanism a b = search rules
 
@@ -68,5 +72,6 @@ kind_itself : (a : AMQPErrorKind) → error_kind.ghosts.eq a a ≡ true
 kind_itself (kinds.Soft a) = (same_soft_error a a).1 refl
 kind_itself (kinds.Hard a) = (same_hard_error a a).1 refl
 
+-- The test of equal errors, soft or hard, is true exactly where contracts see the same.
 pub same_kind : (a b : AMQPErrorKind) → Decides (error_kind.ghosts.eq a b) (a ≡ b)
 same_kind a b = (same_kinds a b, λ e. let P : AMQPErrorKind → Type 0 = λ x. error_kind.ghosts.eq a x ≡ true in subst P e (kind_itself a))

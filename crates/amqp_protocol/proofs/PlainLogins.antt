@@ -29,5 +29,6 @@ same_login a b p q e =
     let both = parts a.username b.username a.password b.password p q behind in
     ap₂ login both.0 both.1
 
+-- Two logins whose user names hold no zero byte have the same PLAIN response exactly where they are equal.
 pub plain_logins : PlainLoginsNameCredentials
 plain_logins a b p q = (same_login a b p q, λ e. ap (login_bytes mechanism.Plain) e)

@@ -1,5 +1,6 @@
 -- The reply codes of errors and their texts (AMQP 0-9-1, section 1.2, and 312 as RabbitMQ has it).
-use Rattle.std.specs.Prelude.{ℕ, ◌==◌, if◌then◌else◌, List, [], ◌∷◌, ◌++◌, Option, Some, None, codes}
+use Rattle.std.specs.Prelude.{ℕ, ◌==◌, if◌then◌else◌, List, [], ◌∷◌}
+use Rattle.std.specs.Prelude.{◌++◌, Option, Some, None, codes}
 use Rattle.amqp_protocol.specs.declared.errors.AMQPSoftError.{AMQPSoftError}
 use Rattle.amqp_protocol.specs.declared.errors.AMQPSoftError.TheVariants as soft
 use Rattle.amqp_protocol.specs.declared.errors.AMQPHardError.{AMQPHardError}
@@ -9,7 +10,8 @@ use Rattle.amqp_protocol.specs.declared.errors.AMQPErrorKind.TheVariants as kind
 
 -- ---- errors of a channel
 
--- the reply code of a soft error, which closes a channel: 311, 313 and 403 to 406 of section 1.2, and 312 (no route) of RabbitMQ
+-- the reply code of a soft error, which closes a channel: 311, 313 and 403 to 406 of section 1.2,
+-- and 312 (no route) of RabbitMQ
 abbrev pub soft_code : AMQPSoftError → ℕ
 soft_code soft.CONTENTTOOLARGE = 311
 soft_code soft.NOROUTE = 312
@@ -37,7 +39,8 @@ soft_errors =
 
 -- ---- errors of a connection
 
--- the reply code of a hard error, which closes a connection: 320, 402, 501 to 506, 530, 540 and 541 of section 1.2
+-- the reply code of a hard error, which closes a connection: 320, 402, 501 to 506, 530, 540 and
+-- 541 of section 1.2
 abbrev pub hard_code : AMQPHardError → ℕ
 hard_code hard.CONNECTIONFORCED = 320
 hard_code hard.INVALIDPATH = 402
@@ -79,7 +82,8 @@ abbrev pub kind_code : AMQPErrorKind → ℕ
 kind_code (kinds.Soft error) = soft_code error
 kind_code (kinds.Hard error) = hard_code error
 
--- the text that an error is rendered as: whether it is soft or hard, and the name of its code's constant
+-- the text that an error is rendered as: whether it is soft or hard, and the name of its
+-- code's constant
 abbrev pub kind_text : AMQPErrorKind → List ℕ
 kind_text (kinds.Soft error) = codes "AMQP soft error: " ++ soft_text error
 kind_text (kinds.Hard error) = codes "AMQP hard error: " ++ hard_text error
@@ -89,7 +93,8 @@ kind_text (kinds.Hard error) = codes "AMQP hard error: " ++ hard_text error
 -- the first of these errors that has the code, if there is one
 abbrev pub error_among : {E : Type 0} → (E → ℕ) → List E → ℕ → Option E
 error_among code [] id = None
-error_among code (error ∷ errors) id = if id == code error then Some error else error_among code errors id
+error_among code (error ∷ errors) id =
+    if id == code error then Some error else error_among code errors id
 
 -- the soft error of a reply code, if it is the code of one
 abbrev pub soft_at : ℕ → Option AMQPSoftError

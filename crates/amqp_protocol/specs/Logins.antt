@@ -13,10 +13,12 @@ pub record Login : Type 0 where
 abbrev pub login_entry : List ℕ → List ℕ → List ℕ
 login_entry key content = short_string_bytes key ++ (codes "S" ++ with_length content)
 
--- The first response of a mechanism: AMQPlain is the entries of a table, without the table's length; Anonymous and External are empty;
--- Plain is that of RFC 4616 without an authorization identity, a zero byte before user name and before password; RabbitCrDemo is the user name.
+-- The first response of a mechanism: AMQPlain is the entries of a table, without the table's
+-- length; Anonymous and External are empty; Plain is that of RFC 4616 without an authorization
+-- identity, a zero byte before user name and before password; RabbitCrDemo is the user name.
 abbrev pub login_bytes : SASLMechanism → Login → List ℕ
-login_bytes mechanism.AMQPlain login = login_entry (codes "LOGIN") login.username ++ login_entry (codes "PASSWORD") login.password
+login_bytes mechanism.AMQPlain login =
+    login_entry (codes "LOGIN") login.username ++ login_entry (codes "PASSWORD") login.password
 login_bytes mechanism.Anonymous login = []
 login_bytes mechanism.External login = []
 login_bytes mechanism.Plain login = 0 ∷ (login.username ++ (0 ∷ login.password))

@@ -3,8 +3,9 @@
 ghost use Rattle.std.specs.Prelude.{◌≡◌, IfOk};
 ghost use Rattle.amqp_types.specs.Calls.{Parses, Measures, HasRoom};
 ghost use Rattle.amqp_types.specs.Writing.{Puts, Appends};
-ghost use Rattle.amqp_types.specs.Methods.{judge_in_class, judge_payload, payload_bytes, payload_size};
-ghost use Rattle.amqp_protocol.specs.Classes.{method_of};
+ghost use Rattle.amqp_types.specs.Methods.{judge_in_class, judge_payload};
+ghost use Rattle.amqp_types.specs.Methods.{payload_bytes, payload_size};
+ghost use Rattle.amqp_protocol.specs.Classes.{class_name, method_of};
 
 use amqp_basic::basic;
 use amqp_channel::{channel, confirm, tx};
@@ -71,6 +72,22 @@ impl AMQPClass {
             AMQPClass::Queue(method) => method.get_amqp_method_id(),
             AMQPClass::Tx(method) => method.get_amqp_method_id(),
             AMQPClass::Confirm(method) => method.get_amqp_method_id(),
+        }
+    }
+
+    /// The name of the class in the standard, in lower case: `basic`, `connection`.
+    pub fn name(&self) -> &'static str
+        ensures { result.now ≡ class_name self.now }
+    {
+        match self {
+            AMQPClass::Basic(_) => "basic",
+            AMQPClass::Connection(_) => "connection",
+            AMQPClass::Channel(_) => "channel",
+            AMQPClass::Access(_) => "access",
+            AMQPClass::Exchange(_) => "exchange",
+            AMQPClass::Queue(_) => "queue",
+            AMQPClass::Tx(_) => "tx",
+            AMQPClass::Confirm(_) => "confirm",
         }
     }
 
@@ -166,7 +183,8 @@ pub fn size_class(class: &AMQPClass) -> Result<u64, GenError>
 /// Puts the class id, the method id and the fields at a place of a slice, and returns the place after
 /// them.
 pub fn put_class(buf: &mut [u8], at: usize, class: &AMQPClass) -> usize
-    requires { HasRoom buf.old at (payload_size (method_of class.now)) (payload_bytes (method_of class.now)) }
+    requires { HasRoom buf.old at (payload_size (method_of class.now))
+        (payload_bytes (method_of class.now)) }
     ensures { Puts buf.old buf.new at (payload_bytes (method_of class.now)) result }
 {
     match class {
@@ -183,7 +201,8 @@ pub fn put_class(buf: &mut [u8], at: usize, class: &AMQPClass) -> usize
 
 /// Appends the class id, the method id and the fields to a vector.
 pub fn gen_class(alloc: Global, out: &mut Vec<u8>, class: &AMQPClass) -> Result<(), GenError>
-    ensures { Appends out.old.items out.new.items (payload_size (method_of class.now)) (payload_bytes (method_of class.now)) result }
+    ensures { Appends out.old.items out.new.items (payload_size (method_of class.now))
+        (payload_bytes (method_of class.now)) result }
 {
     match class {
         AMQPClass::Basic(method) => basic::gen_basic(alloc, out, method),

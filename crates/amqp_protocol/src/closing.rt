@@ -11,7 +11,8 @@ impl AMQPError {
     /// The error that a channel is closed with. A close whose reply code is that of no error is handed
     /// back.
     pub fn try_from_channel_close(close: channel::Close) -> Result<AMQPError, channel::Close>
-        ensures error { IfOk result (λ error. Some error ≡ error_of (kind_at close.reply_code) close.reply_text) }
+        ensures error { IfOk result
+            (λ error. Some error ≡ error_of (kind_at close.reply_code) close.reply_text) }
         ensures unchanged { IfErr result (λ back. back ≡ close) }
         ensures no_error { IfErr result (λ _. kind_at close.reply_code ≡ None) }
     {
@@ -26,7 +27,8 @@ impl AMQPError {
     pub fn try_from_connection_close(
         close: connection::Close,
     ) -> Result<AMQPError, connection::Close>
-        ensures error { IfOk result (λ error. Some error ≡ error_of (kind_at close.reply_code) close.reply_text) }
+        ensures error { IfOk result
+            (λ error. Some error ≡ error_of (kind_at close.reply_code) close.reply_text) }
         ensures unchanged { IfErr result (λ back. back ≡ close) }
         ensures no_error { IfErr result (λ _. kind_at close.reply_code ≡ None) }
     {

@@ -1,6 +1,7 @@
 //! How clients log in.
 
-ghost use Rattle.std.specs.Prelude.{◌≡◌, ◌++◌, ◌∷◌, ◌≤◌, ◌<◌, ◌^◌, ◌+◌, ◌↔◌, length, Err, IfOk, IsTrue, OnOk, codes};
+ghost use Rattle.std.specs.Prelude.{◌≡◌, ◌++◌, ◌∷◌, ◌≤◌, ◌<◌, ◌^◌, ◌+◌, ◌↔◌, length};
+ghost use Rattle.std.specs.Prelude.{Err, IfOk, IsTrue, OnOk, codes};
 ghost use Rattle.amqp_protocol.specs.Logins.{login_entry, login_bytes, demo_answer};
 
 use amqp_types::{LongString, MakeError, NoMemory, TAG_LONG_STRING};
@@ -60,7 +61,8 @@ impl Model for Credentials {
 
     ghost Value = { Login };
 
-    ghost view = { λ credentials. record { username = credentials.username; password = credentials.password } };
+    ghost view = { λ credentials.
+        record { username = credentials.username; password = credentials.password } };
 
     ghost inverse = { λ login. record { username = login.username; password = login.password } };
 }
@@ -99,9 +101,12 @@ fn append_entry(out: &mut Vec<u8>, key: &str, content: &[u8]) -> Result<(), Allo
 
 /// User name and password as entries of a table.
 fn amqplain(alloc: Global, username: &[u8], password: &[u8]) -> Result<LongString, MakeError>
-    ensures ok { IfOk result (λ string. string ≡ login_entry (codes "LOGIN") username.now ++ login_entry (codes "PASSWORD") password.now) }
+    ensures ok { IfOk result (λ string. string
+        ≡ login_entry (codes "LOGIN") username.now ++ login_entry (codes "PASSWORD") password.now) }
     ensures too_long { result ≡ Err MakeError.TooLong
-        ↔ 2 ^ 32 ≤ length (login_entry (codes "LOGIN") username.now ++ login_entry (codes "PASSWORD") password.now) }
+        ↔ 2 ^ 32
+        ≤ length
+        (login_entry (codes "LOGIN") username.now ++ login_entry (codes "PASSWORD") password.now) }
 {
     if !fits(ENTRIES_BYTES, username, password) {
         return Err(MakeError::TooLong);
@@ -115,7 +120,8 @@ fn amqplain(alloc: Global, username: &[u8], password: &[u8]) -> Result<LongStrin
 /// User name and password, each after a zero byte.
 fn plain(alloc: Global, username: &[u8], password: &[u8]) -> Result<LongString, MakeError>
     ensures ok { IfOk result (λ string. string ≡ 0 ∷ (username.now ++ (0 ∷ password.now))) }
-    ensures too_long { result ≡ Err MakeError.TooLong ↔ 2 ^ 32 ≤ length (0 ∷ (username.now ++ (0 ∷ password.now))) }
+    ensures too_long { result ≡ Err MakeError.TooLong
+        ↔ 2 ^ 32 ≤ length (0 ∷ (username.now ++ (0 ∷ password.now))) }
 {
     if !fits(2, username, password) {
         return Err(MakeError::TooLong);
@@ -156,7 +162,10 @@ impl Credentials {
 
     /// The user name and password of a server that has not been set up.
     pub fn guest(alloc: Global) -> Result<Credentials, NoMemory>
-        ensures { IfOk result (λ credentials. credentials ≡ record { username = codes "guest"; password = codes "guest" }) }
+        ensures { IfOk result (λ credentials. credentials ≡ record {
+          username = codes "guest";
+          password = codes "guest";
+        }) }
     {
         let username = LongString::new(alloc, b"guest")?;
         let password = LongString::new(alloc, b"guest")?;
@@ -194,7 +203,8 @@ impl Credentials {
         mechanism: SASLMechanism,
     ) -> Result<LongString, MakeError>
         ensures ok { IfOk result (λ string. string ≡ login_bytes mechanism self.now) }
-        ensures too_long { result ≡ Err MakeError.TooLong ↔ 2 ^ 32 ≤ length (login_bytes mechanism self.now) }
+        ensures too_long { result ≡ Err MakeError.TooLong
+            ↔ 2 ^ 32 ≤ length (login_bytes mechanism self.now) }
     {
         let username = self.username.as_bytes();
         let password = self.password.as_bytes();

@@ -1,10 +1,12 @@
 //! Laws of error codes, login strings, methods and constants, each the contract of a function that does next to nothing.
 
 ghost use Rattle.std.specs.Prelude.{◌≡◌, ◌∷◌, ◌++◌, [], map, codes};
-ghost use Rattle.amqp_types.specs.Tags.{tag_byte, tags, short_int_read_byte, long_long_int_read_byte};
+ghost use Rattle.amqp_types.specs.Tags.{tag_byte, tags, short_int_read_byte};
+ghost use Rattle.amqp_types.specs.Tags.{long_long_int_read_byte};
 ghost use Rattle.amqp_laws.specs.HeldMethods.{IsHeldMethod};
 ghost use Rattle.amqp_protocol.specs.Classes.{method_of};
-ghost use Rattle.amqp_protocol.specs.ProtocolLaws.{CodesNameErrors, PlainLoginsNameCredentials, PayloadsBeginWithIds};
+ghost use Rattle.amqp_protocol.specs.ProtocolLaws.{CodesNameErrors, PlainLoginsNameCredentials};
+ghost use Rattle.amqp_protocol.specs.ProtocolLaws.{PayloadsBeginWithIds};
 
 use crate::class::AMQPClass;
 use crate::constants::{

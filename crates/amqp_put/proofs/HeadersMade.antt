@@ -36,13 +36,17 @@ counted k (Some refusal) bytes n e = absurd cc
 first_none : (flaw after : Option PutError) → flaw ≡ None → first_of flaw after ≡ after
 first_none flaw after e = ap (λ (o : Option PutError). first_of o after) e
 
-pub above_limit : (k : ℕ) (flaw : Option PutError) (bytes : List ℕ) (n size max room : ℕ) → Ok n ≡ size_after k flaw bytes → size ≡ k + length bytes → max < n → first_of flaw (size_flaw size max room) ≡ Some errors.TooLarge
+-- a payload above the limit is refused as too large
+pub above_limit : (k : ℕ) (flaw : Option PutError) (bytes : List ℕ) (n size max room : ℕ) → Ok n ≡ size_after k flaw bytes → size ≡ k + length bytes → max < n
+    → first_of flaw (size_flaw size max room) ≡ Some errors.TooLarge
 above_limit k flaw bytes n size max room e len above =
     let m = counted k flaw bytes n e in
     let large = lt-ltb max size (omega (arith, m.is, len, above)) in
     first_none flaw (size_flaw size max room) m.none ∙ rw large refl
 
-pub above_room : (k : ℕ) (flaw : Option PutError) (bytes : List ℕ) (n size max room : ℕ) → Ok n ≡ size_after k flaw bytes → size ≡ k + length bytes → n ≤ max → room < n + 8 → first_of flaw (size_flaw size max room) ≡ Some (errors.BufferTooSmall (n + 8))
+-- a frame that has no room is refused with its length
+pub above_room : (k : ℕ) (flaw : Option PutError) (bytes : List ℕ) (n size max room : ℕ) → Ok n ≡ size_after k flaw bytes → size ≡ k + length bytes → n ≤ max
+    → room < n + 8 → first_of flaw (size_flaw size max room) ≡ Some (errors.BufferTooSmall (n + 8))
 above_room k flaw bytes n size max room e len within above =
     let m = counted k flaw bytes n e in
     let small = le-ltb max size (omega (arith, m.is, len, within)) in
@@ -50,7 +54,8 @@ above_room k flaw bytes n size max room e len within above =
     let none = lt-ltb room (size + 8) (omega (arith, many, above)) in
     first_none flaw (size_flaw size max room) m.none ∙ (rw (small, none) (ap (λ (j : ℕ). Some (errors.BufferTooSmall j)) many))
 
-fits : (k : ℕ) (flaw : Option PutError) (bytes : List ℕ) (n size max room : ℕ) → Ok n ≡ size_after k flaw bytes → size ≡ k + length bytes → n ≤ max → n + 8 ≤ room → first_of flaw (size_flaw size max room) ≡ None
+fits : (k : ℕ) (flaw : Option PutError) (bytes : List ℕ) (n size max room : ℕ) → Ok n ≡ size_after k flaw bytes → size ≡ k + length bytes → n ≤ max
+    → n + 8 ≤ room → first_of flaw (size_flaw size max room) ≡ None
 fits k flaw bytes n size max room e len within enough =
     let m = counted k flaw bytes n e in
     let small = le-ltb max size (omega (arith, m.is, len, within)) in
@@ -73,7 +78,8 @@ framed_made k out new payload final type channel max n flaw bytes e len within e
 abbrev pub front_bytes : ℕ → ℕ → List ℕ
 front_bytes class body_size = number_bytes bytes2 class ++ (number_bytes bytes2 0 ++ (number_bytes bytes8 body_size ++ []))
 
-payload_by : (ps : List Property) (class body_size mask : ℕ) (options : List (Option Item)) (bytes : List ℕ) → ps ≡ properties → set_bytes ps options ≡ bytes → mask ≡ mask_of ps options
+payload_by : (ps : List Property) (class body_size mask : ℕ) (options : List (Option Item)) (bytes : List ℕ) → ps ≡ properties → set_bytes ps options ≡ bytes
+    → mask ≡ mask_of ps options
     → content_header_bytes (header_with class body_size options) ≡ front_bytes class body_size ++ (number_bytes bytes2 mask ++ bytes)
 unfolding content_header_bytes properties_bytes slots_bytes form_bytes header_slots
 payload_by ps class body_size mask options bytes all spells is =
@@ -81,11 +87,18 @@ payload_by ps class body_size mask options bytes all spells is =
     ∙ ap (λ (bs : List ℕ). front_bytes class body_size ++ (number_bytes bytes2 (mask_of ps options) ++ bs)) spells
     ∙ ap (λ (n : ℕ). front_bytes class body_size ++ (number_bytes bytes2 n ++ bytes)) (sym is)
 
-pub header_length : (class body_size : ℕ) (forms : List Form) (options : List (Option Item)) (bytes : List ℕ) → from_bit 15 forms ≡ properties → set_bytes (from_bit 15 forms) options ≡ bytes
+-- how many bytes the payload of a content header has
+pub header_length : (class body_size : ℕ) (forms : List Form) (options : List (Option Item)) (bytes : List ℕ) → from_bit 15 forms ≡ properties
+    → set_bytes (from_bit 15 forms) options ≡ bytes
     → length (content_header_bytes (header_with class body_size options)) ≡ 14 + length bytes
 header_length class body_size forms options bytes all spells =
     ap length (payload_by (from_bit 15 forms) class body_size (mask_of (from_bit 15 forms) options) options bytes all spells refl)
-    ∙ omega (arith, length-append (front_bytes class body_size) (number_bytes bytes2 (mask_of (from_bit 15 forms) options) ++ bytes), length-append (number_bytes bytes2 (mask_of (from_bit 15 forms) options)) bytes)
+    ∙ omega (
+      arith,
+      length-append (front_bytes class body_size) (number_bytes bytes2 (mask_of (from_bit 15 forms) options) ++ bytes),
+      length-append
+          (number_bytes bytes2 (mask_of (from_bit 15 forms) options)) bytes,
+    )
 
 -- the forms of all properties
 abbrev standard_forms : List Form
@@ -103,10 +116,13 @@ pub mask_fits : (mask : ℕ) (options : List (Option Item)) → mask ≡ mask_of
 mask_fits mask options is = omega (arith, mask_below 15 standard_forms options (omega arith), is ∙ ap (λ (ps : List Property). mask_of ps options) standard)
 
 -- the front, the mask and the properties, put one after another, and the frame around them
-pub header_made : (out a b d new : List ℕ) (p q end final channel class body_size mask max n : ℕ) (flaw : Option PutError) (forms : List Form) (options : List (Option Item)) (bytes : List ℕ)
-    → Ok n ≡ size_after 14 flaw bytes → from_bit 15 forms ≡ properties → set_bytes (from_bit 15 forms) options ≡ bytes → mask ≡ mask_of properties options → n ≤ max → n + 8 ≤ length out
+pub header_made : (out a b d new : List ℕ) (p q end final channel class body_size mask max n : ℕ) (flaw : Option PutError) (forms : List Form)
+    (options : List (Option Item)) (bytes : List ℕ)
+    → Ok n ≡ size_after 14 flaw bytes → from_bit 15 forms ≡ properties → set_bytes (from_bit 15 forms) options ≡ bytes → mask ≡ mask_of properties options
+    → n ≤ max → n + 8 ≤ length out
     → Puts out a 7 (front_bytes class body_size) p → Puts a b p (number_bytes bytes2 mask) q → Puts b d q bytes end
-    → ((before payload : List ℕ) → Puts before d 7 payload end → 0 + length (framed 2 channel payload) ≤ length before → Puts before new 0 (framed 2 channel payload) final)
+    → ((before payload : List ℕ) → Puts before d 7 payload end → 0 + length (framed 2 channel payload) ≤ length before
+    → Puts before new 0 (framed 2 channel payload) final)
     → MakesFrame out new max (Head channel (header_with class body_size options)) flaw (Ok final)
 unfolding canon
 header_made out a b d new p q end final channel class body_size mask max n flaw forms options bytes e all spells is within enough first second third around =
@@ -115,9 +131,12 @@ header_made out a b d new p q end final channel class body_size mask max n flaw 
     let len : length payload ≡ 14 + length bytes = header_length class body_size forms options bytes all spells in
     let rest : List ℕ = number_bytes bytes2 mask ++ bytes in
     let kept : length a ≡ length out = puts-length out a 7 p (front_bytes class body_size) (omega (arith, enough)) first in
-    let behind : Puts a d p rest end = puts_then a b d p q end (number_bytes bytes2 mask) bytes (omega (arith, kept, m.is, enough, first.behind, length-append (number_bytes bytes2 mask) bytes)) second third in
+    let behind : Puts a d p rest end = puts_then a b d p q end (number_bytes bytes2 mask) bytes
+    (omega (arith, kept, m.is, enough, first.behind, length-append (number_bytes bytes2 mask) bytes)) second third in
     let whole : Puts out d 7 (front_bytes class body_size ++ rest) end =
-    puts_then out a d 7 p end (front_bytes class body_size) rest (omega (arith, m.is, enough, length-append (front_bytes class body_size) rest, length-append (number_bytes bytes2 mask) bytes)) first behind in
+    puts_then out a d 7 p end (front_bytes class body_size) rest
+    (omega (arith, m.is, enough, length-append (front_bytes class body_size) rest, length-append (number_bytes bytes2 mask) bytes)) first behind in
     let P : List ℕ → Type 0 = λ bs. Puts out d 7 bs end in
-    let inner : Puts out d 7 payload end = subst P (sym (payload_by (from_bit 15 forms) class body_size mask options bytes all spells (is ∙ ap (λ (ps : List Property). mask_of ps options) (sym all)))) whole in
+    let inner : Puts out d 7 payload end = subst P (sym
+    (payload_by (from_bit 15 forms) class body_size mask options bytes all spells (is ∙ ap (λ (ps : List Property). mask_of ps options) (sym all)))) whole in
     framed_made 14 out new payload final 2 channel max n flaw bytes e len within enough (around out payload inner)

@@ -27,17 +27,22 @@ in_front : (old new bytes : List ℕ) → new ≡ written old 0 bytes → new �
 unfolding written
 in_front old new bytes is = is
 
+-- the bytes that were put are decoded to the frame
 pub bytes_back : (level : Level) (limit : Option ℕ) (old new : List ℕ) (n : ℕ) (frame : Frame) (flaw : Option PutError)
     → IsBytes new → IsFrameHeld frame → size_of frame ≡ Ok (length (canon frame)) → IsWithin limit (canon frame)
     → MakesBytes old new flaw (canon frame) (Ok n) → verdict level limit new ≡ took (read_back frame) n
 bytes_back level limit old new n frame flaw bytes held size within made =
     let rest : List ℕ = drop (0 + length (canon frame)) old in
     let front : new ≡ canon frame ++ rest = in_front old new (canon frame) made.2 in
-    let got : verdict level None new ≡ took (read_back frame) (length (canon frame)) = ap (verdict level None) front ∙ (reads_back level frame held size).whole rest in
-    let taken : take (length (canon frame)) new ≡ canon frame = ap (take (length (canon frame))) front ∙ take_at (canon frame) rest (length (canon frame)) refl in
+    let got : verdict level None new ≡ took (read_back frame) (length (canon frame)) = ap (verdict level None) front
+    ∙ (reads_back level frame held size).whole rest in
+    let taken : take (length (canon frame)) new ≡ canon frame = ap (take (length (canon frame))) front
+    ∙ take_at (canon frame) rest (length (canon frame)) refl in
     let P : List ℕ → Type 0 = λ bs. Spells level bs (read_back frame) in
-    let spelled : Spells level (canon frame) (read_back frame) = subst P taken (verdict-spells level None new (read_back frame) (length (canon frame)) bytes got).0 in
-    ap (verdict level limit) front ∙ verdict-spelled_before level limit (canon frame) rest (read_back frame) spelled within ∙ ap (took (read_back frame)) (sym made.1)
+    let spelled : Spells level (canon frame) (read_back frame) =
+    subst P taken (verdict-spells level None new (read_back frame) (length (canon frame)) bytes got).0 in
+    ap (verdict level limit) front ∙ verdict-spelled_before level limit (canon frame) rest (read_back frame) spelled within
+    ∙ ap (took (read_back frame)) (sym made.1)
 
 no_first : (flaw after : Option PutError) → first_of flaw after ≡ None → after ≡ None
 no_first None after e = e
@@ -58,7 +63,9 @@ no_longer (Body channel content) = omega (arith, framed_length 3 channel content
 no_longer Beat = omega (arith, framed_length 8 0 [])
 no_longer (BadBeat channel) = omega (arith, framed_length 8 channel [])
 
-pub frames_within : (old new : List ℕ) (max n limit : ℕ) (frame : Frame) (flaw : Option PutError) → max ≤ limit → MakesFrame old new max frame flaw (Ok n) → IsWithin (Some limit) (canon frame)
+-- a frame that was put is within the limit
+pub frames_within : (old new : List ℕ) (max n limit : ℕ) (frame : Frame) (flaw : Option PutError) → max ≤ limit → MakesFrame old new max frame flaw (Ok n)
+    → IsWithin (Some limit) (canon frame)
 frames_within old new max n limit frame flaw most made =
     let small = payload_within (length (payload_of frame)) max (length old) (no_first flaw (size_flaw (length (payload_of frame)) max (length old)) made.0) in
     omega (arith, no_longer frame, small, most)

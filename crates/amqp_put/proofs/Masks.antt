@@ -1,5 +1,6 @@
 -- The mask of properties that are written.
-use Rattle.std.proofs.Common.{◌≡◌, ℕ, zero, suc, ◌+◌, ◌*◌, ◌/◌, ◌^◌, ◌<◌, ◌≤◌, List, [], ◌∷◌, length, Option, Some, None, is_some, if◌then◌else◌, refl, ap, ap₂, ◌∙◌, arith}
+use Rattle.std.proofs.Common.{◌≡◌, ℕ, zero, suc, ◌+◌, ◌*◌, ◌/◌, ◌^◌, ◌<◌, ◌≤◌, List, [], ◌∷◌, length, Option, Some, None, is_some}
+use Rattle.std.proofs.Common.{if◌then◌else◌, refl, ap, ap₂, ◌∙◌, arith}
 use Rattle.amqp_types.specs.Slots.{Item, Form}
 use Rattle.amqp_types.specs.PropertyBytes.{worth_of, mask_of}
 use Rattle.amqp_put.specs.Properties.{from_bit}
@@ -9,6 +10,7 @@ unfolding worth_of
 worth_is worth None = refl
 worth_is worth (Some item) = refl
 
+-- no properties have no bit
 pub mask_none : (bit : ℕ) → 0 ≡ mask_of (from_bit bit []) []
 unfolding mask_of
 mask_none bit = refl
@@ -25,7 +27,8 @@ some_power zero = omega arith
 some_power (suc b) = omega (arith, twice b, some_power b)
 
 -- the first property, and those that follow it
-pub mask_both : (worth rest bit : ℕ) (form : Form) (forms : List Form) (option : Option Item) (options : List (Option Item)) → worth ≡ 2 ^ bit → suc (length forms) ≤ bit
+pub mask_both : (worth rest bit : ℕ) (form : Form) (forms : List Form) (option : Option Item) (options : List (Option Item)) → worth ≡ 2 ^ bit
+    → suc (length forms) ≤ bit
     → ((b : ℕ) → worth / 2 ≡ 2 ^ b → length forms ≤ b → rest ≡ mask_of (from_bit b forms) options)
     → (if is_some option then worth else 0) + rest ≡ mask_of (from_bit bit (form ∷ forms)) (option ∷ options)
 unfolding mask_of

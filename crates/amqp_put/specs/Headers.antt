@@ -1,5 +1,5 @@
 -- Content headers that are written by their properties.
-use Rattle.std.specs.Prelude.{ℕ, List, [], ◌∷◌, Option, None, option_map}
+use Rattle.std.specs.Prelude.{◌≡◌, ℕ, false, List, [], ◌∷◌, Option, None, option_map}
 use Rattle.amqp_types.specs.Flags.{flag_at}
 use Rattle.amqp_types.specs.Slots.{Item, number_item, text_item, entries_item}
 use Rattle.amqp_types.specs.ContentHeaders.{ContentHeader}
@@ -14,10 +14,15 @@ use Rattle.amqp_put.specs.declared.strings.Text.{Text}
 use Rattle.amqp_put.specs.declared.headers.Properties.{Properties}
 use Rattle.amqp_put.specs.declared.headers.MaskedProperties.{MaskedProperties}
 
+-- bits 1 and 0 of a mask, which are no property's, are 0
+abbrev pub HasNoUnusedBit : ℕ → Type 0
+HasNoUnusedBit mask = (flag_at mask 1 ≡ false) × (flag_at mask 0 ≡ false)
+
 -- a text where it is set, and why it is not written
 abbrev pub set_text : Option Text → Option Item
 set_text = option_map (λ text. text_item text.bytes.now)
 
+-- the flaw of a short string, where it is set
 abbrev pub set_flaw : Option Text → Option PutError
 set_flaw = where_some None (λ text. text_flaw text.bytes.now)
 
@@ -25,10 +30,12 @@ set_flaw = where_some None (λ text. text_flaw text.bytes.now)
 abbrev pub table_item : TableContent → Item
 table_item table = entries_item (table_in inner_depth table.content.now)
 
+-- the flaw of a table
 abbrev pub table_flaw : TableContent → Option PutError
 table_flaw table = content_flaw inner_depth table.content.now
 
--- the 14 properties in the order of the mask, from bit 15 down to bit 2, each with its item where it is set
+-- the 14 properties in the order of the mask, from bit 15 down to bit 2, each with its item where
+-- it is set
 abbrev pub options_of : Properties → List (Option Item)
 options_of p =
     set_text p.content_type ∷
@@ -66,7 +73,8 @@ flaw_of p =
 
 -- the header of these options
 abbrev pub header_with : ℕ → ℕ → List (Option Item) → ContentHeader
-header_with class body_size options = record { class_id = class; body_size = body_size; options = options }
+header_with class body_size options =
+    record { class_id = class; body_size = body_size; options = options }
 
 -- the 14 properties of which a mask says which are set, with these headers
 abbrev pub masked_options : MaskedProperties → Item → List (Option Item)

@@ -9,7 +9,9 @@ use Rattle.amqp_entries.specs.declared.errors.PutError.TheVariants as errors
 
 -- The canonical bytes of a frame with a payload, whose parts have this flaw.
 abbrev pub MakesFrame : List ℕ → List ℕ → ℕ → Frame → Option PutError → Result ℕ PutError → Type 0
-MakesFrame old new max frame flaw result = MakesBytes old new (first_of flaw (size_flaw (length (payload_of frame)) max (length old))) (canon frame) result
+MakesFrame old new max frame flaw result =
+    MakesBytes old new (first_of flaw (size_flaw (length (payload_of frame)) max (length old)))
+    (canon frame) result
 
 -- why 8 bytes are not written
 abbrev pub room_flaw : ℕ → Option PutError

@@ -11,12 +11,18 @@ use Rattle.amqp_put.specs.Made.{MakesBytes}
 use Rattle.amqp_put.specs.MadeFrames.{MakesFrame}
 use Rattle.amqp_entries.specs.declared.errors.PutError.{PutError}
 
--- What was put at the front of a slice is decoded to the frame, at each level and within each limit that it is within, whatever follows in the slice.
+-- What was put at the front of a slice is decoded to the frame, at each level and within each limit
+-- that it is within, whatever follows in the slice.
 abbrev pub MadeBytesReadBack : Type 0
-MadeBytesReadBack = (level : Level) (limit : Option ℕ) (old new : List ℕ) (n : ℕ) (frame : Frame) (flaw : Option PutError)
-    → IsBytes new → IsFrameHeld frame → size_of frame ≡ Ok (length (canon frame)) → IsWithin limit (canon frame)
-    → MakesBytes old new flaw (canon frame) (Ok n) → verdict level limit new ≡ took (read_back frame) n
+MadeBytesReadBack = (level : Level) (limit : Option ℕ) (old new : List ℕ) (n : ℕ) (frame : Frame)
+    (flaw : Option PutError)
+    → IsBytes new → IsFrameHeld frame → size_of frame ≡ Ok (length (canon frame))
+    → IsWithin limit (canon frame)
+    → MakesBytes old new flaw (canon frame) (Ok n)
+    → verdict level limit new ≡ took (read_back frame) n
 
--- What was made for a peer that takes payloads of so many bytes is within that limit, and within each larger one.
+-- What was made for a peer that takes payloads of so many bytes is within that limit, and within
+-- each larger one.
 abbrev pub MadeFramesAreWithin : Type 0
-MadeFramesAreWithin = (old new : List ℕ) (max n limit : ℕ) (frame : Frame) (flaw : Option PutError) → max ≤ limit → MakesFrame old new max frame flaw (Ok n) → IsWithin (Some limit) (canon frame)
+MadeFramesAreWithin = (old new : List ℕ) (max n limit : ℕ) (frame : Frame) (flaw : Option PutError)
+    → max ≤ limit → MakesFrame old new max frame flaw (Ok n) → IsWithin (Some limit) (canon frame)

@@ -4,7 +4,8 @@
 ghost use Rattle.std.specs.Prelude.{[], ◌∷◌, None};
 ghost use Rattle.amqp_types.specs.Flags.{flags_bytes};
 ghost use Rattle.amqp_types.specs.Slots.{flag_item, flags_form, kept_slot};
-ghost use Rattle.amqp_put.specs.Fields.{flag_spells, two_flags_spell, three_flags_spell, four_flags_spell, five_flags_spell};
+ghost use Rattle.amqp_put.specs.Fields.{flag_spells, two_flags_spell, three_flags_spell};
+ghost use Rattle.amqp_put.specs.Fields.{four_flags_spell, five_flags_spell};
 
 use crate::slots::ToSlot;
 use amqp_entries::PutError;
@@ -89,7 +90,8 @@ impl ToSlot for (bool, bool, bool) {
 impl ToSlot for (bool, bool, bool, bool) {
     ghost slot = { kept_slot (flags_form 4) };
 
-    ghost items = { λ flags. flag_item flags.0 ∷ flag_item flags.1 ∷ flag_item flags.2 ∷ flag_item flags.3 ∷ [] };
+    ghost items = { λ flags. flag_item flags.0 ∷ flag_item flags.1 ∷ flag_item flags.2
+        ∷ flag_item flags.3 ∷ [] };
 
     ghost flaw = { λ _. None };
 
@@ -122,8 +124,8 @@ impl ToSlot for (bool, bool, bool, bool) {
 impl ToSlot for (bool, bool, bool, bool, bool) {
     ghost slot = { kept_slot (flags_form 5) };
 
-    ghost items = { λ flags. flag_item flags.0 ∷ flag_item flags.1 ∷ flag_item flags.2 ∷ flag_item flags.3
-        ∷ flag_item flags.4 ∷ [] };
+    ghost items = { λ flags. flag_item flags.0 ∷ flag_item flags.1 ∷ flag_item flags.2
+        ∷ flag_item flags.3 ∷ flag_item flags.4 ∷ [] };
 
     ghost flaw = { λ _. None };
 

@@ -8,7 +8,8 @@ ghost use Rattle.amqp_types.specs.PropertyBytes.{mask_of};
 ghost use Rattle.amqp_wire.specs.Frames.{Head};
 ghost use Rattle.amqp_put.specs.MadeFrames.{MakesFrame};
 ghost use Rattle.amqp_put.specs.Properties.{from_bit};
-ghost use Rattle.amqp_put.specs.Headers.{options_of, flaw_of, header_with, masked_options, masked_flaw};
+ghost use Rattle.amqp_put.specs.Headers.{HasNoUnusedBit, options_of, flaw_of};
+ghost use Rattle.amqp_put.specs.Headers.{header_with, masked_options, masked_flaw};
 
 use crate::properties::{Masked, MaskedText, ToItem, ToProperties};
 use crate::reserved::ReservedShort;
@@ -162,7 +163,7 @@ impl<'a> MaskedProperties<'a> {
     /// Whether bits 1 and 0 of the mask, which are no property's, are 0.
     #[inline(always)]
     pub fn has_no_unused_bit(&self) -> bool
-        ensures { IsTrue result ↔ ((flag_at self.now.mask 1 ≡ false) × (flag_at self.now.mask 0 ≡ false)) }
+        ensures { IsTrue result ↔ HasNoUnusedBit self.now.mask }
     {
         self.mask & 3 == 0
     }
@@ -184,7 +185,8 @@ fn put_header<P: ToProperties>(
     requires all { from_bit 15 P.forms ≡ properties }
     requires few { P.most < 2 ^ 39 }
     requires mask { mask ≡ mask_of properties (P.options fields.now) }
-    ensures { MakesFrame out.old out.new max_payload (Head channel (header_with class body_size (P.options fields.now)))
+    ensures { MakesFrame out.old out.new max_payload
+        (Head channel (header_with class body_size (P.options fields.now)))
         (P.flaw fields.now) result }
 {
     let size = fields.measure(14)?;
@@ -213,7 +215,8 @@ pub fn put_content_header(
     max_payload: u32,
     out: &mut [u8],
 ) -> Result<usize, PutError>
-    ensures { MakesFrame out.old out.new max_payload (Head channel (header_with class body_size (options_of properties.now)))
+    ensures { MakesFrame out.old out.new max_payload
+        (Head channel (header_with class body_size (options_of properties.now)))
         (flaw_of properties.now) result }
 {
     let fields = (
@@ -290,7 +293,8 @@ pub fn put_masked_header<'a, T: ToItem + Copy>(
     requires second { flag_at properties.now.mask 1 ≡ false }
     requires lowest { flag_at properties.now.mask 0 ≡ false }
     ensures { MakesFrame out.old out.new max_payload
-        (Head channel (header_with class body_size (masked_options properties.now (T.item headers))))
+        (Head channel (header_with class body_size
+        (masked_options properties.now (T.item headers))))
         (masked_flaw properties.now (T.flaw headers)) result }
 {
     let mask = properties.mask;

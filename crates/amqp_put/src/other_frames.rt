@@ -43,7 +43,8 @@ pub fn put_heartbeat(out: &mut [u8]) -> Result<usize, PutError>
 /// Puts a protocol header at the front of a slice, and returns how many bytes it has, 8 (AMQP 0-9-1, section 4.2.2).
 #[inline(always)]
 pub fn put_protocol_header(version: ProtocolVersion, out: &mut [u8]) -> Result<usize, PutError>
-    ensures { MakesEight out.old out.new (Proto version.major version.minor version.revision) result }
+    ensures { MakesEight out.old out.new
+        (Proto version.major version.minor version.revision) result }
 {
     if out.len() < 8 {
         return Err(PutError::BufferTooSmall(8));

@@ -1,13 +1,16 @@
 //! Properties that are written where they are set, one after another, and their mask.
 
-ghost use Rattle.std.specs.Prelude.{◌≡◌, ◌≤◌, ◌<◌, ◌+◌, ◌*◌, ◌^◌, ◌++◌, ◌∷◌, [], ℕ, List, Option, length, is_some, IfOk, None, option_map, if◌then◌else◌};
-ghost use Rattle.amqp_types.specs.Slots.{Item, Form, number_item, text_item, entries_item, number_form, short_string_form, table_form};
+ghost use Rattle.std.specs.Prelude.{◌≡◌, ◌≤◌, ◌<◌, ◌+◌, ◌*◌, ◌^◌, ◌++◌, ◌∷◌, [], ℕ, List, Option};
+ghost use Rattle.std.specs.Prelude.{length, is_some, IfOk, None, option_map, if◌then◌else◌};
+ghost use Rattle.amqp_types.specs.Slots.{Item, Form, number_item, text_item, entries_item};
+ghost use Rattle.amqp_types.specs.Slots.{number_form, short_string_form, table_form};
 ghost use Rattle.amqp_types.specs.Numbers.{bytes1, bytes8};
 ghost use Rattle.amqp_types.specs.SlotBytes.{form_bytes};
 ghost use Rattle.amqp_types.specs.PropertyBytes.{optional_bytes, set_bytes, mask_of};
 ghost use Rattle.amqp_types.specs.Writing.{Puts};
 ghost use Rattle.amqp_entries.specs.declared.errors.PutError.{PutError};
-ghost use Rattle.amqp_put.specs.Properties.{from_bit, where_some, if_set, size_after, flaw_if, bytes_if, some_spells, masked_spells, none_are_set};
+ghost use Rattle.amqp_put.specs.Properties.{from_bit, where_some, if_set, size_after, flaw_if};
+ghost use Rattle.amqp_put.specs.Properties.{bytes_if, some_spells, masked_spells, none_are_set};
 
 use crate::slots::ToSlot;
 use crate::strings::Text;
@@ -234,7 +237,8 @@ impl<F: ToItem> ToProperty for Masked<F> {
         }
     }
 
-    ghost spells = { λ masked. masked_spells F.form (F.item masked.field) (F.bytes masked.field) (F.alone masked.field) masked.set };
+    ghost spells = { λ masked. masked_spells F.form (F.item masked.field) (F.bytes masked.field)
+        (F.alone masked.field) masked.set };
 }
 
 /// A short string that a mask says is set or not. It is read only where it is set.
@@ -285,7 +289,8 @@ impl<'a> ToProperty for MaskedText<'a> {
         }
     }
 
-    ghost spells = { λ masked. masked_spells short_string_form (text_item masked.text.now.now) (short_string_bytes masked.text.now.now) (text_alone masked.text.now.now) masked.set };
+    ghost spells = { λ masked. masked_spells short_string_form (text_item masked.text.now.now)
+        (short_string_bytes masked.text.now.now) (text_alone masked.text.now.now) masked.set };
 }
 
 /// What a property adds to a mask in which its bit is worth so much.
@@ -358,5 +363,6 @@ impl<A: ToProperty, R: ToProperties> ToProperties for (A, R) {
         self.1.put(buf, place)
     }
 
-    ghost spells = { λ x bit. both_spell bit A.form R.forms (A.option x.0) (R.options x.1) (A.bytes x.0) (R.bytes x.1) (A.spells x.0) (λ b. R.spells x.1 b) };
+    ghost spells = { λ x bit. both_spell bit A.form R.forms (A.option x.0) (R.options x.1)
+        (A.bytes x.0) (R.bytes x.1) (A.spells x.0) (λ b. R.spells x.1 b) };
 }

@@ -4,8 +4,11 @@ ghost use Rattle.std.specs.Prelude.{[], ◌∷◌, None, false};
 ghost use Rattle.amqp_types.specs.Numbers.{bytes2, bytes4, number_bytes};
 ghost use Rattle.amqp_types.specs.Flags.{flags_bytes};
 ghost use Rattle.amqp_types.specs.Strings.{short_string_bytes, with_length};
-ghost use Rattle.amqp_types.specs.Slots.{number_item, flag_item, text_item, bytes_item, number_form, flags_form, short_string_form, long_string_form, reserved_slot};
-ghost use Rattle.amqp_put.specs.Fields.{reserved_spells, reserved_flag_spells, reserved_text_spells, reserved_bytes_spell};
+ghost use Rattle.amqp_types.specs.Slots.{number_item, flag_item, text_item, bytes_item};
+ghost use Rattle.amqp_types.specs.Slots.{number_form, flags_form, short_string_form};
+ghost use Rattle.amqp_types.specs.Slots.{long_string_form, reserved_slot};
+ghost use Rattle.amqp_put.specs.Fields.{reserved_spells, reserved_flag_spells};
+ghost use Rattle.amqp_put.specs.Fields.{reserved_text_spells, reserved_bytes_spell};
 
 use crate::slots::ToSlot;
 use amqp_entries::PutError;

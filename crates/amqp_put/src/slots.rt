@@ -1,6 +1,7 @@
 //! What is written as one field, and fields one after another.
 
-ghost use Rattle.std.specs.Prelude.{◌≡◌, ◌≤◌, ◌<◌, ◌+◌, ◌^◌, ◌++◌, ◌∷◌, ℕ, List, Option, length, IfOk};
+ghost use Rattle.std.specs.Prelude.{◌≡◌, ◌≤◌, ◌<◌, ◌+◌, ◌^◌, ◌++◌, ◌∷◌};
+ghost use Rattle.std.specs.Prelude.{ℕ, List, Option, length, IfOk};
 ghost use Rattle.amqp_types.specs.Slots.{Item, Slot};
 ghost use Rattle.amqp_types.specs.SlotBytes.{slots_bytes};
 ghost use Rattle.amqp_types.specs.Writing.{Puts};
@@ -129,5 +130,6 @@ impl<A: ToSlot, R: ToSlots> ToSlots for (A, R) {
         self.1.put(buf, place)
     }
 
-    ghost spells = { λ x. A.spells x.0 R.slots (R.items x.1) ∙ ap (λ (bs : List ℕ). A.bytes x.0 ++ bs) (R.spells x.1) };
+    ghost spells = { λ x. A.spells x.0 R.slots (R.items x.1)
+        ∙ ap (λ (bs : List ℕ). A.bytes x.0 ++ bs) (R.spells x.1) };
 }

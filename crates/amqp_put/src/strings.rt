@@ -2,12 +2,13 @@
 
 ghost use Rattle.std.specs.Prelude.{[], ◌∷◌, ◌^◌};
 ghost use Rattle.amqp_types.specs.Strings.{short_string_bytes, with_length};
-ghost use Rattle.amqp_types.specs.Slots.{text_item, bytes_item, short_string_form, long_string_form, kept_slot};
+ghost use Rattle.amqp_types.specs.Slots.{text_item, bytes_item, short_string_form};
+ghost use Rattle.amqp_types.specs.Slots.{long_string_form, kept_slot};
 ghost use Rattle.amqp_put.specs.Fields.{long_spells, text_spells};
 ghost use Rattle.amqp_entries.specs.Flaws.{text_flaw, long_flaw};
 
 use crate::slots::ToSlot;
-use amqp_entries::{PutError, is_short_text, put_few};
+use amqp_entries::{PutError, put_few, text_size};
 use amqp_types::{put_bytes, put_long_uint};
 
 /// The text of a short string, which is tested. In C it is a pointer and a length.
@@ -31,13 +32,7 @@ impl<'a> ToSlot for Text<'a> {
 
     #[inline(always)]
     fn measure(&self) -> Result<usize, PutError> {
-        if self.bytes.len() > 255 {
-            return Err(PutError::TooLong);
-        }
-        if !is_short_text(self.bytes) {
-            return Err(PutError::NotUtf8);
-        }
-        Ok(1 + self.bytes.len())
+        text_size(self.bytes)
     }
 
     #[inline(always)]

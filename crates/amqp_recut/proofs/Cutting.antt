@@ -5,7 +5,9 @@ use Rattle.amqp_turns.specs.Splits.{cut_count, whole_pieces, pieces_given, left_
 use Rattle.amqp_turns.proofs.Pieces.{given_after, length-chunks}
 use Rattle.amqp_recut.specs.Cuts.{pieces_brought}
 
-pub brought : (size : ℕ) (ends : Bool) (before content : List ℕ) → 1 ≤ size → pieces_brought size ends before content ≡ pieces_given size ends (left_over size before ++ content)
+-- The pieces that a body completes are those of the bytes that were left over before it and its own.
+pub brought : (size : ℕ) (ends : Bool) (before content : List ℕ) → 1 ≤ size
+    → pieces_brought size ends before content ≡ pieces_given size ends (left_over size before ++ content)
 brought size ends before content h =
     let count : cut_count size false (length before) ≡ length (whole_pieces size before) = sym (length-chunks size (length before / size) before) in
     ap (drop (cut_count size false (length before))) (sym (given_after size ends before content h))

@@ -13,17 +13,23 @@ use Rattle.amqp_stream.proofs.Transcribing.{gathered_then}
 
 -- ---- bytes after bytes
 
+-- Where bytes were gathered, and gathering more after them fails, gathering all of them fails.
 pub gather_fails_later : {a b c : Store} {x y z p q : List ℕ} → Gathered a b x y p → GatherFails b c y z q → GatherFails a c x z (p ++ q)
 gather_fails_later {a = a} {b = b} {c = c} {x = x} {y = y} {p = p} {q = q} f g = record {
   piece = f.written ++ g.piece;
   gains = Gains-then a b c f.written g.piece f.gains g.gains;
-  prefix = (g.prefix.0, append_assoc f.written g.piece g.prefix.0 ∙ ap (λ (bytes : List ℕ). f.written ++ bytes) g.prefix.1 ∙ sym (append_assoc f.written y q) ∙ ap (λ (bytes : List ℕ). bytes ++ q) f.parts ∙ append_assoc x p q);
+  prefix = (
+    g.prefix.0,
+    append_assoc f.written g.piece g.prefix.0 ∙ ap (λ (bytes : List ℕ). f.written ++ bytes) g.prefix.1
+        ∙ sym (append_assoc f.written y q) ∙ ap (λ (bytes : List ℕ). bytes ++ q) f.parts ∙ append_assoc x p q,
+  );
   rises = Rises-later a.faults b.faults c.faults f.gains.faults g.gains.faults g.rises;
   none = g.none;
 }
 
 -- the first bytes were gathered, and then the others or not
-pub gathers_then : {a b : Store} {x y p : List ℕ} (c : Store) (z q : List ℕ) (r : Result (Unit {0}) SinkFault) → Gathered a b x y p → Gathers b c y z q r → Gathers a c x z (p ++ q) r
+pub gathers_then : {a b : Store} {x y p : List ℕ} (c : Store) (z q : List ℕ) (r : Result (Unit {0}) SinkFault)
+    → Gathered a b x y p → Gathers b c y z q r → Gathers a c x z (p ++ q) r
 gathers_then c z q (Ok done) f g = gathered_then f g
 gathers_then c z q (Err bad) f g = gather_fails_later f g
 
@@ -42,30 +48,47 @@ pub gathers_as : {p q : List ℕ} (a b : Store) (x y : List ℕ) (r : Result (Un
 gathers_as a b x y (Ok done) e h = subst (λ (bytes : List ℕ). Gathered a b x y bytes) e h
 gathers_as a b x y (Err bad) e h = subst (λ (bytes : List ℕ). GatherFails a b x y bytes) e h
 
+-- Where the pending bytes are as they were, nothing was gathered.
 pub gathered_none : (a : Store) (x y : List ℕ) → y ≡ x → Gathered a a x y []
 gathered_none a x y e = record { written = []; gains = Gains-none a; parts = e ∙ sym (append-nil x) }
 
 -- all that was pending was written
 pub all_written : (a b : Store) (x y : List ℕ) (r : Result (Unit {0}) SinkFault) → y ≡ [] → WritesAll a b x r → Gathers a b x y [] r
-all_written a b x y (Ok done) e h = record { written = h.piece; gains = h.gains; parts = ap (λ (bytes : List ℕ). h.piece ++ bytes) e ∙ append-nil h.piece ∙ h.ok ∙ sym (append-nil x) }
+all_written a b x y (Ok done) e h =
+    record { written = h.piece; gains = h.gains; parts = ap (λ (bytes : List ℕ). h.piece ++ bytes) e ∙ append-nil h.piece ∙ h.ok ∙ sym (append-nil x) }
 all_written a b x y (Err bad) e h = record { piece = h.piece; gains = h.gains; prefix = (h.prefix.0, h.prefix.1 ∙ sym (append-nil x)); rises = h.err; none = e }
 
 -- ---- a step
 
-body_step : (s t : Recutter) (channel : ℕ) (payload bytes : List ℕ) → step_recutting s (Body channel payload) ≡ Ok (bytes, t) → IsStep recutting s t (body_raw channel payload) bytes
+body_step : (s t : Recutter) (channel : ℕ) (payload bytes : List ℕ)
+    → step_recutting s (Body channel payload) ≡ Ok (bytes, t) → IsStep recutting s t (body_raw channel payload) bytes
 unfolding whole_as
 body_step s t channel payload bytes e = record { frame = Body channel payload; is_whole = refl; at_level = refl; steps = e }
 
 -- what is written for a body was gathered, or not
-pub body_written : {s t : Recutter} {channel : ℕ} {payload bytes : List ℕ} (a b : Store) (x y : List ℕ) → step_recutting s (Body channel payload) ≡ Ok (bytes, t) → Gathered a b x y bytes → Writes recutting s t (body_raw channel payload) a b x y
-body_written {s = s} {t = t} {channel = channel} {payload = payload} {bytes = bytes} a b x y e h = record { bytes = bytes; step = body_step s t channel payload bytes e; gathered = h }
+pub body_written : {s t : Recutter} {channel : ℕ} {payload bytes : List ℕ} (a b : Store) (x y : List ℕ)
+    → step_recutting s (Body channel payload) ≡ Ok (bytes, t) → Gathered a b x y bytes → Writes recutting s t (body_raw channel payload) a b x y
+body_written {s = s} {t = t} {channel = channel} {payload = payload} {bytes = bytes} a b x y e h =
+    record { bytes = bytes; step = body_step s t channel payload bytes e; gathered = h }
 
-pub body_unwritten : {s t : Recutter} {channel : ℕ} {payload bytes : List ℕ} (a b : Store) (x y : List ℕ) → step_recutting s (Body channel payload) ≡ Ok (bytes, t) → GatherFails a b x y bytes → WriteFails recutting s (body_raw channel payload) a b x y
-body_unwritten {s = s} {t = t} {channel = channel} {payload = payload} {bytes = bytes} a b x y e h = record { bytes = bytes; next = t; step = body_step s t channel payload bytes e; failed = h }
+-- Where gathering the bytes that a body is replaced by fails, writing for its frame fails.
+pub body_unwritten : {s t : Recutter} {channel : ℕ} {payload bytes : List ℕ} (a b : Store) (x y : List ℕ)
+    → step_recutting s (Body channel payload) ≡ Ok (bytes, t) → GatherFails a b x y bytes → WriteFails recutting s (body_raw channel payload) a b x y
+body_unwritten {s = s} {t = t} {channel = channel} {payload = payload} {bytes = bytes} a b x y e h =
+    record { bytes = bytes; next = t; step = body_step s t channel payload bytes e; failed = h }
 
 -- and then some of what is pending was written
-pub settled : {s t : Recutter} {raw : Raw} {a b : Store} {x y : List ℕ} (c : Store) (z : List ℕ) → Writes recutting s t raw a b x y → Gathered b c y z [] → Writes recutting s t raw a c x z
-settled {a = a} {x = x} c z h g = record { bytes = h.bytes; step = h.step; gathered = subst (λ (bytes : List ℕ). Gathered a c x z bytes) (append-nil h.bytes) (gathered_then h.gathered g) }
+pub settled : {s t : Recutter} {raw : Raw} {a b : Store} {x y : List ℕ} (c : Store) (z : List ℕ)
+    → Writes recutting s t raw a b x y → Gathered b c y z [] → Writes recutting s t raw a c x z
+settled {a = a} {x = x} c z h g =
+    record { bytes = h.bytes; step = h.step; gathered = subst (λ (bytes : List ℕ). Gathered a c x z bytes) (append-nil h.bytes) (gathered_then h.gathered g) }
 
-pub unsettled : {s t : Recutter} {raw : Raw} {a b : Store} {x y : List ℕ} (c : Store) (z : List ℕ) → Writes recutting s t raw a b x y → GatherFails b c y z [] → WriteFails recutting s raw a c x z
-unsettled {t = t} {a = a} {x = x} c z h g = record { bytes = h.bytes; next = t; step = h.step; failed = subst (λ (bytes : List ℕ). GatherFails a c x z bytes) (append-nil h.bytes) (gather_fails_later h.gathered g) }
+-- Where a frame was written, and what is done after it fails without more bytes, writing for the frame fails.
+pub unsettled : {s t : Recutter} {raw : Raw} {a b : Store} {x y : List ℕ} (c : Store) (z : List ℕ)
+    → Writes recutting s t raw a b x y → GatherFails b c y z [] → WriteFails recutting s raw a c x z
+unsettled {t = t} {a = a} {x = x} c z h g = record {
+  bytes = h.bytes;
+  next = t;
+  step = h.step;
+  failed = subst (λ (bytes : List ℕ). GatherFails a c x z bytes) (append-nil h.bytes) (gather_fails_later h.gathered g);
+}

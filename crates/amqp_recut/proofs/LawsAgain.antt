@@ -1,5 +1,6 @@
 -- Frames recut again: bodies that are cut stay, and the last of two sizes counts.
-use Rattle.std.proofs.Common.{◌≡◌, ℕ, ◌+◌, ◌*◌, ◌/◌, ◌<◌, ◌≤◌, Bool, true, false, eqb, leb, List, [], ◌∷◌, ◌++◌, length, map, refl, sym, ap, ap₂, subst, ◌∙◌, arith, inl, inr}
+use Rattle.std.proofs.Common.{◌≡◌, ℕ, ◌+◌, ◌*◌, ◌/◌, ◌<◌, ◌≤◌, Bool, true, false, eqb, leb, List, [], ◌∷◌, ◌++◌, length, map, refl, sym, ap}
+use Rattle.std.proofs.Common.{ap₂, subst, ◌∙◌, arith, inl, inr}
 use Rattle.std.specs.List.{flat_map}
 use Rattle.std.proofs.lemmas.Bool.{cases_eq, eqb-false}
 use Rattle.std.proofs.lemmas.Bool.Decides.{nat_tests}
@@ -34,16 +35,22 @@ IsWhole size (At Nothing) = Unit {0}
 IsWhole size (At (Opened opening)) = Unit {0}
 IsWhole size Lost = Unit {0}
 
-piece_stays : (size : ℕ) (opening header : Frame) (bodies : List Frame) (content : List ℕ) (ends : Bool) → 1 ≤ size → left_over size (joined bodies) ≡ [] → IsPiece size (At (Headed opening header bodies)) content → eqb (bytes_in outline_of bodies + length content) (size_in (outline_of header)) ≡ ends → pieces_brought size ends (joined bodies) content ≡ content ∷ []
+piece_stays : (size : ℕ) (opening header : Frame) (bodies : List Frame) (content : List ℕ) (ends : Bool)
+    → 1 ≤ size → left_over size (joined bodies) ≡ [] → IsPiece size (At (Headed opening header bodies)) content
+    → eqb (bytes_in outline_of bodies + length content) (size_in (outline_of header)) ≡ ends → pieces_brought size ends (joined bodies) content ≡ content ∷ []
 piece_stays size opening header bodies content true some none piece e =
     brought size true (joined bodies) content some ∙ ap (λ l. pieces size (l ++ content)) none ∙ given-ended size content some piece.0 (omega (arith, piece.1))
 piece_stays size opening header bodies content false some none piece e =
-    let goes : (bytes_in outline_of bodies + length content ≡ size_in (outline_of header)) → ⊥ = eqb-false (bytes_in outline_of bodies + length content) (size_in (outline_of header)) e in
+    let goes : (bytes_in outline_of bodies + length content ≡ size_in (outline_of header)) → ⊥ =
+    eqb-false (bytes_in outline_of bodies + length content) (size_in (outline_of header)) e in
     let long : length content ≡ size = grind (arith, piece.0, piece.1, goes) in
     brought size false (joined bodies) content some ∙ ap (λ l. whole_pieces size (l ++ content)) none ∙ one-whole size content some long
 
-frame_stays : (size : ℕ) (state : State Frame) (frame : Frame) → 1 ≤ size → IsWhole size state → IsCut size state frame → frame_recut size state frame ≡ frame ∷ []
-frame_stays size (At (Headed opening header bodies)) (Body channel content) some whole cut = ap (λ ps. map (λ part. Body channel part) ps) (piece_stays size opening header bodies content (eqb (bytes_in outline_of bodies + length content) (size_in (outline_of header))) some whole cut refl)
+frame_stays : (size : ℕ) (state : State Frame) (frame : Frame) → 1 ≤ size
+    → IsWhole size state → IsCut size state frame → frame_recut size state frame ≡ frame ∷ []
+frame_stays size (At (Headed opening header bodies)) (Body channel content) some whole cut =
+    ap (λ ps. map (λ part. Body channel part) ps)
+    (piece_stays size opening header bodies content (eqb (bytes_in outline_of bodies + length content) (size_in (outline_of header))) some whole cut refl)
 frame_stays size (At Nothing) (Body channel content) some whole cut = refl
 frame_stays size (At (Opened opening)) (Body channel content) some whole cut = refl
 frame_stays size Lost (Body channel content) some whole cut = refl
@@ -53,24 +60,32 @@ frame_stays size state (Head channel header) some whole cut = refl
 frame_stays size state Beat some whole cut = refl
 frame_stays size state (BadBeat channel) some whole cut = refl
 
-whole_method : (size channel : ℕ) (m : Method) (opens : Bool) → is_opening_id m.class m.id ≡ opens → IsWhole size (step outline_of greatest (At Nothing) (Meth channel m)).1
+whole_method : (size channel : ℕ) (m : Method) (opens : Bool) → is_opening_id m.class m.id ≡ opens
+    → IsWhole size (step outline_of greatest (At Nothing) (Meth channel m)).1
 whole_method size channel m true e = rw e tt
 whole_method size channel m false e = rw e tt
 
-whole_header : (size : ℕ) (opening : Frame) (channel : ℕ) (header : ContentHeader) (basic fits none : Bool) → eqb header.class_id 60 ≡ basic → leb header.body_size greatest ≡ fits → eqb 0 header.body_size ≡ none → IsWhole size (step outline_of greatest (At (Opened opening)) (Head channel header)).1
+whole_header : (size : ℕ) (opening : Frame) (channel : ℕ) (header : ContentHeader) (basic fits none : Bool)
+    → eqb header.class_id 60 ≡ basic → leb header.body_size greatest ≡ fits → eqb 0 header.body_size ≡ none
+    → IsWhole size (step outline_of greatest (At (Opened opening)) (Head channel header)).1
 whole_header size opening channel header false fits none basic fit done = rw basic tt
 whole_header size opening channel header true false none basic fit done = rw basic (rw fit tt)
 whole_header size opening channel header true true true basic fit done = rw basic (rw fit (rw done tt))
 whole_header size opening channel header true true false basic fit done = rw basic (rw fit (rw done (drop_all ((0 / size) * size) [] (omega arith))))
 
-left_whole : (size : ℕ) (bodies : List Frame) (channel : ℕ) (content : List ℕ) → 1 ≤ size → left_over size (joined bodies) ≡ [] → length content ≡ size → left_over size (joined (bodies ++ Body channel content ∷ [])) ≡ []
+left_whole : (size : ℕ) (bodies : List Frame) (channel : ℕ) (content : List ℕ) → 1 ≤ size → left_over size (joined bodies) ≡ []
+    → length content ≡ size → left_over size (joined (bodies ++ Body channel content ∷ [])) ≡ []
 left_whole size bodies channel content some none long =
     ap (left_over size) (joined-push bodies (Body channel content))
     ∙ sym (left-more size (joined bodies) content some)
     ∙ ap (λ l. left_over size (l ++ content)) none
     ∙ left-none size content some long
 
-whole_body : (size : ℕ) (opening header : Frame) (bodies : List Frame) (channel : ℕ) (content : List ℕ) (fits all : Bool) → 1 ≤ size → left_over size (joined bodies) ≡ [] → IsPiece size (At (Headed opening header bodies)) content → leb (bytes_in outline_of bodies + length content) (size_in (outline_of header)) ≡ fits → eqb (bytes_in outline_of bodies + length content) (size_in (outline_of header)) ≡ all → IsWhole size (step outline_of greatest (At (Headed opening header bodies)) (Body channel content)).1
+whole_body : (size : ℕ) (opening header : Frame) (bodies : List Frame) (channel : ℕ) (content : List ℕ) (fits all : Bool)
+    → 1 ≤ size → left_over size (joined bodies) ≡ [] → IsPiece size (At (Headed opening header bodies)) content
+    → leb (bytes_in outline_of bodies + length content) (size_in (outline_of header)) ≡ fits
+    → eqb (bytes_in outline_of bodies + length content) (size_in (outline_of header)) ≡ all
+    → IsWhole size (step outline_of greatest (At (Headed opening header bodies)) (Body channel content)).1
 whole_body size opening header bodies channel content false all some none piece fit done = rw fit tt
 whole_body size opening header bodies channel content true true some none piece fit done = rw fit (rw done tt)
 whole_body size opening header bodies channel content true false some none piece fit done =
@@ -78,21 +93,24 @@ whole_body size opening header bodies channel content true false some none piece
     let long : length content ≡ size = omega (arith, piece.1, less) in
     rw fit (rw done (left_whole size bodies channel content some none long))
 
-whole_step : (size : ℕ) (state : State Frame) (frame : Frame) → 1 ≤ size → IsWhole size state → IsCut size state frame → IsWhole size (step outline_of greatest state frame).1
+whole_step : (size : ℕ) (state : State Frame) (frame : Frame) → 1 ≤ size → IsWhole size state
+    → IsCut size state frame → IsWhole size (step outline_of greatest state frame).1
 whole_step size (At Nothing) (Meth channel m) some whole cut = whole_method size channel m (is_opening_id m.class m.id) refl
 whole_step size (At Nothing) (Head channel header) some whole cut = tt
 whole_step size (At Nothing) (Body channel content) some whole cut = tt
 whole_step size (At Nothing) (Proto major minor revision) some whole cut = tt
 whole_step size (At Nothing) Beat some whole cut = tt
 whole_step size (At Nothing) (BadBeat channel) some whole cut = tt
-whole_step size (At (Opened opening)) (Head channel header) some whole cut = whole_header size opening channel header (eqb header.class_id 60) (leb header.body_size greatest) (eqb 0 header.body_size) refl refl refl
+whole_step size (At (Opened opening)) (Head channel header) some whole cut =
+    whole_header size opening channel header (eqb header.class_id 60) (leb header.body_size greatest) (eqb 0 header.body_size) refl refl refl
 whole_step size (At (Opened opening)) (Meth channel m) some whole cut = tt
 whole_step size (At (Opened opening)) (Body channel content) some whole cut = tt
 whole_step size (At (Opened opening)) (Proto major minor revision) some whole cut = tt
 whole_step size (At (Opened opening)) Beat some whole cut = tt
 whole_step size (At (Opened opening)) (BadBeat channel) some whole cut = tt
 whole_step size (At (Headed opening header bodies)) (Body channel content) some whole cut =
-    whole_body size opening header bodies channel content (leb (bytes_in outline_of bodies + length content) (size_in (outline_of header))) (eqb (bytes_in outline_of bodies + length content) (size_in (outline_of header))) some whole cut refl refl
+    whole_body size opening header bodies channel content (leb (bytes_in outline_of bodies + length content) (size_in (outline_of header)))
+    (eqb (bytes_in outline_of bodies + length content) (size_in (outline_of header))) some whole cut refl refl
 whole_step size (At (Headed opening header bodies)) (Meth channel m) some whole cut = tt
 whole_step size (At (Headed opening header bodies)) (Head channel second) some whole cut = tt
 whole_step size (At (Headed opening header bodies)) (Proto major minor revision) some whole cut = tt
@@ -104,16 +122,19 @@ whole_step size Lost frame some whole cut = tt
 abbrev AreWhole : ℕ → List Frame → Type 0
 AreWhole size frames = (channel : ℕ) → IsWhole size (state_on frames channel)
 
-whole_later : (size : ℕ) (earlier : List Frame) (frame : Frame) (content : Bool) → is_content (outline_of frame) ≡ content → 1 ≤ size → AreWhole size earlier → IsCut size (state_on earlier (channel_id_of frame)) frame → AreWhole size (earlier ++ frame ∷ [])
+whole_later : (size : ℕ) (earlier : List Frame) (frame : Frame) (content : Bool) → is_content (outline_of frame) ≡ content → 1 ≤ size
+    → AreWhole size earlier → IsCut size (state_on earlier (channel_id_of frame)) frame → AreWhole size (earlier ++ frame ∷ [])
 whole_later size earlier frame false e some whole cut channel = subst (IsWhole size) (sym (state_on-outside earlier frame channel e)) (whole channel)
 whole_later size earlier frame true e some whole cut channel = elim (cases_eq channel (channel_id_of frame)) [
   | inl same ↦
       subst (λ (c : ℕ). IsWhole size (state_on (earlier ++ frame ∷ []) c)) (sym same)
-      (subst (IsWhole size) (sym (state_on-own earlier frame e)) (whole_step size (state_on earlier (channel_id_of frame)) frame some (whole (channel_id_of frame)) cut))
+      (subst (IsWhole size) (sym (state_on-own earlier frame e))
+      (whole_step size (state_on earlier (channel_id_of frame)) frame some (whole (channel_id_of frame)) cut))
   | inr apart ↦ subst (IsWhole size) (sym (state_on-other earlier frame channel apart)) (whole channel)
 ]
 
-cut_here : (size : ℕ) (earlier : List Frame) (frame : Frame) (frames : List Frame) → AreCut size (earlier ++ frame ∷ frames) → IsCut size (state_on earlier (channel_id_of frame)) frame
+cut_here : (size : ℕ) (earlier : List Frame) (frame : Frame) (frames : List Frame)
+    → AreCut size (earlier ++ frame ∷ frames) → IsCut size (state_on earlier (channel_id_of frame)) frame
 cut_here size earlier (Body channel content) frames h = h earlier frames channel content refl
 cut_here size earlier (Proto major minor revision) frames h = tt
 cut_here size earlier (Meth channel m) frames h = tt
@@ -121,7 +142,8 @@ cut_here size earlier (Head channel header) frames h = tt
 cut_here size earlier Beat frames h = tt
 cut_here size earlier (BadBeat channel) frames h = tt
 
-stay_after : (size : ℕ) (earlier frames : List Frame) → 1 ≤ size → AreWhole size earlier → AreCut size (earlier ++ frames) → recut_after size earlier frames ≡ frames
+stay_after : (size : ℕ) (earlier frames : List Frame) → 1 ≤ size → AreWhole size earlier
+    → AreCut size (earlier ++ frames) → recut_after size earlier frames ≡ frames
 stay_after size earlier [] some whole h = refl
 stay_after size earlier (frame ∷ frames) some whole h =
     let cut = cut_here size earlier frame frames h in
@@ -129,24 +151,31 @@ stay_after size earlier (frame ∷ frames) some whole h =
     let rest = stay_after size (earlier ++ frame ∷ []) frames some next (subst (AreCut size) (sym (append_assoc earlier (frame ∷ []) frames)) h) in
     ap₂ (λ xs ys. xs ++ ys) (frame_stays size (state_on earlier (channel_id_of frame)) frame some (whole (channel_id_of frame)) cut) rest
 
+-- Recutting leaves frames whose bodies are cut to the size.
 pub cut_bodies_stay : (size : ℕ) (frames : List Frame) → 1 ≤ size → AreCut size frames → recut size frames ≡ frames
 cut_bodies_stay size frames some cut = stay_after size [] frames some (λ channel. tt) cut
 
 -- ---- recut again
 
+-- Recutting frames in turn twice at one size is recutting them once.
 pub twice_is_once : (size : ℕ) (frames : List Frame) → 1 ≤ size → AreInTurn frames → recut size (recut size frames) ≡ recut size frames
 twice_is_once size frames some turn = cut_bodies_stay size (recut size frames) some (bodies_are_cut size frames some turn)
 
 nothing_begun : (xs : List Frame) (h : IsInTurn outline_of greatest xs) → run_state outline_of greatest (At Nothing) xs ≡ At Nothing → h.begun ≡ Nothing
 nothing_begun xs h e =
-    let at : At h.begun ≡ At Nothing = sym (turn_runs outline_of greatest h.units h.begun h.finished h.is_begun).state_is ∙ sym (ap (run_state outline_of greatest (At Nothing)) h.are) ∙ e in
+    let at : At h.begun ≡ At Nothing =
+    sym (turn_runs outline_of greatest h.units h.begun h.finished h.is_begun).state_is ∙ sym (ap (run_state outline_of greatest (At Nothing)) h.are) ∙ e in
     cc
 
-pub last_size_counts : (first last : ℕ) (frames : List Frame) → 1 ≤ first → 1 ≤ last → AreInTurn frames → NoneIsOpen frames → (channel : ℕ) → of_channel outline_of channel (recut last (recut first frames)) ≡ of_channel outline_of channel (recut last frames)
+-- Where frames in turn, with no message open, are recut at two sizes one after the other, the last size counts on each channel.
+pub last_size_counts : (first last : ℕ) (frames : List Frame) → 1 ≤ first → 1 ≤ last → AreInTurn frames → NoneIsOpen frames
+    → (channel : ℕ) → of_channel outline_of channel (recut last (recut first frames)) ≡ of_channel outline_of channel (recut last frames)
 last_size_counts first last frames some more turn none channel =
     let h = turn channel in
     let made = is_remade first channel frames some h in
-    let ended : h.begun ≡ Nothing = nothing_begun (of_channel outline_of channel frames) h (sym (stands_run outline_of greatest (of_channel outline_of channel frames) (At Nothing) (none channel))) in
+    let ended : h.begun ≡ Nothing =
+    nothing_begun (of_channel outline_of channel frames) h
+    (sym (stands_run outline_of greatest (of_channel outline_of channel frames) (At Nothing) (none channel))) in
     by_units last channel (recut first frames) more made.turn
     ∙ ap₂ (λ us b. flat_map (unit_recut last channel) us ++ begun_recut last channel b) made.units_are (made.begun_is ∙ made.begun.nothing ended ∙ sym ended)
     ∙ ap (λ fs. fs ++ begun_recut last channel h.begun) (made.units.again last)

@@ -13,7 +13,8 @@ use Rattle.amqp_recut.proofs.LawsChannels.{recut_on, channel_recut, AreCutAfter,
 use Rattle.amqp_recut.proofs.LawsUnits.{unit_recut, begun_recut, units_cut, AllRemade, all_remade, BegunRemade, begun_remade}
 
 -- the frames of a channel, recut, by its units
-pub by_units : (size channel : ℕ) (frames : List Frame) → 1 ≤ size → (h : IsInTurn outline_of greatest (of_channel outline_of channel frames)) → of_channel outline_of channel (recut size frames) ≡ flat_map (unit_recut size channel) h.units ++ begun_recut size channel h.begun
+pub by_units : (size channel : ℕ) (frames : List Frame) → 1 ≤ size → (h : IsInTurn outline_of greatest (of_channel outline_of channel frames))
+    → of_channel outline_of channel (recut size frames) ≡ flat_map (unit_recut size channel) h.units ++ begun_recut size channel h.begun
 by_units size channel frames some h =
     recut_on size channel frames
     ∙ ap (channel_recut size (At Nothing)) h.are
@@ -27,7 +28,9 @@ pub record IsRemade (size channel : ℕ) (frames : List Frame) (h : IsInTurn out
   pub units_are : turn.units ≡ units.made
   pub begun_is : turn.begun ≡ begun.made
 
-pub is_remade : (size channel : ℕ) (frames : List Frame) → 1 ≤ size → (h : IsInTurn outline_of greatest (of_channel outline_of channel frames)) → IsRemade size channel frames h
+-- The frames of a channel in turn, recut, are its units recut one by one, with the same messages.
+pub is_remade : (size channel : ℕ) (frames : List Frame) → 1 ≤ size
+    → (h : IsInTurn outline_of greatest (of_channel outline_of channel frames)) → IsRemade size channel frames h
 is_remade size channel frames some h =
     let on = subst (AllByRecursion (IsOn channel)) h.are (all_on channel frames) in
     let units = all_remade size channel h.units some h.finished (all_front (IsOn channel) (flat_map finished_frames h.units) (begun_frames h.begun) on) in
@@ -46,10 +49,13 @@ is_remade size channel frames some h =
       begun_is = refl;
     }
 
+-- Frames in turn are in turn when they are recut.
 pub stays_in_turn : (size : ℕ) (frames : List Frame) → 1 ≤ size → AreInTurn frames → AreInTurn (recut size frames)
 stays_in_turn size frames some turn channel = (is_remade size channel frames some (turn channel)).turn
 
-pub messages_stay : (size : ℕ) (frames : List Frame) → 1 ≤ size → AreInTurn frames → (channel : ℕ) → messages_on channel (recut size frames) ≡ messages_on channel frames
+-- Frames in turn have the same messages on each channel when they are recut.
+pub messages_stay : (size : ℕ) (frames : List Frame) → 1 ≤ size → AreInTurn frames
+    → (channel : ℕ) → messages_on channel (recut size frames) ≡ messages_on channel frames
 messages_stay size frames some turn channel =
     let h = turn channel in
     let made = is_remade size channel frames some h in
@@ -59,6 +65,7 @@ messages_stay size frames some turn channel =
     ∙ made.units.same
     ∙ sym (turn_done (of_channel outline_of channel frames) h)
 
+-- The bodies of frames in turn are cut to the size when these are recut.
 pub bodies_are_cut : (size : ℕ) (frames : List Frame) → 1 ≤ size → AreInTurn frames → AreCut size (recut size frames)
 bodies_are_cut size frames some turn = are_cut size (recut size frames) (λ channel. on_channel channel (is_remade size channel frames some (turn channel)))
   where

@@ -1,5 +1,6 @@
 -- Bodies of one message after another, recut: the pieces of their joined bytes.
-use Rattle.std.proofs.Common.{◌≡◌, ℕ, ◌+◌, ◌<◌, ◌≤◌, zero, suc, Bool, true, false, eqb, ltb, List, [], ◌∷◌, ◌++◌, length, map, take, drop, refl, sym, ap, ap₂, subst, ◌∙◌, arith}
+use Rattle.std.proofs.Common.{◌≡◌, ℕ, ◌+◌, ◌<◌, ◌≤◌, zero, suc, Bool, true, false, eqb, ltb, List, [], ◌∷◌, ◌++◌, length, map, take, drop, refl}
+use Rattle.std.proofs.Common.{sym, ap, ap₂, subst, ◌∙◌, arith}
 use Rattle.std.specs.List.{AllByRecursion, flat_map}
 use Rattle.std.proofs.lemmas.Bool.Decides.{nat_tests}
 use Rattle.std.proofs.lemmas.List.{append-nil, append_assoc, length-drop, length-take-le, length-append, map-append}
@@ -23,23 +24,29 @@ use Rattle.amqp_recut.proofs.LawsChannels.{channel_recut, AreCutAfter}
 
 -- ---- bodies with these bytes
 
+-- the body frames on a channel with these parts
 abbrev pub bodies_with : ℕ → List (List ℕ) → List Frame
 bodies_with channel parts = map (λ part. Body channel part) parts
 
+-- parts, joined
 abbrev pub flat : List (List ℕ) → List ℕ
 flat parts = flat_map (λ part. part) parts
 
+-- The joined bytes of body frames are their parts joined.
 pub joined_bodies : (channel : ℕ) (parts : List (List ℕ)) → joined (bodies_with channel parts) ≡ flat parts
 joined_bodies channel [] = refl
 joined_bodies channel (part ∷ parts) = ap (λ bs. part ++ bs) (joined_bodies channel parts)
 
+-- Body frames carry as many bytes as their parts joined.
 pub bytes_bodies : (channel : ℕ) (parts : List (List ℕ)) → bytes_in outline_of (bodies_with channel parts) ≡ length (flat parts)
 bytes_bodies channel parts = sym (length-joined (bodies_with channel parts)) ∙ ap length (joined_bodies channel parts)
 
+-- Body frames with parts are all bodies.
 pub all_bodies : (channel : ℕ) (parts : List (List ℕ)) → AllByRecursion (λ x. IsBody (outline_of x)) (bodies_with channel parts)
 all_bodies channel [] = tt
 all_bodies channel (part ∷ parts) = (tt, all_bodies channel parts)
 
+-- With one part more at the end, the parts joined are those before joined, and this part.
 pub flat_push : (parts : List (List ℕ)) (part : List ℕ) → flat (parts ++ part ∷ []) ≡ flat parts ++ part
 flat_push [] part = append-nil part
 flat_push (p ∷ ps) part = ap (λ bs. p ++ bs) (flat_push ps part) ∙ sym (append_assoc p (flat ps) part)
@@ -51,32 +58,49 @@ module _ (size channel : ℕ) (opening header : Frame) (some : 1 ≤ size) where
   abbrev headed : List Frame → State Frame
   headed bodies = At (Headed opening header bodies)
 
-  grown : (before : List Frame) (part : List ℕ) → bytes_in outline_of before + length part < size_in (outline_of header) → (step outline_of greatest (headed before) (Body channel part)).1 ≡ headed (before ++ Body channel part ∷ [])
-  grown before part less = ap (λ (p : Answer Frame × State Frame). p.1) (body_step outline_of greatest opening header before (Body channel part) (outline_of (Body channel part)) refl tt less)
+  grown : (before : List Frame) (part : List ℕ) → bytes_in outline_of before + length part < size_in (outline_of header)
+      → (step outline_of greatest (headed before) (Body channel part)).1 ≡ headed (before ++ Body channel part ∷ [])
+  grown before part less =
+      ap (λ (p : Answer Frame × State Frame). p.1)
+      (body_step outline_of greatest opening header before (Body channel part) (outline_of (Body channel part)) refl tt less)
 
-  ended : (before : List Frame) (part : List ℕ) → bytes_in outline_of before + length part ≡ size_in (outline_of header) → (step outline_of greatest (headed before) (Body channel part)).1 ≡ At Nothing
-  ended before part all = ap (λ (p : Answer Frame × State Frame). p.1) (last_step outline_of greatest opening header before (Body channel part) (outline_of (Body channel part)) refl tt all)
+  ended : (before : List Frame) (part : List ℕ) → bytes_in outline_of before + length part ≡ size_in (outline_of header)
+      → (step outline_of greatest (headed before) (Body channel part)).1 ≡ At Nothing
+  ended before part all =
+      ap (λ (p : Answer Frame × State Frame). p.1)
+      (last_step outline_of greatest opening header before (Body channel part) (outline_of (Body channel part)) refl tt all)
 
   -- a body before the last
-  one_more : (before : List Frame) (part : List ℕ) (frames : List Frame) → bytes_in outline_of before + length part < size_in (outline_of header) → channel_recut size (headed before) (Body channel part ∷ frames) ≡ bodies_with channel (whole_pieces size (left_over size (joined before) ++ part)) ++ channel_recut size (headed (before ++ Body channel part ∷ [])) frames
+  one_more : (before : List Frame) (part : List ℕ) (frames : List Frame) → bytes_in outline_of before + length part < size_in (outline_of header)
+      → channel_recut size (headed before) (Body channel part ∷ frames)
+      ≡ bodies_with channel (whole_pieces size (left_over size (joined before) ++ part))
+      ++ channel_recut size (headed (before ++ Body channel part ∷ [])) frames
   one_more before part frames less =
       let goes : eqb (bytes_in outline_of before + length part) (size_in (outline_of header)) ≡ false = grind (arith, nat_tests) in
-      ap₂ (λ ps s. bodies_with channel ps ++ channel_recut size s frames) (ap (λ ends. pieces_brought size ends (joined before) part) goes ∙ brought size false (joined before) part some) (grown before part less)
+      ap₂ (λ ps s. bodies_with channel ps ++ channel_recut size s frames)
+      (ap (λ ends. pieces_brought size ends (joined before) part) goes ∙ brought size false (joined before) part some) (grown before part less)
 
   -- its pieces, and those of the bytes after it
-  pieces_more : (ends : Bool) (before : List Frame) (part bytes : List ℕ) → bodies_with channel (whole_pieces size (left_over size (joined before) ++ part)) ++ bodies_with channel (pieces_given size ends (left_over size (joined (before ++ Body channel part ∷ [])) ++ bytes)) ≡ bodies_with channel (pieces_given size ends (left_over size (joined before) ++ (part ++ bytes)))
+  pieces_more : (ends : Bool) (before : List Frame) (part bytes : List ℕ)
+      → bodies_with channel (whole_pieces size (left_over size (joined before) ++ part))
+      ++ bodies_with channel (pieces_given size ends (left_over size (joined (before ++ Body channel part ∷ [])) ++ bytes))
+      ≡ bodies_with channel (pieces_given size ends (left_over size (joined before) ++ (part ++ bytes)))
   pieces_more ends before part bytes =
       let first = left_over size (joined before) ++ part in
-      let left : left_over size (joined (before ++ Body channel part ∷ [])) ≡ left_over size first = ap (left_over size) (joined-push before (Body channel part)) ∙ sym (left-more size (joined before) part some) in
+      let left : left_over size (joined (before ++ Body channel part ∷ [])) ≡ left_over size first =
+      ap (left_over size) (joined-push before (Body channel part)) ∙ sym (left-more size (joined before) part some) in
       ap (λ l. bodies_with channel (whole_pieces size first) ++ bodies_with channel (pieces_given size ends (l ++ bytes))) left
       ∙ sym (map-append (λ p. Body channel p) (whole_pieces size first) (pieces_given size ends (left_over size first ++ bytes)))
-      ∙ ap (bodies_with channel) (given_after size ends first bytes some ∙ ap (pieces_given size ends) (append_assoc (left_over size (joined before)) part bytes))
+      ∙ ap (bodies_with channel)
+      (given_after size ends first bytes some ∙ ap (pieces_given size ends) (append_assoc (left_over size (joined before)) part bytes))
 
   -- bodies of a message that is not complete then
-  pub open_bodies : (before : List Frame) (parts : List (List ℕ)) → bytes_in outline_of before + length (flat parts) < size_in (outline_of header) → channel_recut size (headed before) (bodies_with channel parts) ≡ bodies_with channel (whole_pieces size (left_over size (joined before) ++ flat parts))
+  pub open_bodies : (before : List Frame) (parts : List (List ℕ)) → bytes_in outline_of before + length (flat parts) < size_in (outline_of header)
+      → channel_recut size (headed before) (bodies_with channel parts) ≡ bodies_with channel (whole_pieces size (left_over size (joined before) ++ flat parts))
   open_bodies before [] less =
       let short = left_short size (joined before) some in
-      let none : whole_pieces size (left_over size (joined before) ++ []) ≡ [] = whole-none size (left_over size (joined before) ++ []) (omega (arith, short, length-append (left_over size (joined before)) [])) in
+      let none : whole_pieces size (left_over size (joined before) ++ []) ≡ [] =
+      whole-none size (left_over size (joined before) ++ []) (omega (arith, short, length-append (left_over size (joined before)) [])) in
       ap (bodies_with channel) (sym none)
   open_bodies before (part ∷ parts) less =
       let total = length-append part (flat parts) in
@@ -86,11 +110,16 @@ module _ (size channel : ℕ) (opening header : Frame) (some : 1 ≤ size) where
       ∙ pieces_more false before part (flat parts)
 
   -- bodies of a message up to its last
-  pub closed_bodies : (before : List Frame) (parts : List (List ℕ)) (last : List ℕ) (frames : List Frame) → bytes_in outline_of before + length (flat parts) < size_in (outline_of header) → bytes_in outline_of before + length (flat parts) + length last ≡ size_in (outline_of header) → channel_recut size (headed before) (bodies_with channel parts ++ Body channel last ∷ frames) ≡ bodies_with channel (pieces size (left_over size (joined before) ++ (flat parts ++ last))) ++ channel_recut size (At Nothing) frames
+  pub closed_bodies : (before : List Frame) (parts : List (List ℕ)) (last : List ℕ) (frames : List Frame)
+      → bytes_in outline_of before + length (flat parts) < size_in (outline_of header)
+      → bytes_in outline_of before + length (flat parts) + length last ≡ size_in (outline_of header)
+      → channel_recut size (headed before) (bodies_with channel parts ++ Body channel last ∷ frames)
+      ≡ bodies_with channel (pieces size (left_over size (joined before) ++ (flat parts ++ last))) ++ channel_recut size (At Nothing) frames
   closed_bodies before [] last frames less all =
       let sum : bytes_in outline_of before + length last ≡ size_in (outline_of header) = omega arith in
       let ends : eqb (bytes_in outline_of before + length last) (size_in (outline_of header)) ≡ true = grind (arith, nat_tests) in
-      ap₂ (λ ps s. bodies_with channel ps ++ channel_recut size s frames) (ap (λ b. pieces_brought size b (joined before) last) ends ∙ brought size true (joined before) last some) (ended before last sum)
+      ap₂ (λ ps s. bodies_with channel ps ++ channel_recut size s frames)
+      (ap (λ b. pieces_brought size b (joined before) last) ends ∙ brought size true (joined before) last some) (ended before last sum)
   closed_bodies before (part ∷ parts) last frames less all =
       let total = length-append part (flat parts) in
       let grown = bytes_in-push outline_of before (Body channel part) in
@@ -98,8 +127,10 @@ module _ (size channel : ℕ) (opening header : Frame) (some : 1 ≤ size) where
       let end = channel_recut size (At Nothing) frames in
       one_more before part (bodies_with channel parts ++ Body channel last ∷ frames) (omega (arith, total))
       ∙ ap (λ fs. bodies_with channel (whole_pieces size (left_over size (joined before) ++ part)) ++ fs) rest
-      ∙ sym (append_assoc (bodies_with channel (whole_pieces size (left_over size (joined before) ++ part))) (bodies_with channel (pieces size (left_over size (joined (before ++ Body channel part ∷ [])) ++ (flat parts ++ last)))) end)
-      ∙ ap (λ fs. fs ++ end) (pieces_more true before part (flat parts ++ last) ∙ ap (λ bs. bodies_with channel (pieces size (left_over size (joined before) ++ bs))) (sym (append_assoc part (flat parts) last)))
+      ∙ sym (append_assoc (bodies_with channel (whole_pieces size (left_over size (joined before) ++ part)))
+      (bodies_with channel (pieces size (left_over size (joined (before ++ Body channel part ∷ [])) ++ (flat parts ++ last)))) end)
+      ∙ ap (λ fs. fs ++ end) (pieces_more true before part (flat parts ++ last)
+      ∙ ap (λ bs. bodies_with channel (pieces size (left_over size (joined before) ++ bs))) (sym (append_assoc part (flat parts) last)))
 
   -- ---- pieces are cut
 
@@ -112,47 +143,73 @@ module _ (size channel : ℕ) (opening header : Frame) (some : 1 ≤ size) where
   fits_within true n h = omega arith
   fits_within false n h = omega arith
 
-  cut_nothing : (ends : Bool) (state : State Frame) (bytes : List ℕ) → length bytes ≡ 0 → AreCutAfter size state (bodies_with channel (pieces_given size ends bytes))
-  cut_nothing ends state bytes none = subst (λ (ps : List (List ℕ)). AreCutAfter size state (bodies_with channel ps)) (sym (given-nothing size ends bytes some none)) tt
+  cut_nothing : (ends : Bool) (state : State Frame) (bytes : List ℕ) → length bytes ≡ 0
+      → AreCutAfter size state (bodies_with channel (pieces_given size ends bytes))
+  cut_nothing ends state bytes none =
+      subst (λ (ps : List (List ℕ)). AreCutAfter size state (bodies_with channel ps)) (sym (given-nothing size ends bytes some none)) tt
 
   -- the last piece, or bytes that are kept back
-  cut_short : (ends : Bool) (before : List Frame) (bytes : List ℕ) → length bytes < size → 1 ≤ length bytes → Fits ends (bytes_in outline_of before + length bytes) → AreCutAfter size (headed before) (bodies_with channel (pieces_given size ends bytes))
+  cut_short : (ends : Bool) (before : List Frame) (bytes : List ℕ) → length bytes < size → 1 ≤ length bytes
+      → Fits ends (bytes_in outline_of before + length bytes) → AreCutAfter size (headed before) (bodies_with channel (pieces_given size ends bytes))
   cut_short true before bytes less one h =
       let piece : IsPiece size (headed before) bytes = (omega arith, omega arith) in
-      subst (λ (ps : List (List ℕ)). AreCutAfter size (headed before) (bodies_with channel ps)) (sym (given-ended size bytes some one (omega arith))) (piece, tt)
-  cut_short false before bytes less one h = subst (λ (ps : List (List ℕ)). AreCutAfter size (headed before) (bodies_with channel ps)) (sym (whole-none size bytes less)) tt
+      subst (λ (ps : List (List ℕ)). AreCutAfter size (headed before) (bodies_with channel ps))
+      (sym (given-ended size bytes some one (omega arith))) (piece, tt)
+  cut_short false before bytes less one h =
+      subst (λ (ps : List (List ℕ)). AreCutAfter size (headed before) (bodies_with channel ps)) (sym (whole-none size bytes less)) tt
 
   -- what comes after a piece of the whole size
-  cut_next : (ends more : Bool) (before : List Frame) (piece bytes : List ℕ) → length piece ≡ size → ltb (bytes_in outline_of before + size) (size_in (outline_of header)) ≡ more → Fits ends (bytes_in outline_of before + (size + length bytes)) → (Fits ends (bytes_in outline_of (before ++ Body channel piece ∷ []) + length bytes) → AreCutAfter size (headed (before ++ Body channel piece ∷ [])) (bodies_with channel (pieces_given size ends bytes))) → AreCutAfter size (step outline_of greatest (headed before) (Body channel piece)).1 (bodies_with channel (pieces_given size ends bytes))
+  cut_next : (ends more : Bool) (before : List Frame) (piece bytes : List ℕ) → length piece ≡ size
+      → ltb (bytes_in outline_of before + size) (size_in (outline_of header)) ≡ more → Fits ends (bytes_in outline_of before + (size + length bytes))
+      → (Fits ends (bytes_in outline_of (before ++ Body channel piece ∷ []) + length bytes)
+      → AreCutAfter size (headed (before ++ Body channel piece ∷ [])) (bodies_with channel (pieces_given size ends bytes)))
+      → AreCutAfter size (step outline_of greatest (headed before) (Body channel piece)).1 (bodies_with channel (pieces_given size ends bytes))
   cut_next ends true before piece bytes long e h rest =
       let less : bytes_in outline_of before + length piece < size_in (outline_of header) = grind (arith, nat_tests) in
-      let same : bytes_in outline_of before + (size + length bytes) ≡ bytes_in outline_of (before ++ Body channel piece ∷ []) + length bytes = omega (arith, bytes_in-push outline_of before (Body channel piece)) in
-      subst (λ (s : State Frame). AreCutAfter size s (bodies_with channel (pieces_given size ends bytes))) (sym (grown before piece less)) (rest (subst (Fits ends) same h))
+      let same : bytes_in outline_of before + (size + length bytes) ≡ bytes_in outline_of (before ++ Body channel piece ∷ []) + length bytes =
+      omega (arith, bytes_in-push outline_of before (Body channel piece)) in
+      subst (λ (s : State Frame). AreCutAfter size s (bodies_with channel (pieces_given size ends bytes)))
+      (sym (grown before piece less)) (rest (subst (Fits ends) same h))
   cut_next ends false before piece bytes long e h rest =
       let within = fits_within ends (bytes_in outline_of before + (size + length bytes)) h in
       let over : size_in (outline_of header) ≤ bytes_in outline_of before + size = grind (arith, nat_tests) in
       cut_nothing ends (step outline_of greatest (headed before) (Body channel piece)).1 bytes (omega arith)
 
-  cut_long : (ends : Bool) (before : List Frame) (bytes : List ℕ) → size ≤ length bytes → Fits ends (bytes_in outline_of before + length bytes) → ((next : List Frame) → Fits ends (bytes_in outline_of next + length (drop size bytes)) → AreCutAfter size (headed next) (bodies_with channel (pieces_given size ends (drop size bytes)))) → AreCutAfter size (headed before) (bodies_with channel (pieces_given size ends bytes))
+  cut_long : (ends : Bool) (before : List Frame) (bytes : List ℕ) → size ≤ length bytes → Fits ends (bytes_in outline_of before + length bytes)
+      → ((next : List Frame) → Fits ends (bytes_in outline_of next + length (drop size bytes))
+      → AreCutAfter size (headed next) (bodies_with channel (pieces_given size ends (drop size bytes))))
+      → AreCutAfter size (headed before) (bodies_with channel (pieces_given size ends bytes))
   cut_long ends before bytes fits h rest =
       let first = take size bytes in
       let within = fits_within ends (bytes_in outline_of before + length bytes) h in
       let long : length first ≡ size = length-take-le size bytes fits in
       let piece : IsPiece size (headed before) first = (omega arith, omega arith) in
-      let same : bytes_in outline_of before + length bytes ≡ bytes_in outline_of before + (size + length (drop size bytes)) = omega (arith, length-drop size bytes) in
-      subst (λ (ps : List (List ℕ)). AreCutAfter size (headed before) (bodies_with channel ps)) (sym (given-more size ends bytes some fits))
-      (piece, cut_next ends (ltb (bytes_in outline_of before + size) (size_in (outline_of header))) before first (drop size bytes) long refl (subst (Fits ends) same h) (rest (before ++ Body channel first ∷ [])))
+      let same : bytes_in outline_of before + length bytes ≡ bytes_in outline_of before + (size + length (drop size bytes)) =
+      omega (arith, length-drop size bytes) in
+      subst (λ (ps : List (List ℕ)). AreCutAfter size (headed before) (bodies_with channel ps)) (sym (given-more size ends bytes some fits)) (
+        piece,
+        cut_next ends (ltb (bytes_in outline_of before + size) (size_in (outline_of header))) before first
+            (drop size bytes) long refl (subst (Fits ends) same h) (rest (before ++ Body channel first ∷ [])),
+      )
 
-  cut_within : (ends : Bool) (fuel : ℕ) (before : List Frame) (bytes : List ℕ) → length bytes ≤ fuel → Fits ends (bytes_in outline_of before + length bytes) → AreCutAfter size (headed before) (bodies_with channel (pieces_given size ends bytes))
+  cut_within : (ends : Bool) (fuel : ℕ) (before : List Frame) (bytes : List ℕ) → length bytes ≤ fuel
+      → Fits ends (bytes_in outline_of before + length bytes) → AreCutAfter size (headed before) (bodies_with channel (pieces_given size ends bytes))
   cut_within ends zero before bytes enough h = cut_nothing ends (headed before) bytes (omega arith)
-  cut_within ends (suc fuel) before bytes enough h = by_length (ltb (length bytes) size) (ltb 0 (length bytes)) refl refl (λ (small : length (drop size bytes) ≤ fuel) (next : List Frame). cut_within ends fuel next (drop size bytes) small)
+  cut_within ends (suc fuel) before bytes enough h =
+      by_length (ltb (length bytes) size) (ltb 0 (length bytes)) refl refl
+      (λ (small : length (drop size bytes) ≤ fuel) (next : List Frame). cut_within ends fuel next (drop size bytes) small)
     where
-      by_length : (less one : Bool) → ltb (length bytes) size ≡ less → ltb 0 (length bytes) ≡ one → (length (drop size bytes) ≤ fuel → (next : List Frame) → Fits ends (bytes_in outline_of next + length (drop size bytes)) → AreCutAfter size (headed next) (bodies_with channel (pieces_given size ends (drop size bytes)))) → AreCutAfter size (headed before) (bodies_with channel (pieces_given size ends bytes))
+      by_length : (less one : Bool) → ltb (length bytes) size ≡ less → ltb 0 (length bytes) ≡ one
+          → (length (drop size bytes) ≤ fuel → (next : List Frame) → Fits ends (bytes_in outline_of next + length (drop size bytes))
+          → AreCutAfter size (headed next) (bodies_with channel (pieces_given size ends (drop size bytes))))
+          → AreCutAfter size (headed before) (bodies_with channel (pieces_given size ends bytes))
       by_length false one e f rest =
           let fits : size ≤ length bytes = grind (arith, nat_tests) in
           cut_long ends before bytes fits h (rest (omega (arith, length-drop size bytes)))
       by_length true true e f rest = cut_short ends before bytes (grind (arith, nat_tests)) (grind (arith, nat_tests)) h
       by_length true false e f rest = cut_nothing ends (headed before) bytes (grind (arith, nat_tests))
 
-  pub cut_given : (ends : Bool) (before : List Frame) (bytes : List ℕ) → Fits ends (bytes_in outline_of before + length bytes) → AreCutAfter size (headed before) (bodies_with channel (pieces_given size ends bytes))
+  -- The body frames with the pieces of what is still to come of a message are cut to the size.
+  pub cut_given : (ends : Bool) (before : List Frame) (bytes : List ℕ) → Fits ends (bytes_in outline_of before + length bytes)
+      → AreCutAfter size (headed before) (bodies_with channel (pieces_given size ends bytes))
   cut_given ends before bytes h = cut_within ends (length bytes) before bytes (omega arith) h

@@ -7,7 +7,8 @@ use Rattle.amqp_wire.specs.declared.outline.FrameOutline.{FrameOutline}
 use Rattle.amqp_wire.specs.declared.outline.FrameOutline.TheVariants as outlines
 use Rattle.amqp_wire.specs.Frames.{Frame, Proto, Meth, Head, Body, Beat, BadBeat, channel_id_of}
 use Rattle.amqp_wire.specs.Outlines.{outline_of}
-use Rattle.amqp_turns.specs.Units.{Finished, Lone, Empty, Full, Begun, Nothing, Opened, Headed, IsOpening, IsOtherMethod, IsBasicHeader, IsBody, size_in, count_in, bytes_in, begun_frames, finished_frames, frames_in, IsBegun, IsFinished}
+use Rattle.amqp_turns.specs.Units.{Finished, Lone, Empty, Full, Begun, Nothing, Opened, Headed, IsOpening, IsOtherMethod, IsBasicHeader, IsBody, size_in}
+use Rattle.amqp_turns.specs.Units.{count_in, bytes_in, begun_frames, finished_frames, frames_in, IsBegun, IsFinished}
 use Rattle.amqp_turns.specs.Answers.{Answer, finished_answers}
 use Rattle.amqp_turns.specs.Stands.{State, At}
 use Rattle.amqp_turns.specs.Steps.{step, run_state}
@@ -77,10 +78,12 @@ itself_cut size state Beat h = tt
 itself_cut size state (BadBeat channel) h = tt
 
 -- such a frame first
-recut_first : (size : ℕ) (state next : State Frame) (frame : Frame) (frames : List Frame) → IsNoBody frame → (step outline_of greatest state frame).1 ≡ next → channel_recut size state (frame ∷ frames) ≡ frame ∷ channel_recut size next frames
+recut_first : (size : ℕ) (state next : State Frame) (frame : Frame) (frames : List Frame) → IsNoBody frame
+    → (step outline_of greatest state frame).1 ≡ next → channel_recut size state (frame ∷ frames) ≡ frame ∷ channel_recut size next frames
 recut_first size state next frame frames h e = ap₂ (λ fs s. fs ++ channel_recut size s frames) (itself_recut size state frame h) e
 
-cut_first : (size : ℕ) (state next : State Frame) (frame : Frame) (frames : List Frame) → IsNoBody frame → (step outline_of greatest state frame).1 ≡ next → AreCutAfter size next frames → AreCutAfter size state (frame ∷ frames)
+cut_first : (size : ℕ) (state next : State Frame) (frame : Frame) (frames : List Frame) → IsNoBody frame
+    → (step outline_of greatest state frame).1 ≡ next → AreCutAfter size next frames → AreCutAfter size state (frame ∷ frames)
 cut_first size state next frame frames h e cut = (itself_cut size state frame h, subst (λ (s : State Frame). AreCutAfter size s frames) (sym e) cut)
 
 -- ---- bodies of one channel
@@ -93,7 +96,8 @@ body_is channel (Head other header) h on = absurd h
 body_is channel Beat h on = absurd h
 body_is channel (BadBeat other) h on = absurd h
 
-bodies_are : (channel : ℕ) (frames : List Frame) → AllByRecursion (λ x. IsBody (outline_of x)) frames → AllByRecursion (IsOn channel) frames → frames ≡ bodies_with channel (map bytes_of frames)
+bodies_are : (channel : ℕ) (frames : List Frame) → AllByRecursion (λ x. IsBody (outline_of x)) frames
+    → AllByRecursion (IsOn channel) frames → frames ≡ bodies_with channel (map bytes_of frames)
 bodies_are channel [] h on = refl
 bodies_are channel (frame ∷ frames) h on = ap₂ (λ f fs. f ∷ fs) (body_is channel frame h.0 on.0) (bodies_are channel frames h.1 on.1)
 
@@ -117,10 +121,14 @@ none_left_over size bytes = ap (λ l. l ++ bytes) (drop_all ((0 / size) * size) 
 
 -- ---- a unit recut
 
-unit_cut : (size channel : ℕ) (unit : Finished Frame) (frames : List Frame) → 1 ≤ size → IsFinished outline_of greatest unit → AllByRecursion (IsOn channel) (finished_frames unit) → channel_recut size (At Nothing) (finished_frames unit ++ frames) ≡ unit_recut size channel unit ++ channel_recut size (At Nothing) frames
-unit_cut size channel (Lone method) frames some h on = recut_first size (At Nothing) (At Nothing) method frames (other_no_body (outline_of method) h) (finished_runs outline_of greatest (Lone method) h).state_is
+unit_cut : (size channel : ℕ) (unit : Finished Frame) (frames : List Frame) → 1 ≤ size
+    → IsFinished outline_of greatest unit → AllByRecursion (IsOn channel) (finished_frames unit)
+    → channel_recut size (At Nothing) (finished_frames unit ++ frames) ≡ unit_recut size channel unit ++ channel_recut size (At Nothing) frames
+unit_cut size channel (Lone method) frames some h on =
+    recut_first size (At Nothing) (At Nothing) method frames (other_no_body (outline_of method) h) (finished_runs outline_of greatest (Lone method) h).state_is
 unit_cut size channel (Empty opening header) frames some h on =
-    let closes : (step outline_of greatest (At (Opened opening)) header).1 ≡ At Nothing = ap (λ (p : Answer Frame × State Frame). p.1) (empty_step outline_of greatest opening header (outline_of header) refl h.1 h.2) in
+    let closes : (step outline_of greatest (At (Opened opening)) header).1 ≡ At Nothing =
+    ap (λ (p : Answer Frame × State Frame). p.1) (empty_step outline_of greatest opening header (outline_of header) refl h.1 h.2) in
     recut_first size (At Nothing) (At (Opened opening)) opening (header ∷ frames) (opening_no_body (outline_of opening) h.0) (opened opening h.0)
     ∙ ap (λ fs. opening ∷ fs) (recut_first size (At (Opened opening)) (At Nothing) header frames (header_no_body (outline_of header) h.1) closes)
 unit_cut size channel (Full opening header bodies last) frames some h on =
@@ -129,37 +137,50 @@ unit_cut size channel (Full opening header bodies last) frames some h on =
     let long : 0 < n = omega (arith, h.0.4) in
     let are : bodies ≡ bodies_with channel parts = bodies_are channel bodies h.0.3 (all_front (IsOn channel) bodies (last ∷ []) on.1.1) in
     let is : last ≡ Body channel (bytes_of last) = body_is channel last h.1 (all_back (IsOn channel) bodies (last ∷ []) on.1.1).0 in
-    let all : (bodies ++ last ∷ []) ++ frames ≡ bodies_with channel parts ++ Body channel (bytes_of last) ∷ frames = append_assoc bodies (last ∷ []) frames ∙ ap₂ (λ bs l. bs ++ l ∷ frames) are is in
-    let bytes : left_over size [] ++ (flat parts ++ bytes_of last) ≡ joined (bodies ++ last ∷ []) = none_left_over size (flat parts ++ bytes_of last) ∙ ap (λ bs. bs ++ bytes_of last) (flat_bytes bodies) ∙ sym (joined-push bodies last) in
-    recut_first size (At Nothing) (At (Opened opening)) opening (header ∷ ((bodies ++ last ∷ []) ++ frames)) (opening_no_body (outline_of opening) h.0.0) (opened opening h.0.0)
-    ∙ ap (λ fs. opening ∷ fs) (recut_first size (At (Opened opening)) (At (Headed opening header [])) header ((bodies ++ last ∷ []) ++ frames) (header_no_body (outline_of header) h.0.1) (headed_by opening header h.0.1 h.0.2 long))
+    let all : (bodies ++ last ∷ []) ++ frames ≡ bodies_with channel parts ++ Body channel (bytes_of last) ∷ frames =
+    append_assoc bodies (last ∷ []) frames ∙ ap₂ (λ bs l. bs ++ l ∷ frames) are is in
+    let bytes : left_over size [] ++ (flat parts ++ bytes_of last) ≡ joined (bodies ++ last ∷ []) =
+    none_left_over size (flat parts ++ bytes_of last) ∙ ap (λ bs. bs ++ bytes_of last) (flat_bytes bodies) ∙ sym (joined-push bodies last) in
+    recut_first size (At Nothing) (At (Opened opening)) opening (header ∷ ((bodies ++ last ∷ []) ++ frames))
+    (opening_no_body (outline_of opening) h.0.0) (opened opening h.0.0)
+    ∙ ap (λ fs. opening ∷ fs) (recut_first size (At (Opened opening)) (At (Headed opening header [])) header
+    ((bodies ++ last ∷ []) ++ frames) (header_no_body (outline_of header) h.0.1) (headed_by opening header h.0.1 h.0.2 long))
     ∙ ap (λ fs. opening ∷ header ∷ channel_recut size (At (Headed opening header [])) fs) all
-    ∙ ap (λ fs. opening ∷ header ∷ fs) (closed_bodies size channel opening header some [] parts (bytes_of last) frames (omega (arith, h.0.4, flat_length bodies)) (omega (arith, h.2, flat_length bodies, body_count last)))
+    ∙ ap (λ fs. opening ∷ header ∷ fs) (closed_bodies size channel opening header some [] parts (bytes_of last) frames
+    (omega (arith, h.0.4, flat_length bodies)) (omega (arith, h.2, flat_length bodies, body_count last)))
     ∙ ap (λ bs. opening ∷ header ∷ (bodies_with channel (pieces size bs) ++ channel_recut size (At Nothing) frames)) bytes
 
-begun_cut : (size channel : ℕ) (begun : Begun Frame) → 1 ≤ size → IsBegun outline_of greatest begun → AllByRecursion (IsOn channel) (begun_frames begun) → channel_recut size (At Nothing) (begun_frames begun) ≡ begun_recut size channel begun
+begun_cut : (size channel : ℕ) (begun : Begun Frame) → 1 ≤ size → IsBegun outline_of greatest begun
+    → AllByRecursion (IsOn channel) (begun_frames begun) → channel_recut size (At Nothing) (begun_frames begun) ≡ begun_recut size channel begun
 begun_cut size channel Nothing some h on = refl
-begun_cut size channel (Opened opening) some h on = recut_first size (At Nothing) (At (Opened opening)) opening [] (opening_no_body (outline_of opening) h) (opened opening h)
+begun_cut size channel (Opened opening) some h on =
+    recut_first size (At Nothing) (At (Opened opening)) opening [] (opening_no_body (outline_of opening) h) (opened opening h)
 begun_cut size channel (Headed opening header bodies) some h on =
     let n = size_in (outline_of header) in
     let parts = map bytes_of bodies in
     let are : bodies ≡ bodies_with channel parts = bodies_are channel bodies h.3 on.1.1 in
     let bytes : left_over size [] ++ flat parts ≡ joined bodies = none_left_over size (flat parts) ∙ flat_bytes bodies in
     recut_first size (At Nothing) (At (Opened opening)) opening (header ∷ bodies) (opening_no_body (outline_of opening) h.0) (opened opening h.0)
-    ∙ ap (λ fs. opening ∷ fs) (recut_first size (At (Opened opening)) (At (Headed opening header [])) header bodies (header_no_body (outline_of header) h.1) (headed_by opening header h.1 h.2 (omega (arith, h.4))))
+    ∙ ap (λ fs. opening ∷ fs) (recut_first size (At (Opened opening)) (At (Headed opening header [])) header bodies
+    (header_no_body (outline_of header) h.1) (headed_by opening header h.1 h.2 (omega (arith, h.4))))
     ∙ ap (λ fs. opening ∷ header ∷ channel_recut size (At (Headed opening header [])) fs) are
     ∙ ap (λ fs. opening ∷ header ∷ fs) (open_bodies size channel opening header some [] parts (omega (arith, h.4, flat_length bodies)))
     ∙ ap (λ bs. opening ∷ header ∷ bodies_with channel (whole_pieces size bs)) bytes
 
-pub units_cut : (size channel : ℕ) (units : List (Finished Frame)) (begun : Begun Frame) → 1 ≤ size → AllByRecursion (IsFinished outline_of greatest) units → IsBegun outline_of greatest begun → AllByRecursion (IsOn channel) (frames_in units begun) → channel_recut size (At Nothing) (frames_in units begun) ≡ flat_map (unit_recut size channel) units ++ begun_recut size channel begun
+-- The frames of finished units and a begun one are recut unit by unit.
+pub units_cut : (size channel : ℕ) (units : List (Finished Frame)) (begun : Begun Frame) → 1 ≤ size
+    → AllByRecursion (IsFinished outline_of greatest) units → IsBegun outline_of greatest begun → AllByRecursion (IsOn channel) (frames_in units begun)
+    → channel_recut size (At Nothing) (frames_in units begun) ≡ flat_map (unit_recut size channel) units ++ begun_recut size channel begun
 units_cut size channel [] begun some finished is_begun on = begun_cut size channel begun some is_begun on
 units_cut size channel (unit ∷ units) begun some finished is_begun on =
     let rest = frames_in units begun in
-    let assoc : frames_in (unit ∷ units) begun ≡ finished_frames unit ++ rest = append_assoc (finished_frames unit) (flat_map finished_frames units) (begun_frames begun) in
+    let assoc : frames_in (unit ∷ units) begun ≡ finished_frames unit ++ rest =
+    append_assoc (finished_frames unit) (flat_map finished_frames units) (begun_frames begun) in
     let on_all = subst (AllByRecursion (IsOn channel)) assoc on in
     ap (channel_recut size (At Nothing)) assoc
     ∙ unit_cut size channel unit rest some finished.0 (all_front (IsOn channel) (finished_frames unit) rest on_all)
-    ∙ ap (λ fs. unit_recut size channel unit ++ fs) (units_cut size channel units begun some finished.1 is_begun (all_back (IsOn channel) (finished_frames unit) rest on_all))
+    ∙ ap (λ fs. unit_recut size channel unit ++ fs)
+    (units_cut size channel units begun some finished.1 is_begun (all_back (IsOn channel) (finished_frames unit) rest on_all))
     ∙ sym (append_assoc (unit_recut size channel unit) (flat_map (unit_recut size channel) units) (begun_recut size channel begun))
 
 -- ---- a unit recut is a unit, of the same message, whose bodies are cut
@@ -189,30 +210,45 @@ last_some : (body : List ℕ) (parts : List (List ℕ)) → 1 ≤ length body �
 last_some body [] some h = let none : 0 ≡ length body = ap length h.joined in absurd (omega arith)
 last_some body (part ∷ parts) some h = last_of part parts h.some
 
-remade_full : (size channel : ℕ) (opening header : Frame) (bodies : List Frame) (last : Frame) → 1 ≤ size → IsFinished outline_of greatest (Full opening header bodies last) → channel_id_of last ≡ channel → (parts : List (List ℕ)) → pieces size (joined (bodies ++ last ∷ [])) ≡ parts → ArePieces (joined (bodies ++ last ∷ [])) parts → HasLast parts → Remade size channel (Full opening header bodies last)
+remade_full : (size channel : ℕ) (opening header : Frame) (bodies : List Frame) (last : Frame) → 1 ≤ size
+    → IsFinished outline_of greatest (Full opening header bodies last) → channel_id_of last ≡ channel
+    → (parts : List (List ℕ)) → pieces size (joined (bodies ++ last ∷ [])) ≡ parts
+    → ArePieces (joined (bodies ++ last ∷ [])) parts → HasLast parts → Remade size channel (Full opening header bodies last)
 remade_full size channel opening header bodies last some h on parts e are ends =
     let n = size_in (outline_of header) in
     let body = joined (bodies ++ last ∷ []) in
-    let total : length body ≡ n = ap length (joined-push bodies last) ∙ length-append (joined bodies) (bytes_of last) ∙ ap₂ (λ a b. a + b) (length-joined bodies) (body_count last) ∙ h.2 in
+    let total : length body ≡ n =
+    ap length (joined-push bodies last) ∙ length-append (joined bodies) (bytes_of last) ∙ ap₂ (λ a b. a + b) (length-joined bodies) (body_count last) ∙ h.2 in
     let flat_is : flat ends.front ++ ends.last ≡ body = sym (flat_push ends.front ends.last) ∙ ap flat (sym ends.are) ∙ are.joined in
     let sum : length (flat ends.front) + length ends.last ≡ n = sym (length-append (flat ends.front) ends.last) ∙ ap length flat_is ∙ total in
     let before = bodies_with channel ends.front in
     let final = Body channel ends.last in
     let joined_is : joined (before ++ final ∷ []) ≡ body = joined-push before final ∙ ap (λ bs. bs ++ ends.last) (joined_bodies channel ends.front) ∙ flat_is in
-    let frames_are : before ++ final ∷ [] ≡ bodies_with channel (pieces size body) = sym (map-append (λ part. Body channel part) ends.front (ends.last ∷ [])) ∙ ap (bodies_with channel) (sym ends.are ∙ sym e) in
+    let frames_are : before ++ final ∷ [] ≡ bodies_with channel (pieces size body) =
+    sym (map-append (λ part. Body channel part) ends.front (ends.last ∷ [])) ∙ ap (bodies_with channel) (sym ends.are ∙ sym e) in
     record {
       made = Full opening header before final;
-      finished = ((h.0.0, h.0.1, h.0.2, all_bodies channel ends.front, omega (arith, sum, ends.some, bytes_bodies channel ends.front)), tt, omega (arith, sum, bytes_bodies channel ends.front));
+      finished = (
+        (h.0.0, h.0.1, h.0.2, all_bodies channel ends.front, omega (arith, sum, ends.some, bytes_bodies channel ends.front)),
+        tt,
+        omega (arith, sum, bytes_bodies channel ends.front),
+      );
       frames = ap (λ fs. opening ∷ header ∷ fs) frames_are;
-      same = full_done opening header before final ∙ ap₂ (λ c b. record { channel = c; opening = method_in opening; properties = (header_in header).options; body = b } ∷ []) (sym on) joined_is ∙ sym (full_done opening header bodies last);
+      same =
+          full_done opening header before final
+          ∙ ap₂ (λ c b. record { channel = c; opening = method_in opening; properties = (header_in header).options; body = b } ∷ []) (sym on) joined_is
+          ∙ sym (full_done opening header bodies last);
       again = λ other. ap (λ bs. opening ∷ header ∷ bodies_with channel (pieces other bs)) joined_is;
       cut =
-          cut_first size (At Nothing) (At (Opened opening)) opening (header ∷ bodies_with channel (pieces size body)) (opening_no_body (outline_of opening) h.0.0) (opened opening h.0.0)
-          (cut_first size (At (Opened opening)) (At (Headed opening header [])) header (bodies_with channel (pieces size body)) (header_no_body (outline_of header) h.0.1) (headed_by opening header h.0.1 h.0.2 (omega (arith, h.0.4)))
+          cut_first size (At Nothing) (At (Opened opening)) opening (header ∷ bodies_with channel (pieces size body))
+          (opening_no_body (outline_of opening) h.0.0) (opened opening h.0.0)
+          (cut_first size (At (Opened opening)) (At (Headed opening header [])) header (bodies_with channel (pieces size body))
+          (header_no_body (outline_of header) h.0.1) (headed_by opening header h.0.1 h.0.2 (omega (arith, h.0.4)))
           (cut_given size channel opening header some true [] body (omega (arith, total))));
     }
 
-remade : (size channel : ℕ) (unit : Finished Frame) → 1 ≤ size → IsFinished outline_of greatest unit → AllByRecursion (IsOn channel) (finished_frames unit) → Remade size channel unit
+remade : (size channel : ℕ) (unit : Finished Frame) → 1 ≤ size → IsFinished outline_of greatest unit
+    → AllByRecursion (IsOn channel) (finished_frames unit) → Remade size channel unit
 remade size channel (Lone method) some h on = record {
   made = Lone method;
   finished = h;
@@ -227,13 +263,18 @@ remade size channel (Empty opening header) some h on = record {
   frames = refl;
   same = refl;
   again = λ other. refl;
-  cut = (itself_cut size (At Nothing) opening (opening_no_body (outline_of opening) h.0), (itself_cut size (step outline_of greatest (At Nothing) opening).1 header (header_no_body (outline_of header) h.1), tt));
+  cut = (
+    itself_cut size (At Nothing) opening (opening_no_body (outline_of opening) h.0),
+    (itself_cut size (step outline_of greatest (At Nothing) opening).1 header (header_no_body (outline_of header) h.1), tt),
+  );
 }
 remade size channel (Full opening header bodies last) some h on =
     let body = joined (bodies ++ last ∷ []) in
-    let long : length body ≡ size_in (outline_of header) = ap length (joined-push bodies last) ∙ length-append (joined bodies) (bytes_of last) ∙ ap₂ (λ a b. a + b) (length-joined bodies) (body_count last) ∙ h.2 in
+    let long : length body ≡ size_in (outline_of header) =
+    ap length (joined-push bodies last) ∙ length-append (joined bodies) (bytes_of last) ∙ ap₂ (λ a b. a + b) (length-joined bodies) (body_count last) ∙ h.2 in
     let is : last ≡ Body channel (bytes_of last) = body_is channel last h.1 (all_back (IsOn channel) bodies (last ∷ []) on.1.1).0 in
-    remade_full size channel opening header bodies last some h (ap channel_id_of is) (pieces size body) refl (pieces_are size body some) (last_some body (pieces size body) (omega (arith, long, h.0.4)) (pieces_are size body some))
+    remade_full size channel opening header bodies last some h (ap channel_id_of is) (pieces size body) refl
+    (pieces_are size body some) (last_some body (pieces size body) (omega (arith, long, h.0.4)) (pieces_are size body some))
 
 -- the same of units one after another
 pub record AllRemade (size channel : ℕ) (units : List (Finished Frame)) : Type 0 where
@@ -245,14 +286,17 @@ pub record AllRemade (size channel : ℕ) (units : List (Finished Frame)) : Type
   pub ends : run_state outline_of greatest (At Nothing) (flat_map (unit_recut size channel) units) ≡ At Nothing
   pub cut : AreCutAfter size (At Nothing) (flat_map (unit_recut size channel) units)
 
-pub all_remade : (size channel : ℕ) (units : List (Finished Frame)) → 1 ≤ size → AllByRecursion (IsFinished outline_of greatest) units → AllByRecursion (IsOn channel) (flat_map finished_frames units) → AllRemade size channel units
+-- Finished units, recut, are finished units with the same messages, whose bodies are cut to the size.
+pub all_remade : (size channel : ℕ) (units : List (Finished Frame)) → 1 ≤ size → AllByRecursion (IsFinished outline_of greatest) units
+    → AllByRecursion (IsOn channel) (flat_map finished_frames units) → AllRemade size channel units
 all_remade size channel [] some h on = record { made = []; finished = tt; frames = refl; same = refl; again = λ other. refl; ends = refl; cut = tt }
 all_remade size channel (unit ∷ units) some h on =
     let one = remade size channel unit some h.0 (all_front (IsOn channel) (finished_frames unit) (flat_map finished_frames units) on) in
     let rest = all_remade size channel units some h.1 (all_back (IsOn channel) (finished_frames unit) (flat_map finished_frames units) on) in
     let frames = unit_recut size channel unit in
     let more = flat_map (unit_recut size channel) units in
-    let ends : run_state outline_of greatest (At Nothing) frames ≡ At Nothing = ap (run_state outline_of greatest (At Nothing)) (sym one.frames) ∙ (finished_runs outline_of greatest one.made one.finished).state_is in
+    let ends : run_state outline_of greatest (At Nothing) frames ≡ At Nothing =
+    ap (run_state outline_of greatest (At Nothing)) (sym one.frames) ∙ (finished_runs outline_of greatest one.made one.finished).state_is in
     record {
       made = one.made ∷ rest.made;
       finished = (one.finished, rest.finished);
@@ -274,6 +318,7 @@ pub record BegunRemade (size channel : ℕ) (begun : Begun Frame) : Type 0 where
   pub nothing : begun ≡ Nothing → made ≡ Nothing
   pub cut : AreCutAfter size (At Nothing) (begun_recut size channel begun)
 
+-- A begun unit, recut, is a begun unit whose bodies are cut to the size.
 pub begun_remade : (size channel : ℕ) (begun : Begun Frame) → 1 ≤ size → IsBegun outline_of greatest begun → BegunRemade size channel begun
 begun_remade size channel Nothing some h = record { made = Nothing; is_begun = tt; frames = refl; nothing = λ e. refl; cut = tt }
 begun_remade size channel (Opened opening) some h = record {
@@ -286,14 +331,17 @@ begun_remade size channel (Opened opening) some h = record {
 begun_remade size channel (Headed opening header bodies) some h =
     let parts = whole_pieces size (joined bodies) in
     let fit = whole_fit size (joined bodies) some in
-    let less : bytes_in outline_of (bodies_with channel parts) < size_in (outline_of header) = omega (arith, h.4, fit, bytes_bodies channel parts, length-joined bodies) in
+    let less : bytes_in outline_of (bodies_with channel parts) < size_in (outline_of header) =
+    omega (arith, h.4, fit, bytes_bodies channel parts, length-joined bodies) in
     record {
       made = Headed opening header (bodies_with channel parts);
       is_begun = (h.0, h.1, h.2, all_bodies channel parts, less);
       frames = refl;
       nothing = λ e. absurd cc;
       cut =
-          cut_first size (At Nothing) (At (Opened opening)) opening (header ∷ bodies_with channel parts) (opening_no_body (outline_of opening) h.0) (opened opening h.0)
-          (cut_first size (At (Opened opening)) (At (Headed opening header [])) header (bodies_with channel parts) (header_no_body (outline_of header) h.1) (headed_by opening header h.1 h.2 (omega (arith, h.4)))
+          cut_first size (At Nothing) (At (Opened opening)) opening (header ∷ bodies_with channel parts)
+          (opening_no_body (outline_of opening) h.0) (opened opening h.0)
+          (cut_first size (At (Opened opening)) (At (Headed opening header [])) header (bodies_with channel parts)
+          (header_no_body (outline_of header) h.1) (headed_by opening header h.1 h.2 (omega (arith, h.4)))
           (cut_given size channel opening header some false [] (joined bodies) (omega (arith, h.4, length-joined bodies))));
     }

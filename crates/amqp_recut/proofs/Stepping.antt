@@ -1,5 +1,6 @@
 -- What is written for one frame, and what is kept then, by its mark.
-use Rattle.std.proofs.Common.{◌≡◌, ℕ, ◌+◌, Bool, true, false, eqb, leb, List, [], ◌∷◌, ◌++◌, length, refl, sym, ap, ◌∙◌, inl, inr, Option, Some, None, Result, Ok, Err, IsTrue}
+use Rattle.std.proofs.Common.{◌≡◌, ℕ, ◌+◌, Bool, true, false, eqb, leb, List, [], ◌∷◌, ◌++◌, length, refl, sym, ap, ◌∙◌, inl, inr, Option, Some}
+use Rattle.std.proofs.Common.{None, Result, Ok, Err, IsTrue}
 use Rattle.std.specs.Prelude.{IsSome}
 use Rattle.std.proofs.lemmas.Bool.{cases_eq, eq-eqb, ne_eqb}
 use Rattle.std.specs.FinMap as finite
@@ -22,7 +23,7 @@ use Rattle.amqp_turns.specs.declared.progress.Progress.TheVariants as progresses
 use Rattle.amqp_turns.specs.Units.{is_content, is_opening_id}
 use Rattle.amqp_turns.specs.Steps.{mark_after, progress_after, progress_marked, header_mark, method_mark, body_mark, headed_progress}
 use Rattle.amqp_stream.specs.declared.errors.StreamError.{StreamError}
-use Rattle.amqp_stream.specs.Errors.{Cause, faulty, cut_short, turns_spent, read_failed, write_failed, out_of_memory, cause_of}
+use Rattle.amqp_stream.specs.Errors.{Cause, faulty, cut_short, budget_spent, read_failed, write_failed, out_of_memory, cause_of}
 use Rattle.amqp_stream.specs.Ends.{Store}
 use Rattle.amqp_stream.specs.Writing.{IsUnwritten, WritesFrame}
 use Rattle.amqp_stream.specs.Streaming.{refused_by, stopped_by, ending_of, as_run, WritesBy}
@@ -44,10 +45,15 @@ pub data IsPartOn (channel : ℕ) (frame : Frame) : Type 0 where
   method_on : (m : Method) → Meth channel m ≡ frame → IsPartOn channel frame
   header_on : (header : ContentHeader) → Head channel header ≡ frame → IsPartOn channel frame
 
-typed_whole : (kind : AMQPFrameType) (channel : ℕ) (payload : List ℕ) (frame : Frame) → IsTyped kind → whole_as kind channel payload ≡ Ok frame → IsPartOn channel frame
+typed_whole : (kind : AMQPFrameType) (channel : ℕ) (payload : List ℕ) (frame : Frame)
+    → IsTyped kind → whole_as kind channel payload ≡ Ok frame → IsPartOn channel frame
 unfolding whole_as
-typed_whole kinds.Method channel payload frame typed h = let read = read_as (λ x. Meth channel x) (all_of judge_payload payload) frame h in method_on read.0 read.2
-typed_whole kinds.Header channel payload frame typed h = let read = read_as (λ x. Head channel x) (all_of judge_content_header payload) frame h in header_on read.0 read.2
+typed_whole kinds.Method channel payload frame typed h =
+    let read = read_as (λ x. Meth channel x) (all_of judge_payload payload) frame h in
+    method_on read.0 read.2
+typed_whole kinds.Header channel payload frame typed h =
+    let read = read_as (λ x. Head channel x) (all_of judge_content_header payload) frame h in
+    header_on read.0 read.2
 typed_whole kinds.ProtocolHeader channel payload frame typed h = absurd typed
 typed_whole kinds.Body channel payload frame typed h = absurd typed
 typed_whole kinds.Heartbeat channel payload frame typed h = absurd typed
@@ -56,6 +62,7 @@ part_channel : (channel : ℕ) (frame : Frame) → IsPartOn channel frame → ch
 part_channel channel frame (method_on m e) = ap channel_id_of (sym e)
 part_channel channel frame (header_on header e) = ap channel_id_of (sym e)
 
+-- A method or a content header is content.
 pub typed_wants : (kind : AMQPFrameType) → IsTyped kind → IsTrue (is_content_type kind)
 typed_wants kinds.Method typed = refl
 typed_wants kinds.Header typed = refl
@@ -63,7 +70,8 @@ typed_wants kinds.ProtocolHeader typed = absurd typed
 typed_wants kinds.Body typed = absurd typed
 typed_wants kinds.Heartbeat typed = absurd typed
 
-proto_outside : (channel : ℕ) (payload : List ℕ) (frame : Frame) → whole_as kinds.ProtocolHeader channel payload ≡ Ok frame → is_content (outline_of frame) ≡ false
+proto_outside : (channel : ℕ) (payload : List ℕ) (frame : Frame)
+    → whole_as kinds.ProtocolHeader channel payload ≡ Ok frame → is_content (outline_of frame) ≡ false
 unfolding whole_as
 proto_outside channel [] frame h = absurd cc
 proto_outside channel (a ∷ []) frame h = absurd cc
@@ -87,10 +95,13 @@ IsOutsideType kinds.Method = ⊥
 IsOutsideType kinds.Header = ⊥
 IsOutsideType kinds.Body = ⊥
 
-outside_whole : (kind : AMQPFrameType) (channel : ℕ) (payload : List ℕ) (frame : Frame) → IsOutsideType kind → whole_as kind channel payload ≡ Ok frame → is_content (outline_of frame) ≡ false
+outside_whole : (kind : AMQPFrameType) (channel : ℕ) (payload : List ℕ) (frame : Frame)
+    → IsOutsideType kind → whole_as kind channel payload ≡ Ok frame → is_content (outline_of frame) ≡ false
 unfolding whole_as IsOutsideType
 outside_whole kinds.ProtocolHeader channel payload frame out h = proto_outside channel payload frame h
-outside_whole kinds.Heartbeat channel payload frame out h = let is : beat_on channel ≡ frame = cc in ap (λ f. is_content (outline_of f)) (sym is) ∙ beat_outside channel
+outside_whole kinds.Heartbeat channel payload frame out h =
+    let is : beat_on channel ≡ frame = cc in
+    ap (λ f. is_content (outline_of f)) (sym is) ∙ beat_outside channel
 outside_whole kinds.Method channel payload frame out h = absurd out
 outside_whole kinds.Header channel payload frame out h = absurd out
 outside_whole kinds.Body channel payload frame out h = absurd out
@@ -101,7 +112,9 @@ passed_step : (s : Recutter) (frame : Frame) → mark_held (held_at s (channel_i
 passed_step s frame e =
     let channel = channel_id_of frame in
     let held = held_at s channel in
-    ap (step_marked s held frame) e ∙ ap (λ m. Ok (canon frame, record s { messages = m })) (ap (set_at s.messages channel) (passed_keeps s.size held frame e) ∙ sym (set_at-same s.messages channel))
+    ap (step_marked s held frame) e
+    ∙ ap (λ m. Ok (canon frame, record s { messages = m }))
+    (ap (set_at s.messages channel) (passed_keeps s.size held frame e) ∙ sym (set_at-same s.messages channel))
 
 -- a method or content header that is not passed is no piece of a body
 abbrev pub IsPart : Mark → Type 0
@@ -111,7 +124,8 @@ IsPart (marks.Body before after n) = Unit {0}
 IsPart marks.Passed = ⊥
 IsPart (marks.Fault bad) = ⊥
 
-no_body : (held : Option Held) (channel : ℕ) (frame : Frame) (before after n : ℕ) → IsPartOn channel frame → mark_held held frame ≡ marks.Body before after n → ⊥
+no_body : (held : Option Held) (channel : ℕ) (frame : Frame) (before after n : ℕ)
+    → IsPartOn channel frame → mark_held held frame ≡ marks.Body before after n → ⊥
 no_body held channel frame before after n (method_on m is) e = by_held held (ap (λ f. mark_held held f) is ∙ e)
   where
     by_opening : (opens : Bool) → is_opening_id m.class m.id ≡ opens → method_mark m.class m.id ≡ marks.Body before after n → ⊥
@@ -128,7 +142,8 @@ no_body held channel frame before after n (method_on m is) e = by_held held (ap 
     by_held (Some held) e = by_progress held.progress e
 no_body held channel frame before after n (header_on header is) e = by_held held (ap (λ f. mark_held held f) is ∙ e)
   where
-    by_size : (basic fits : Bool) → eqb header.class_id 60 ≡ basic → leb header.body_size greatest ≡ fits → header_mark greatest header.class_id header.body_size ≡ marks.Body before after n → ⊥
+    by_size : (basic fits : Bool) → eqb header.class_id 60 ≡ basic → leb header.body_size greatest ≡ fits
+        → header_mark greatest header.class_id header.body_size ≡ marks.Body before after n → ⊥
     by_size false fits basic fit e = let other = rw basic at e in absurd cc
     by_size true false basic fit e = let other = rw (basic, fit) at e in absurd cc
     by_size true true basic fit e = let other = rw (basic, fit) at e in absurd cc
@@ -142,7 +157,16 @@ no_body held channel frame before after n (header_on header is) e = by_held held
     by_held None e = cc
     by_held (Some held) e = by_progress held.progress e
 
-part_step : (s : Recutter) (channel : ℕ) (frame : Frame) (mark : Mark) → IsPartOn channel frame → IsPart mark → mark_held (held_at s (channel_id_of frame)) frame ≡ mark → step_recutting s frame ≡ Ok (canon frame, record s { messages = set_at s.messages (channel_id_of frame) (held_with (progress_after greatest (progress_in (held_at s (channel_id_of frame))) (outline_of frame)) []) })
+part_step : (s : Recutter) (channel : ℕ) (frame : Frame) (mark : Mark) → IsPartOn channel frame
+    → IsPart mark → mark_held (held_at s (channel_id_of frame)) frame ≡ mark
+    → step_recutting s frame
+    ≡ Ok (
+      canon frame,
+      record s {
+        messages =
+            set_at s.messages (channel_id_of frame) (held_with (progress_after greatest (progress_in (held_at s (channel_id_of frame))) (outline_of frame)) []);
+      },
+    )
 part_step s channel frame marks.Opening on part e = rw e (rw e refl)
 part_step s channel frame marks.Header on part e = rw e (rw e refl)
 part_step s channel frame (marks.Body before after n) on part e = absurd (no_body (held_at s (channel_id_of frame)) channel frame before after n on e)
@@ -159,50 +183,76 @@ same_outline : (outline other : FrameOutline) → Some outline ≡ Some other �
 same_outline outline other e = cc
 
 -- the mark by what is kept of the channel of a payload is that of the frame
-marked_by : (s : Recutter) (raw : Raw) (outline : FrameOutline) (mark : Mark) (frame : Frame) → IsTyped raw.kind → IsOutlineOf raw outline → mark ≡ mark_after greatest (progress_in (held_at s raw.channel)) outline → whole raw ≡ Ok frame → mark_held (held_at s (channel_id_of frame)) frame ≡ mark
+marked_by : (s : Recutter) (raw : Raw) (outline : FrameOutline) (mark : Mark) (frame : Frame) → IsTyped raw.kind → IsOutlineOf raw outline
+    → mark ≡ mark_after greatest (progress_in (held_at s raw.channel)) outline → whole raw ≡ Ok frame → mark_held (held_at s (channel_id_of frame)) frame ≡ mark
 marked_by s raw outline mark frame typed is e h =
     let channel = part_channel raw.channel frame (typed_whole raw.kind raw.channel raw.payload frame typed h) in
-    ap (λ c. mark_held (held_at s c) frame) channel ∙ ap (mark_after greatest (progress_in (held_at s raw.channel))) (sym (same_outline outline (outline_of frame) (is frame h))) ∙ sym e
+    ap (λ c. mark_held (held_at s c) frame) channel
+    ∙ ap (mark_after greatest (progress_in (held_at s raw.channel))) (sym (same_outline outline (outline_of frame) (is frame h))) ∙ sym e
 
-pub typed_refused : (s : Recutter) (raw : Raw) (outline : FrameOutline) (bad : ContentFault) → IsTyped raw.kind → IsOutlineOf raw outline → marks.Fault bad ≡ mark_after greatest (progress_in (held_at s raw.channel)) outline → (frame : Frame) → whole raw ≡ Ok frame → step_recutting s frame ≡ Err (refusals.BadContent bad)
-typed_refused s raw outline bad typed is e frame h = ap (step_marked s (held_at s (channel_id_of frame)) frame) (marked_by s raw outline (marks.Fault bad) frame typed is e h)
+-- A method or a content header that is not in turn is refused with its fault.
+pub typed_refused : (s : Recutter) (raw : Raw) (outline : FrameOutline) (bad : ContentFault) → IsTyped raw.kind
+    → IsOutlineOf raw outline → marks.Fault bad ≡ mark_after greatest (progress_in (held_at s raw.channel)) outline
+    → (frame : Frame) → whole raw ≡ Ok frame → step_recutting s frame ≡ Err (refusals.BadContent bad)
+typed_refused s raw outline bad typed is e frame h =
+    ap (step_marked s (held_at s (channel_id_of frame)) frame) (marked_by s raw outline (marks.Fault bad) frame typed is e h)
 
-pub typed_passed : (s : Recutter) (raw : Raw) (outline : FrameOutline) → IsTyped raw.kind → IsOutlineOf raw outline → marks.Passed ≡ mark_after greatest (progress_in (held_at s raw.channel)) outline → (frame : Frame) → whole raw ≡ Ok frame → step_recutting s frame ≡ Ok (canon frame, s)
+-- A method outside of messages is written as it is, and all that is kept stays.
+pub typed_passed : (s : Recutter) (raw : Raw) (outline : FrameOutline) → IsTyped raw.kind
+    → IsOutlineOf raw outline → marks.Passed ≡ mark_after greatest (progress_in (held_at s raw.channel)) outline
+    → (frame : Frame) → whole raw ≡ Ok frame → step_recutting s frame ≡ Ok (canon frame, s)
 typed_passed s raw outline typed is e frame h = passed_step s frame (marked_by s raw outline marks.Passed frame typed is e h)
 
-pub typed_part : (s : Recutter) (raw : Raw) (outline : FrameOutline) (mark : Mark) (progress : Option Progress) → IsTyped raw.kind → IsOutlineOf raw outline → IsPart mark → mark ≡ mark_after greatest (progress_in (held_at s raw.channel)) outline → progress ≡ progress_after greatest (progress_in (held_at s raw.channel)) outline → (frame : Frame) → whole raw ≡ Ok frame → step_recutting s frame ≡ Ok (canon frame, record s { messages = set_at s.messages raw.channel (held_with progress []) })
+-- A method or a content header of a message is written as it is, and its message is kept as far as it has come, with no bytes left over.
+pub typed_part : (s : Recutter) (raw : Raw) (outline : FrameOutline) (mark : Mark) (progress : Option Progress) → IsTyped raw.kind
+    → IsOutlineOf raw outline → IsPart mark → mark ≡ mark_after greatest (progress_in (held_at s raw.channel)) outline
+    → progress ≡ progress_after greatest (progress_in (held_at s raw.channel)) outline → (frame : Frame) → whole raw ≡ Ok frame
+    → step_recutting s frame ≡ Ok (canon frame, record s { messages = set_at s.messages raw.channel (held_with progress []) })
 typed_part s raw outline mark progress typed is part e after frame h =
     let on = typed_whole raw.kind raw.channel raw.payload frame typed h in
     let channel = part_channel raw.channel frame on in
     let same = same_outline outline (outline_of frame) (is frame h) in
     part_step s raw.channel frame mark on part (marked_by s raw outline mark frame typed is e h)
-    ∙ ap (λ c. Ok (canon frame, record s { messages = set_at s.messages c (held_with (progress_after greatest (progress_in (held_at s c)) (outline_of frame)) []) })) channel
-    ∙ ap (λ p. Ok (canon frame, record s { messages = set_at s.messages raw.channel (held_with p []) })) (ap (progress_after greatest (progress_in (held_at s raw.channel))) (sym same) ∙ sym after)
+    ∙ ap
+    (λ c. Ok (canon frame, record s { messages = set_at s.messages c (held_with (progress_after greatest (progress_in (held_at s c)) (outline_of frame)) []) }))
+    channel
+    ∙ ap (λ p. Ok (canon frame, record s { messages = set_at s.messages raw.channel (held_with p []) }))
+    (ap (progress_after greatest (progress_in (held_at s raw.channel))) (sym same) ∙ sym after)
 
+-- A protocol header or a heartbeat is written as it is, and all that is kept stays.
 pub outside_passed : (s : Recutter) (raw : Raw) → IsOutsideType raw.kind → (frame : Frame) → whole raw ≡ Ok frame → step_recutting s frame ≡ Ok (canon frame, s)
-outside_passed s raw out frame h = passed_step s frame (passed_mark (progress_in (held_at s (channel_id_of frame))) frame (outside_whole raw.kind raw.channel raw.payload frame out h))
+outside_passed s raw out frame h =
+    passed_step s frame (passed_mark (progress_in (held_at s (channel_id_of frame))) frame (outside_whole raw.kind raw.channel raw.payload frame out h))
 
+-- A protocol header is no content.
 pub proto_is_outside : IsOutsideType kinds.ProtocolHeader
 unfolding IsOutsideType
 proto_is_outside = tt
 
+-- A heartbeat is no content.
 pub beat_is_outside : IsOutsideType kinds.Heartbeat
 unfolding IsOutsideType
 beat_is_outside = tt
 
 -- ---- what is returned
 
-passing_cause : (s : Recutter) (raw : Raw) (a b : Store) (x y : List ℕ) (cause : Cause) → ((frame : Frame) → whole raw ≡ Ok frame → step_recutting s frame ≡ Ok (canon frame, s)) → IsUnwritten raw a b x y cause → WritesBy recutting s s raw a b x y (stopped_by cause)
+passing_cause : (s : Recutter) (raw : Raw) (a b : Store) (x y : List ℕ) (cause : Cause)
+    → ((frame : Frame) → whole raw ≡ Ok frame → step_recutting s frame ≡ Ok (canon frame, s))
+    → IsUnwritten raw a b x y cause → WritesBy recutting s s raw a b x y (stopped_by cause)
 passing_cause s raw a b x y (faulty bad) steps h = (is_faulty plain raw bad h.0 h.1, h.2, refl)
-passing_cause s raw a b x y write_failed steps h = record { bytes = canon h.0; next = s; step = record { frame = h.0; is_whole = h.1; at_level = refl; steps = steps h.0 h.1 }; failed = h.2 }
+passing_cause s raw a b x y write_failed steps h =
+    record { bytes = canon h.0; next = s; step = record { frame = h.0; is_whole = h.1; at_level = refl; steps = steps h.0 h.1 }; failed = h.2 }
 passing_cause s raw a b x y cut_short steps h = absurd h
-passing_cause s raw a b x y turns_spent steps h = absurd h
+passing_cause s raw a b x y budget_spent steps h = absurd h
 passing_cause s raw a b x y read_failed steps h = absurd h
 passing_cause s raw a b x y out_of_memory steps h = absurd h
 
 -- a frame is written as it is, and what is kept stays
-pub passing : (s : Recutter) (raw : Raw) (a b : Store) (x y : List ℕ) (r : Result (Unit {0}) StreamError) → ((frame : Frame) → whole raw ≡ Ok frame → step_recutting s frame ≡ Ok (canon frame, s)) → WritesFrame raw a b x y r → WritesBy recutting s s raw a b x y (ending_of (as_run r))
-passing s raw a b x y (Ok done) steps h = record { bytes = canon h.0; step = record { frame = h.0; is_whole = h.1; at_level = refl; steps = steps h.0 h.1 }; gathered = h.2 }
+pub passing : (s : Recutter) (raw : Raw) (a b : Store) (x y : List ℕ) (r : Result (Unit {0}) StreamError)
+    → ((frame : Frame) → whole raw ≡ Ok frame → step_recutting s frame ≡ Ok (canon frame, s))
+    → WritesFrame raw a b x y r → WritesBy recutting s s raw a b x y (ending_of (as_run r))
+passing s raw a b x y (Ok done) steps h =
+    record { bytes = canon h.0; step = record { frame = h.0; is_whole = h.1; at_level = refl; steps = steps h.0 h.1 }; gathered = h.2 }
 passing s raw a b x y (Err error) steps h = passing_cause s raw a b x y (cause_of error) steps h
 
 -- ---- bodies
@@ -213,10 +263,15 @@ body_mark_of s channel payload = mark_held (held_at s channel) (Body channel pay
 abbrev body_progress : Recutter → ℕ → List ℕ → Option Progress
 body_progress s channel payload = progress_after greatest (progress_in (held_at s channel)) (outline_of (Body channel payload))
 
-pub body_refused : (s : Recutter) (channel : ℕ) (payload : List ℕ) (bad : ContentFault) (a : Store) (x y : List ℕ) → y ≡ x → marks.Fault bad ≡ body_mark_of s channel payload → WritesBy recutting s s (body_raw channel payload) a a x y (refused_by (refusals.BadContent bad))
+-- A body that is not in turn is refused with its fault, and nothing is written for it.
+pub body_refused : (s : Recutter) (channel : ℕ) (payload : List ℕ) (bad : ContentFault) (a : Store) (x y : List ℕ) → y ≡ x
+    → marks.Fault bad ≡ body_mark_of s channel payload → WritesBy recutting s s (body_raw channel payload) a a x y (refused_by (refusals.BadContent bad))
 unfolding whole_as
-body_refused s channel payload bad a x y same e =
-    (record { frame = Body channel payload; is_whole = refl; at_level = refl; refuses = ap (step_marked s (held_at s channel) (Body channel payload)) (sym e) }, kept a x y same, refl)
+body_refused s channel payload bad a x y same e = (
+  record { frame = Body channel payload; is_whole = refl; at_level = refl; refuses = ap (step_marked s (held_at s channel) (Body channel payload)) (sym e) },
+  kept a x y same,
+  refl,
+)
 
 -- the body of a message comes to its end, or goes on
 ends_at : (n after : ℕ) → None ≡ headed_progress n after → eqb after n ≡ true
@@ -234,29 +289,61 @@ goes_at n after progress e = by_test (eqb after n) refl
     by_test true is = let other = rw is at e in absurd cc
 
 -- a piece of a body, by the mark that it has
-body_steps : (s : Recutter) (channel : ℕ) (payload : List ℕ) (before after n : ℕ) (progress : Option Progress) → marks.Body before after n ≡ body_mark_of s channel payload → progress ≡ body_progress s channel payload → step_recutting s (Body channel payload) ≡ Ok (canon_frames (frames_given s.size channel (eqb after n) (kept_in (held_at s channel) ++ payload)), record s { messages = set_at s.messages channel (held_with progress (left_over s.size (kept_in (held_at s channel) ++ payload))) })
+body_steps : (s : Recutter) (channel : ℕ) (payload : List ℕ) (before after n : ℕ) (progress : Option Progress)
+    → marks.Body before after n ≡ body_mark_of s channel payload → progress ≡ body_progress s channel payload
+    → step_recutting s (Body channel payload)
+    ≡ Ok (
+      canon_frames (frames_given s.size channel (eqb after n) (kept_in (held_at s channel) ++ payload)),
+      record s { messages = set_at s.messages channel (held_with progress (left_over s.size (kept_in (held_at s channel) ++ payload))) },
+    )
 body_steps s channel payload before after n progress e is =
     let held = held_at s channel in
     let frame = Body channel payload in
     let bytes = canon_frames (frames_given s.size channel (eqb after n) (kept_in held ++ payload)) in
     ap (step_marked s held frame) (sym e)
-    ∙ ap (λ m. Ok (bytes, record s { messages = set_at s.messages channel (held_with (body_progress s channel payload) (bytes_kept s.size held frame m)) })) (sym e)
+    ∙ ap (λ m. Ok (bytes, record s { messages = set_at s.messages channel (held_with (body_progress s channel payload) (bytes_kept s.size held frame m)) }))
+    (sym e)
     ∙ ap (λ p. Ok (bytes, record s { messages = set_at s.messages channel (held_with p (left_over s.size (kept_in held ++ payload))) })) (sym is)
 
-headed_by : (s : Recutter) (channel : ℕ) (payload : List ℕ) (before after n : ℕ) → marks.Body before after n ≡ body_mark_of s channel payload → body_progress s channel payload ≡ headed_progress n after
+headed_by : (s : Recutter) (channel : ℕ) (payload : List ℕ) (before after n : ℕ)
+    → marks.Body before after n ≡ body_mark_of s channel payload → body_progress s channel payload ≡ headed_progress n after
 headed_by s channel payload before after n e = ap (progress_marked (progress_in (held_at s channel)) (outline_of (Body channel payload))) (sym e)
 
-pub body_ends : (s : Recutter) (channel : ℕ) (payload : List ℕ) (before after n : ℕ) → marks.Body before after n ≡ body_mark_of s channel payload → None ≡ body_progress s channel payload → step_recutting s (Body channel payload) ≡ Ok (canon_frames (frames_given s.size channel true (kept_in (held_at s channel) ++ payload)), record s { messages = finite.remove s.messages channel })
+-- A body that ends its message is replaced by all pieces of what was left over and its own bytes, and nothing of the message is kept.
+pub body_ends : (s : Recutter) (channel : ℕ) (payload : List ℕ) (before after n : ℕ)
+    → marks.Body before after n ≡ body_mark_of s channel payload → None ≡ body_progress s channel payload
+    → step_recutting s (Body channel payload)
+    ≡ Ok (canon_frames (frames_given s.size channel true (kept_in (held_at s channel) ++ payload)), record s { messages = finite.remove s.messages channel })
 body_ends s channel payload before after n e none =
     body_steps s channel payload before after n None e none
-    ∙ ap (λ b. Ok (canon_frames (frames_given s.size channel b (kept_in (held_at s channel) ++ payload)), record s { messages = finite.remove s.messages channel })) (ends_at n after (none ∙ headed_by s channel payload before after n e))
+    ∙ ap
+    (λ b. Ok (canon_frames (frames_given s.size channel b (kept_in (held_at s channel) ++ payload)), record s { messages = finite.remove s.messages channel }))
+    (ends_at n after (none ∙ headed_by s channel payload before after n e))
 
-pub body_goes_on : (s : Recutter) (channel : ℕ) (payload : List ℕ) (before after n : ℕ) (progress : Progress) → marks.Body before after n ≡ body_mark_of s channel payload → Some progress ≡ body_progress s channel payload → step_recutting s (Body channel payload) ≡ Ok (canon_frames (frames_given s.size channel false (kept_in (held_at s channel) ++ payload)), record s { messages = finite.insert s.messages channel (record { progress = progress; kept = left_over s.size (kept_in (held_at s channel) ++ payload) }) })
+-- A body that does not end its message is replaced by the whole pieces of what was left over and its own bytes, and the rest is kept.
+pub body_goes_on : (s : Recutter) (channel : ℕ) (payload : List ℕ) (before after n : ℕ) (progress : Progress)
+    → marks.Body before after n ≡ body_mark_of s channel payload → Some progress ≡ body_progress s channel payload
+    → step_recutting s (Body channel payload)
+    ≡ Ok (
+      canon_frames (frames_given s.size channel false (kept_in (held_at s channel) ++ payload)),
+      record s {
+        messages = finite.insert s.messages channel (record { progress = progress; kept = left_over s.size (kept_in (held_at s channel) ++ payload) });
+      },
+    )
 body_goes_on s channel payload before after n progress e some =
     body_steps s channel payload before after n (Some progress) e some
-    ∙ ap (λ b. Ok (canon_frames (frames_given s.size channel b (kept_in (held_at s channel) ++ payload)), record s { messages = finite.insert s.messages channel (record { progress = progress; kept = left_over s.size (kept_in (held_at s channel) ++ payload) }) })) (goes_at n after progress (some ∙ headed_by s channel payload before after n e))
+    ∙ ap
+    (λ b.
+    Ok (
+      canon_frames (frames_given s.size channel b (kept_in (held_at s channel) ++ payload)),
+      record s {
+        messages = finite.insert s.messages channel (record { progress = progress; kept = left_over s.size (kept_in (held_at s channel) ++ payload) });
+      },
+    ))
+    (goes_at n after progress (some ∙ headed_by s channel payload before after n e))
 
-pub body_there : (held : Option Held) (channel : ℕ) (payload : List ℕ) (before after n : ℕ) → marks.Body before after n ≡ mark_held held (Body channel payload) → IsSome held
+pub body_there : (held : Option Held) (channel : ℕ) (payload : List ℕ) (before after n : ℕ)
+    → marks.Body before after n ≡ mark_held held (Body channel payload) → IsSome held
 body_there (Some held) channel payload before after n e = refl
 body_there None channel payload before after n e = absurd cc
 

@@ -8,16 +8,20 @@ use Rattle.amqp_turns.specs.Messages.{joined}
 use Rattle.amqp_turns.specs.Splits.{cut_count, pieces_given}
 use Rattle.amqp_turns.specs.InTurn.{state_on}
 
--- The pieces that a body frame completes: of the bytes of its message so far, and its own, those that were not complete before it. At the end of the message
--- the last may be shorter.
+-- The pieces that a body frame completes: of the bytes of its message so far, and its own, those
+-- that were not complete before it. At the end of the message the last may be shorter.
 abbrev pub pieces_brought : (size : ℕ) (ends : Bool) (before content : List ℕ) → List (List ℕ)
-pieces_brought size ends before content = drop (cut_count size false (length before)) (pieces_given size ends (before ++ content))
+pieces_brought size ends before content =
+    drop (cut_count size false (length before)) (pieces_given size ends (before ++ content))
 
--- What a body frame is replaced by: in a message, whose content header announces how long the whole body is, a body frame for each piece that it completes;
--- a body that is not in turn stays (AMQP 0-9-1, section 4.2.6).
+-- What a body frame is replaced by: in a message, whose content header announces how long the whole
+-- body is, a body frame for each piece that it completes; a body that is not in turn stays (AMQP
+-- 0-9-1, section 4.2.6).
 abbrev pub body_recut : (size channel : ℕ) → State Frame → List ℕ → List Frame
 body_recut size channel (At (Headed opening header bodies)) content =
-    map (λ bytes. Body channel bytes) (pieces_brought size (bytes_in outline_of bodies + length content == size_in (outline_of header)) (joined bodies) content)
+    map (λ bytes. Body channel bytes) (pieces_brought size
+    (bytes_in outline_of bodies + length content == size_in (outline_of header))
+    (joined bodies) content)
 body_recut size channel (At Nothing) content = Body channel content ∷ []
 body_recut size channel (At (Opened opening)) content = Body channel content ∷ []
 body_recut size channel Lost content = Body channel content ∷ []
@@ -34,7 +38,9 @@ frame_recut size state (BadBeat channel) = BadBeat channel ∷ []
 -- frames recut, after those that came before them
 abbrev pub recut_after : ℕ → List Frame → List Frame → List Frame
 recut_after size earlier [] = []
-recut_after size earlier (frame ∷ frames) = frame_recut size (state_on earlier (channel_id_of frame)) frame ++ recut_after size (earlier ++ frame ∷ []) frames
+recut_after size earlier (frame ∷ frames) =
+    frame_recut size (state_on earlier (channel_id_of frame)) frame
+    ++ recut_after size (earlier ++ frame ∷ []) frames
 
 -- a sequence of frames recut
 abbrev pub recut : ℕ → List Frame → List Frame

@@ -14,18 +14,23 @@ use Rattle.amqp_recut.specs.Stepping.{is_content_type}
 abbrev pub recut_bytes : ℕ → List Frame → List ℕ
 recut_bytes size frames = canon_frames (recut size frames)
 
--- A whole call, which writes the canonical bytes of frames recut; memory may run out at methods, content headers and bodies.
-abbrev pub Recuts : ℕ → ℕ → ℕ → Supply → Supply → Store → Store → Result (Unit {0}) TurnError → Type 0
-Recuts m size turns a b k l result = GoesInTurn (recut_bytes size) is_content_type m turns a b k l result
+-- A whole call, which writes the canonical bytes of frames recut; memory may run out at methods,
+-- content headers and bodies.
+abbrev pub Recuts : ℕ → ℕ → ℕ → Supply → Supply → Store
+    → Store → Result (Unit {0}) TurnError → Type 0
+Recuts m size budget a b k l result =
+    GoesInTurn (recut_bytes size) is_content_type m budget a b k l result
 
 -- what a call returns and writes over a source that reports its bytes
 abbrev pub RecutsExactly : ℕ → ℕ → List ℕ → Store → Store → Result (Unit {0}) TurnError → Type 0
 RecutsExactly m size bytes k l result = GoesExactly (recut_bytes size) m bytes k l result
 
 -- a run that writes the canonical bytes of frames recut
-abbrev pub RecutRun : {S K : Type 0} → ℕ → (S → Supply) → (K → Store) → ℕ → ℕ → S → S → K → K → Result (Unit {0}) TurnError → Type 0
+abbrev pub RecutRun : {S K : Type 0} → ℕ → (S → Supply) → (K → Store)
+    → ℕ → ℕ → S → S → K → K → Result (Unit {0}) TurnError → Type 0
 RecutRun size = TurnRun (recut_bytes size) is_content_type
 
 -- the same, with its report
-abbrev pub RecutReport : {S K : Type 0} → ℕ → (S → Supply) → (K → Store) → ℕ → ℕ → S → S → K → K → Result (Unit {0}) (RunReport TurnError) → Type 0
+abbrev pub RecutReport : {S K : Type 0} → ℕ → (S → Supply) → (K → Store) → ℕ
+    → ℕ → S → S → K → K → Result (Unit {0}) (RunReport TurnError) → Type 0
 RecutReport size = TurnReport (recut_bytes size) is_content_type

@@ -1,6 +1,7 @@
 //! Laws of recutting, each the contract of a function that does nothing.
 
-ghost use Rattle.amqp_recut.specs.Laws.{StaysInTurn, MessagesStay, BodiesAreCut, CutBodiesStay, TwiceIsOnce, LastSizeCounts};
+ghost use Rattle.amqp_recut.specs.Laws.{StaysInTurn, MessagesStay, BodiesAreCut};
+ghost use Rattle.amqp_recut.specs.Laws.{CutBodiesStay, TwiceIsOnce, LastSizeCounts};
 
 /// Frames in turn are in turn after recutting, and each channel has the same messages.
 pub fn messages_stay()

@@ -51,7 +51,8 @@ impl Message {
 
     /// Keeps more bytes. Where memory runs out, all stays.
     pub(crate) fn append(&mut self, progress: Progress, bytes: &[u8]) -> Result<(), NoMemory>
-        ensures ok { OnOk result (self.new ≡ record { progress = progress; kept = self.old.kept ++ bytes.now }) }
+        ensures ok { OnOk result
+            (self.new ≡ record { progress = progress; kept = self.old.kept ++ bytes.now }) }
         ensures err { OnErr result (self.new ≡ self.old) }
     {
         self.kept.extend_from_slice(bytes)?;
@@ -69,7 +70,10 @@ pub(crate) fn append_to(
 ) -> Result<(), NoMemory>
     requires there { IsSome (finite.get messages.old channel_id) }
     ensures ok { OnOk result (messages.new ≡ finite.insert messages.old channel_id
-        (record { progress = progress; kept = kept_in (finite.get messages.old channel_id) ++ bytes.now })) }
+        (record {
+          progress = progress;
+          kept = kept_in (finite.get messages.old channel_id) ++ bytes.now;
+        })) }
     ensures err { OnErr result (messages.new ≡ messages.old) }
 {
     let Some(message) = messages.get_mut(channel_id) else {

@@ -18,7 +18,8 @@ fn push_piece(out: &mut OutputBuffer, channel_id: ChannelId, front: &[u8], back:
     requires few { length front.now + length back.now < 2 ^ 32 }
     requires room { length out.old.bytes + (length front.now + length back.now + 8) ≤ out.old.room }
     ensures room { out.new.room ≡ out.old.room }
-    ensures pushed { out.new.bytes ≡ out.old.bytes ++ framed body_byte channel_id (front.now ++ back.now) }
+    ensures pushed { out.new.bytes
+        ≡ out.old.bytes ++ framed body_byte channel_id (front.now ++ back.now) }
 {
     out.push(&frame_head(FRAME_BODY, channel_id, (front.len() + back.len()) as u32));
     out.push(front);
@@ -37,7 +38,8 @@ fn write_piece<K: Sink>(
 ) -> Result<(), SinkFault>
     requires few { length front.now + length back.now < 2 ^ 32 }
     ensures room { out.new.room ≡ out.old.room }
-    ensures gathers { Gathers (K.store sink.old) (K.store sink.new) out.old.bytes out.new.bytes (framed body_byte channel_id (front.now ++ back.now)) result }
+    ensures gathers { Gathers (K.store sink.old) (K.store sink.new) out.old.bytes out.new.bytes
+        (framed body_byte channel_id (front.now ++ back.now)) result }
 {
     let len = front.len() + back.len();
     if len <= SMALL_BODY && len + 8 <= out.room() {
@@ -57,7 +59,8 @@ fn gather_piece<K: Sink>(
 ) -> Result<(), SinkFault>
     requires few { length front.now + length back.now < 2 ^ 32 }
     ensures room { out.new.room ≡ out.old.room }
-    ensures gathers { Gathers (K.store sink.old) (K.store sink.new) out.old.bytes out.new.bytes (framed body_byte channel_id (front.now ++ back.now)) result }
+    ensures gathers { Gathers (K.store sink.old) (K.store sink.new) out.old.bytes out.new.bytes
+        (framed body_byte channel_id (front.now ++ back.now)) result }
 {
     let head = frame_head(FRAME_BODY, channel_id, (front.len() + back.len()) as u32);
     match gather(out, sink, &head) {
@@ -118,7 +121,8 @@ pub(crate) fn settle<K: Sink>(
     most: usize,
 ) -> Result<(), SinkFault>
     ensures room { out.new.room ≡ out.old.room }
-    ensures gathers { Gathers (K.store sink.old) (K.store sink.new) out.old.bytes out.new.bytes [] result }
+    ensures gathers { Gathers (K.store sink.old)
+        (K.store sink.new) out.old.bytes out.new.bytes [] result }
     ensures few { length out.new.bytes ≤ most }
 {
     if out.bytes().len() <= most {
@@ -135,7 +139,8 @@ pub(crate) fn last_of(
     count: usize,
 ) -> Result<Vec<u8>, NoMemory>
     requires { count ≤ length front.now + length back.now }
-    ensures { IfOk result (λ bytes. bytes.items ≡ drop ((length front.now + length back.now) - count) (front.now ++ back.now)) }
+    ensures { IfOk result (λ bytes. bytes.items
+        ≡ drop ((length front.now + length back.now) - count) (front.now ++ back.now)) }
 {
     let after = count.min(back.len());
     let before = count - after;

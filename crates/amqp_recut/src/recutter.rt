@@ -27,7 +27,8 @@ pub(crate) struct Recutter {
 }
 
 impl Recutter {
-    ghost use Rattle.std.specs.Prelude.{◌≡◌, ◌+◌, ◌++◌, [], length, Ok, Err, Some, None, IsSome, OnOk, OnErr, true, false};
+    ghost use Rattle.std.specs.Prelude.{◌≡◌, ◌+◌, ◌++◌, [], length, Ok, Err, Some, None};
+    ghost use Rattle.std.specs.Prelude.{IsSome, OnOk, OnErr, true, false};
     ghost use Rattle.std.specs.FinMap as finite;
     ghost use Rattle.amqp_wire.specs.Frames.{Frame, Body, raw_of, IsTyped};
     ghost use Rattle.amqp_wire.specs.Canonical.{canon, canon_frames};
@@ -78,7 +79,10 @@ impl Recutter {
     /// Keeps this of a channel, and no bytes. Where memory runs out, all stays.
     #[inline(always)]
     fn keep(&mut self, channel_id: ChannelId, progress: Option<Progress>) -> Result<(), NoMemory>
-        ensures ok { OnOk result (self.new ≡ record self.old { messages = set_at self.old.messages channel_id (held_with progress []) }) }
+        ensures ok { OnOk result (self.new
+            ≡ record self.old {
+              messages = set_at self.old.messages channel_id (held_with progress []);
+            }) }
         ensures err { OnErr result (self.new ≡ self.old) }
     {
         match progress {
@@ -95,7 +99,8 @@ impl Recutter {
 
     /// Keeps nothing of a channel.
     fn forget(&mut self, channel_id: ChannelId)
-        ensures { self.new ≡ record self.old { messages = finite.remove self.old.messages channel_id } }
+        ensures { self.new
+            ≡ record self.old { messages = finite.remove self.old.messages channel_id } }
     {
         self.messages.forget(channel_id);
     }
@@ -110,7 +115,10 @@ impl Recutter {
         requires there { IsSome (held_at self.old channel_id) }
         ensures ok { OnOk result (self.new ≡ record self.old {
           messages = finite.insert self.old.messages channel_id
-              (record { progress = progress; kept = kept_in (held_at self.old channel_id) ++ bytes.now });
+              (record {
+                progress = progress;
+                kept = kept_in (held_at self.old channel_id) ++ bytes.now;
+              });
         }) }
         ensures err { OnErr result (self.new ≡ self.old) }
     {
@@ -120,7 +128,12 @@ impl Recutter {
     /// Keeps these bytes of a message, and no others.
     fn replace(&mut self, channel_id: ChannelId, progress: Progress, kept: Vec<u8>)
         requires there { IsSome (held_at self.old channel_id) }
-        ensures { self.new ≡ record self.old { messages = finite.insert self.old.messages channel_id (record { progress = progress; kept = kept.items }) } }
+        ensures { self.new
+            ≡ record self.old {
+              messages =
+                  finite.insert self.old.messages channel_id
+                  (record { progress = progress; kept = kept.items });
+            } }
     {
         self.messages
             .replace(channel_id, Some(Message::new(progress, kept)));
@@ -148,7 +161,13 @@ impl Recutter {
         requires typed { IsTyped raw.frame_type }
         requires judged { IsJudged (raw_of raw) judged }
         requires steps { (frame : Frame) → whole (raw_of raw) ≡ Ok frame
-            → step_recutting self.old frame ≡ Ok (canon frame, record self.old { messages = set_at self.old.messages raw.channel_id (held_with progress []) }) }
+            → step_recutting self.old frame
+            ≡ Ok (
+              canon frame,
+              record self.old {
+                messages = set_at self.old.messages raw.channel_id (held_with progress []);
+              },
+            ) }
         ensures { DecidesBy recutting self.old self.new (raw_of raw.entry) result }
     {
         match self.keep(raw.channel_id, progress) {
@@ -193,7 +212,9 @@ impl Recutter {
 
     /// Takes a body that is one piece, where nothing is kept of its message before it; and else leaves it.
     fn pass_body(&mut self, channel_id: ChannelId, payload: &[u8]) -> bool
-        ensures taken { result ≡ true → step_recutting self.old (Body channel_id payload.now) ≡ Ok (canon (Body channel_id payload.now), self.new) }
+        ensures taken { result ≡ true
+            → step_recutting self.old (Body channel_id payload.now)
+            ≡ Ok (canon (Body channel_id payload.now), self.new) }
         ensures left { result ≡ false → self.new ≡ self.old }
     {
         if payload.is_empty() || payload.len() > self.size {
@@ -241,11 +262,13 @@ impl Recutter {
     ) -> Result<(), RunError<Refusal>>
         requires steps { step_recutting self.old (Body channel_id payload.now)
             ≡ Ok (
-              canon_frames (frames_given self.old.size channel_id true (kept_in (held_at self.old channel_id) ++ payload.now)),
+              canon_frames (frames_given self.old.size channel_id true
+                  (kept_in (held_at self.old channel_id) ++ payload.now)),
               record self.old { messages = finite.remove self.old.messages channel_id },
             ) }
         ensures room { out.new.room ≡ out.old.room }
-        ensures writes { WritesBy recutting self.old self.new (body_raw channel_id payload.now) (K.store sink.old) (K.store sink.new)
+        ensures writes { WritesBy recutting self.old self.new
+            (body_raw channel_id payload.now) (K.store sink.old) (K.store sink.new)
             out.old.bytes out.new.bytes (ending_of result) }
     {
         let size = self.size;
@@ -270,14 +293,21 @@ impl Recutter {
         requires there { IsSome (held_at self.old channel_id) }
         requires steps { step_recutting self.old (Body channel_id payload.now)
             ≡ Ok (
-              canon_frames (frames_given self.old.size channel_id false (kept_in (held_at self.old channel_id) ++ payload.now)),
+              canon_frames (frames_given self.old.size channel_id false
+                  (kept_in (held_at self.old channel_id) ++ payload.now)),
               record self.old {
                 messages = finite.insert self.old.messages channel_id
-                    (record { progress = progress; kept = left_over self.old.size (kept_in (held_at self.old channel_id) ++ payload.now) });
+                    (record {
+                      progress = progress;
+                      kept =
+                          left_over self.old.size
+                          (kept_in (held_at self.old channel_id) ++ payload.now);
+                    });
               },
             ) }
         ensures room { out.new.room ≡ out.old.room }
-        ensures writes { WritesBy recutting self.old self.new (body_raw channel_id payload.now) (K.store sink.old) (K.store sink.new)
+        ensures writes { WritesBy recutting self.old self.new
+            (body_raw channel_id payload.now) (K.store sink.old) (K.store sink.new)
             out.old.bytes out.new.bytes (ending_of result) }
     {
         let size = self.size;
@@ -312,7 +342,8 @@ impl Recutter {
         payload: &[u8],
     ) -> Result<(), RunError<Refusal>>
         ensures room { out.new.room ≡ out.old.room }
-        ensures writes { WritesBy recutting self.old self.new (body_raw channel_id payload.now) (K.store sink.old) (K.store sink.new)
+        ensures writes { WritesBy recutting self.old self.new
+            (body_raw channel_id payload.now) (K.store sink.old) (K.store sink.new)
             out.old.bytes out.new.bytes (ending_of result) }
     {
         let outline = FrameOutline::Body {
@@ -343,7 +374,8 @@ impl Recutter {
     ) -> Result<(), RunError<Refusal>>
         requires few { length payload.now < 2 ^ 32 }
         ensures room { out.new.room ≡ out.old.room }
-        ensures writes { WritesBy recutting self.old self.new (body_raw channel_id payload.now) (K.store sink.old) (K.store sink.new)
+        ensures writes { WritesBy recutting self.old self.new
+            (body_raw channel_id payload.now) (K.store sink.old) (K.store sink.new)
             out.old.bytes out.new.bytes (ending_of result) }
         ensures compact { length out.new.bytes ≤ length out.old.bytes + (length payload.now + 8) }
     {

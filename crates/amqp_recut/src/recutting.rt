@@ -22,18 +22,21 @@ pub fn recut_reported<S: Source, K: Sink>(
     sink: &mut K,
     max_payload: ChunkSize,
     size: u32,
-    turns: u64,
+    budget: u64,
 ) -> Result<(), RunReport<RecutError>>
     requires some { 1 ≤ size }
     requires fits { size ≤ max_payload }
-    ensures run { RecutReport size S.supply K.store max_payload turns source.old source.new sink.old sink.new result
-        ⊎ NeverBeganReport source.old source.new sink.old sink.new (RecutError.Stream StreamError.NoMemory) result }
+    ensures run { RecutReport size S.supply K.store max_payload
+        budget source.old source.new sink.old sink.new result
+        ⊎ NeverBeganReport source.old source.new sink.old sink.new
+        (RecutError.Stream StreamError.NoMemory) result }
     ensures never_untidy { unreported result ≢ Err (RecutError.Stream StreamError.NotTidy) }
-    ensures never_too_large { unreported result ≢ Err (RecutError.BadContent ContentFault.BodyTooLarge) }
+    ensures never_too_large { unreported result
+        ≢ Err (RecutError.BadContent ContentFault.BodyTooLarge) }
     ensures never_faulted { unreported result ≢ Err (RecutError.BadContent ContentFault.Faulted) }
 {
     let mut writer = Recutter::new(alloc, size);
-    let run = run_stream_reported(alloc, &mut writer, source, sink, max_payload, turns);
+    let run = run_stream_reported(alloc, &mut writer, source, sink, max_payload, budget);
     as_turned_report(run)
 }
 
@@ -44,15 +47,17 @@ pub fn recut<S: Source, K: Sink>(
     sink: &mut K,
     max_payload: ChunkSize,
     size: u32,
-    turns: u64,
+    budget: u64,
 ) -> Result<(), RecutError>
     requires some { 1 ≤ size }
     requires fits { size ≤ max_payload }
-    ensures run { RecutRun size S.supply K.store max_payload turns source.old source.new sink.old sink.new result
-        ⊎ NeverBegan source.old source.new sink.old sink.new (RecutError.Stream StreamError.NoMemory) result }
+    ensures run { RecutRun size S.supply K.store max_payload
+        budget source.old source.new sink.old sink.new result
+        ⊎ NeverBegan source.old source.new sink.old sink.new
+        (RecutError.Stream StreamError.NoMemory) result }
     ensures never_untidy { result ≢ Err (RecutError.Stream StreamError.NotTidy) }
     ensures never_too_large { result ≢ Err (RecutError.BadContent ContentFault.BodyTooLarge) }
     ensures never_faulted { result ≢ Err (RecutError.BadContent ContentFault.Faulted) }
 {
-    unreported(recut_reported(alloc, source, sink, max_payload, size, turns))
+    unreported(recut_reported(alloc, source, sink, max_payload, size, budget))
 }

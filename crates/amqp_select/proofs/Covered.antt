@@ -47,7 +47,8 @@ same_kind a b outline e f = absurd cc
 same_id : (a b : ℕ) (test : ℕ → Bool) → (a == b) ≡ true → test b ≡ true → test a ≡ true
 same_id a b test e f = let same : a ≡ b = grind (arith, nat_tests) in ap test same ∙ f
 
-part_holds : {A : Type 0} (same : A → A → Bool) (test : A → Bool) (j k : Option A) → ((a b : A) → same a b ≡ true → test b ≡ true → test a ≡ true) → stands same j k ≡ true → holds test k ≡ true → holds test j ≡ true
+part_holds : {A : Type 0} (same : A → A → Bool) (test : A → Bool) (j k : Option A)
+    → ((a b : A) → same a b ≡ true → test b ≡ true → test a ≡ true) → stands same j k ≡ true → holds test k ≡ true → holds test j ≡ true
 part_holds same test None k h e f = refl
 part_holds same test (Some a) None h e f = absurd cc
 part_holds same test (Some a) (Some b) h e f = h a b e f
@@ -82,7 +83,8 @@ not_covering r rule outline false is miss e = refl
 not_covering r rule outline true is miss e = absurd (clash (matches r outline) (covers_matches r rule outline is e) miss)
 
 -- where none of the rules matches, none covers a rule that does
-none_covers : (rules : List Rule) (rule : Rule) (outline : FrameOutline) → Miss rules outline → matches rule outline ≡ true → position_or_len (λ earlier. covers earlier rule) rules ≡ length rules
+none_covers : (rules : List Rule) (rule : Rule) (outline : FrameOutline) → Miss rules outline
+    → matches rule outline ≡ true → position_or_len (λ earlier. covers earlier rule) rules ≡ length rules
 none_covers [] rule outline none e = refl
 none_covers (r ∷ rules) rule outline none e =
     let more = none_covers rules rule outline none.1 e in
@@ -95,27 +97,32 @@ slice_get_seam (r ∷ earlier) rest rule = slice_get_seam earlier rest rule
 not_below : (n : ℕ) → nat_lt n n ≡ false
 not_below n = grind (arith, nat_tests)
 
-first_uncovered : (earlier rest : List Rule) (rule : Rule) (outline : FrameOutline) → Miss earlier outline → matches rule outline ≡ true → covered (earlier ++ rule ∷ rest) (length earlier) ≡ None
+first_uncovered : (earlier rest : List Rule) (rule : Rule) (outline : FrameOutline) → Miss earlier outline
+    → matches rule outline ≡ true → covered (earlier ++ rule ∷ rest) (length earlier) ≡ None
 first_uncovered earlier rest rule outline none e =
     rw (slice_get_seam earlier rest rule)
     (rw (take-append_seam earlier (rule ∷ rest))
     (rw (none_covers earlier rule outline none e)
     (rw (not_below (length earlier)) refl)))
 
-skipped : (b : Bool) (rule : Rule) (rest : List Rule) (test : Rule → Bool) → test rule ≡ false → find test (cons_option (if b then Some rule else None) rest) ≡ find test rest
+skipped : (b : Bool) (rule : Rule) (rest : List Rule) (test : Rule → Bool) → test rule ≡ false
+    → find test (cons_option (if b then Some rule else None) rest) ≡ find test rest
 skipped true rule rest test e = rw e refl
 skipped false rule rest test e = refl
 
-first_step : (rules earlier rest : List Rule) (rule : Rule) (n : ℕ) (outline : FrameOutline) (b : Bool) → rules ≡ earlier ++ rule ∷ rest → n ≡ length earlier → Miss earlier outline → matches rule outline ≡ b
+first_step : (rules earlier rest : List Rule) (rule : Rule) (n : ℕ) (outline : FrameOutline) (b : Bool)
+    → rules ≡ earlier ++ rule ∷ rest → n ≡ length earlier → Miss earlier outline → matches rule outline ≡ b
     → (b ≡ false → first_match (filter_map (uncovered_at rules) (enumerate_from (n + 1) rest)) outline ≡ first_match rest outline)
     → first_match (filter_map (uncovered_at rules) (enumerate_from n (rule ∷ rest))) outline ≡ first_match (rule ∷ rest) outline
 first_step rules earlier rest rule n outline true are place none is more =
     let uncovered_here : covered rules n ≡ None = ap₂ covered are place ∙ first_uncovered earlier rest rule outline none is in
     rw uncovered_here (rw is refl)
 first_step rules earlier rest rule n outline false are place none is more =
-    skipped (is_none (covered rules n)) rule (filter_map (uncovered_at rules) (enumerate_from (n + 1) rest)) (λ rule. matches rule outline) is ∙ more refl ∙ (rw is refl)
+    skipped (is_none (covered rules n)) rule (filter_map (uncovered_at rules) (enumerate_from (n + 1) rest)) (λ rule. matches rule outline) is
+    ∙ more refl ∙ (rw is refl)
 
-first_same : (rules earlier rest : List Rule) (n : ℕ) (outline : FrameOutline) → rules ≡ earlier ++ rest → n ≡ length earlier → Miss earlier outline → first_match (filter_map (uncovered_at rules) (enumerate_from n rest)) outline ≡ first_match rest outline
+first_same : (rules earlier rest : List Rule) (n : ℕ) (outline : FrameOutline) → rules ≡ earlier ++ rest → n ≡ length earlier
+    → Miss earlier outline → first_match (filter_map (uncovered_at rules) (enumerate_from n rest)) outline ≡ first_match rest outline
 first_same rules earlier [] n outline are place none = refl
 first_same rules earlier (rule ∷ rest) n outline are place none =
     first_step rules earlier rest rule n outline (matches rule outline) are place none refl (λ miss.
@@ -124,6 +131,7 @@ first_same rules earlier (rule ∷ rest) n outline are place none =
     (omega (arith, length-append earlier (rule ∷ [])))
     (Miss-push earlier rule outline none miss))
 
+-- Rules without those that an earlier one covers decide of each frame as all rules do.
 pub decides_same : (rules : List Rule) (outline : FrameOutline) → decides (uncovered rules) outline ≡ decides rules outline
 decides_same rules outline = ap keeps (first_same rules [] rules 0 outline refl refl tt)
 
@@ -131,5 +139,6 @@ filter_same : {A : Type 0} (p q : A → Bool) (xs : List A) → ((x : A) → p x
 filter_same p q [] same = refl
 filter_same p q (x ∷ xs) same = ap₂ (λ b rest. cond b (x ∷ rest) rest) (same x) (filter_same p q xs same)
 
+-- Rules without those that an earlier one covers keep the same frames.
 pub kept_same : (rules : List Rule) (frames : List Frame) → kept (uncovered rules) frames ≡ kept rules frames
 kept_same rules frames = filter_same _ _ frames (λ frame. decides_same rules (outline_of frame))

@@ -63,8 +63,12 @@ parts_decided a b =
 same_rule : (a b : Rule) → Decides (rule.ghosts.eq a b) (a ≡ b)
 same_rule a b = (
   λ h. let e = (parts_decided a b).0 h in λ i. record { keep = e.0 i; channel = e.1.0 i; kind = e.1.1.0 i; class_id = e.1.1.1.0 i; method_id = e.1.1.1.1 i },
-  λ e. (parts_decided a b).1 (ap (λ (r : Rule). r.keep) e, (ap (λ (r : Rule). r.channel) e, (ap (λ (r : Rule). r.kind) e, (ap (λ (r : Rule). r.class_id) e, ap (λ (r : Rule). r.method_id) e)))),
+  λ e. (parts_decided a b).1 (
+    ap (λ (r : Rule). r.keep) e,
+    (ap (λ (r : Rule). r.channel) e, (ap (λ (r : Rule). r.kind) e, (ap (λ (r : Rule). r.class_id) e, ap (λ (r : Rule). r.method_id) e))),
+  ),
 )
 
+-- The test of equal lists of rules is true exactly where contracts see the same.
 pub same_rules : (a b : List Rule) → Decides (pointwise rule.ghosts.eq a b) (a ≡ b)
 same_rules a b = pointwise_decides same_rule a b

@@ -40,15 +40,18 @@ pub record Front {A : Type 0} (text : A → List ℕ) (Is : A → Type 0) (bytes
   pub is : bytes ≡ text found.0 ++ found.1
   pub valid : Is found.0
 
+-- A number that is printed in front of bytes without a digit first is read as this number, and these bytes are left.
 pub number_taken : (n : ℕ) (rest : List ℕ) → IsNumber n → BeginsNoDigit rest → read_count (decimal n ++ rest) ≡ Some (n, rest)
 number_taken n rest h ends =
     let count = digits_in_front-append (decimal n) rest (digits_decimal numerals n (omega (arith, h))) ends in
-    rw count (rw (take-append_seam (decimal n) rest) (rw (drop_at (decimal n) rest (length (decimal n)) refl) (rw (named-decimal 65535 n (omega arith) h) refl)))
+    rw count
+    (rw (take-append_seam (decimal n) rest) (rw (drop_at (decimal n) rest (length (decimal n)) refl) (rw (named-decimal 65535 n (omega arith) h) refl)))
 
 mapped : (o : Option ℕ) (rest : List ℕ) (found : ℕ × List ℕ) → option_map (λ n. (n, rest)) o ≡ Some found → (o ≡ Some found.0) × (rest ≡ found.1)
 mapped None rest found e = absurd cc
 mapped (Some n) rest found e = (ap (option_map (λ (p : ℕ × List ℕ). p.0)) e, cc)
 
+-- What is read as a number in front of bytes stands there as it is printed, and is within the range.
 pub number_front : (bytes : List ℕ) (found : ℕ × List ℕ) → read_count bytes ≡ Some found → Front decimal IsNumber bytes found
 number_front bytes found e =
     let count = digits_in_front bytes in
@@ -61,6 +64,7 @@ number_front bytes found e =
 
 -- ---- digits as text
 
+-- Digits are UTF-8.
 pub text_of_digits : (digits : List ℕ) → AllDigits 10 digits → IsUtf8 digits
 text_of_digits digits all = IsUtf8-from_ascii digits (IsAscii-from_digits digits all)
 
@@ -72,10 +76,12 @@ in_digits c e = (grind (arith, nat_tests), grind (arith, nat_tests))
 digit_of : (c : ℕ) → is_ascii_digit c ≡ true → digit_value c < 10
 digit_of c e = let value = digit_value_digit c (in_digits c e) in let below = in_digits c e in omega (arith, below.1)
 
-front_digit : (byte : ℕ) (bytes : List ℕ) (b : Bool) → is_ascii_digit byte ≡ b → AllDigits 10 (take (digits_in_front bytes) bytes) → AllDigits 10 (take (digits_in_front (byte ∷ bytes)) (byte ∷ bytes))
+front_digit : (byte : ℕ) (bytes : List ℕ) (b : Bool) → is_ascii_digit byte ≡ b
+    → AllDigits 10 (take (digits_in_front bytes) bytes) → AllDigits 10 (take (digits_in_front (byte ∷ bytes)) (byte ∷ bytes))
 front_digit byte bytes true is more = rw is (rw one-add (digit_of byte is, more))
 front_digit byte bytes false is more = rw is tt
 
+-- The digits that are counted in front of bytes are digits.
 pub front_digits : (bytes : List ℕ) → AllDigits 10 (take (digits_in_front bytes) bytes)
 front_digits [] = tt
 front_digits (byte ∷ bytes) = front_digit byte bytes (is_ascii_digit byte) refl (front_digits bytes)

@@ -19,17 +19,22 @@ All-push : {A : Type 0} (P : A → Type 0) (xs : List A) (x : A) → AllByRecurs
 All-push P [] x all p = (p, tt)
 All-push P (y ∷ xs) x all p = (all.0, All-push P xs x all.1 p)
 
+-- No words stand for no rules.
 pub none_spelled : SpelledBy [] []
 none_spelled = record { are_rules = tt; are = refl }
 
 -- the text of the word at a place
-word_at : (words : List (String Global)) (place : ℕ) (word : String Global) → place < length words → word ≡ get_or words place word → get_or (texts_of words) place [] ≡ string_bytes word
+word_at : (words : List (String Global)) (place : ℕ) (word : String Global) → place < length words
+    → word ≡ get_or words place word → get_or (texts_of words) place [] ≡ string_bytes word
 word_at words place word h is = get_or-map string_bytes words place word [] h ∙ ap string_bytes (sym is)
 
 texts_count : (words : List (String Global)) → length (texts_of words) ≡ length words
 texts_count words = length-map words string_bytes
 
-pub spelled_more : (words : List (String Global)) (place : ℕ) (word : String Global) (rules : List Rule) (rule : Rule) → place < length words → word ≡ get_or words place word → SpelledBy (take place (texts_of words)) rules → read_rule (string_bytes word) ≡ Some rule → SpelledBy (take (place + 1) (texts_of words)) (rules ++ rule ∷ [])
+-- Where the words before a place stand for rules, and the one at it is read as a rule, the words up to it stand for all of these.
+pub spelled_more : (words : List (String Global)) (place : ℕ) (word : String Global) (rules : List Rule) (rule : Rule)
+    → place < length words → word ≡ get_or words place word → SpelledBy (take place (texts_of words)) rules
+    → read_rule (string_bytes word) ≡ Some rule → SpelledBy (take (place + 1) (texts_of words)) (rules ++ rule ∷ [])
 spelled_more words place word rules rule h is so_far e =
     let texts = texts_of words in
     let spells = rule_front (string_bytes word) rule e in
@@ -53,10 +58,14 @@ pub rule_read : (word : List ℕ) (result : Option Rule) → result ≡ read_rul
 rule_read word None e = tt
 rule_read word (Some rule) e = let front = rule_front word rule (sym e) in (front.is_rule, front.is)
 
+-- A word that is not read as a rule stands for none.
 pub none_read : (word : List ℕ) (result : Option Rule) → result ≡ read_rule word → result ≡ None → ¬ IsRuleWord word
 none_read word result e none = unread word (sym e ∙ none)
 
-pub first_malformed : (words : List (String Global)) (place : ℕ) (word : String Global) (rules : List Rule) → 0 < length words → length words ≤ 64 → place < length words → word ≡ get_or words place word → SpelledBy (take place (texts_of words)) rules → read_rule (string_bytes word) ≡ None → IsFirstMalformed (texts_of words) place
+-- Where the words before a place stand for rules, and the one at it is not read as a rule, it is the first malformed one.
+pub first_malformed : (words : List (String Global)) (place : ℕ) (word : String Global) (rules : List Rule)
+    → 0 < length words → length words ≤ 64 → place < length words → word ≡ get_or words place word
+    → SpelledBy (take place (texts_of words)) rules → read_rule (string_bytes word) ≡ None → IsFirstMalformed (texts_of words) place
 first_malformed words place word rules some few h is so_far e =
     let texts = texts_of words in
     let count = texts_count words in
@@ -73,7 +82,9 @@ first_malformed words place word rules some few h is so_far e =
       no_rule = unread (string_bytes word) e;
     }
 
-pub all_spelled : (words : List (String Global)) (place : ℕ) (rules : List Rule) → 0 < length words → length words ≤ 64 → length words ≤ place → SpelledBy (take place (texts_of words)) rules → Spell (texts_of words) rules
+-- Where 1 to 64 words were read to their end, they stand for the rules that were read.
+pub all_spelled : (words : List (String Global)) (place : ℕ) (rules : List Rule) → 0 < length words → length words ≤ 64
+    → length words ≤ place → SpelledBy (take place (texts_of words)) rules → Spell (texts_of words) rules
 all_spelled words place rules some few h so_far =
     let count = texts_count words in
     record {

@@ -39,11 +39,19 @@ pub selects_all : (rules : List Rule) → ((outline : FrameOutline) → true ≡
 selects_all rules all = fun_ext λ frames. ap canon_frames (sym (all_kept rules all frames))
 
 -- where all are kept, what is canonicalized is what is selected
-pub all_run : {S K : Type 0} (rules : List Rule) {supply : S → Supply} {store : K → Store} {m turns : ℕ} {source source' : S} {sink sink' : K} (r : Result (Unit {0}) (RunReport StreamError)) → ((outline : FrameOutline) → true ≡ decides rules outline)
-    → CanonicalReport plain supply store m turns source source' sink sink' r ⊎ NeverBeganReport source source' sink sink' errors.NoMemory r → SelectReport rules supply store m turns source source' sink sink' r ⊎ NeverBeganReport source source' sink sink' errors.NoMemory r
-all_run rules {supply = supply} {store = store} {m = m} {turns = turns} {source = source} {source' = source'} {sink = sink} {sink' = sink'} r all (inl run) =
+pub all_run : {S K : Type 0} (rules : List Rule) {supply : S → Supply} {store : K → Store}
+    {m budget : ℕ} {source source' : S} {sink sink' : K} (r : Result (Unit {0}) (RunReport StreamError))
+    → ((outline : FrameOutline) → true ≡ decides rules outline)
+    → CanonicalReport plain supply store m budget source source' sink sink' r ⊎ NeverBeganReport source source' sink sink' errors.NoMemory r
+    → SelectReport rules supply store m budget source source' sink sink' r ⊎ NeverBeganReport source source' sink sink' errors.NoMemory r
+all_run rules {supply = supply} {store = store} {m = m} {budget = budget} {source = source} {source' = source'} {sink = sink} {sink' = sink'} r all (inl run) =
     let same = selects_all rules all in
-    inl (run_by (λ goes. subst (λ text. Transcribes text plain m turns (supply source) (supply source') (store sink) (store sink') (unreported r)) same goes.run) (λ e. e) (λ bytes. subst (λ text. TranscribesExactly text plain m bytes (store sink) (store sink') (unreported r)) same) (λ bytes e. e) (λ goes e. e) run.0, run.1)
+    inl (
+      run_by (λ goes. subst (λ text. Transcribes text plain m budget (supply source) (supply source') (store sink) (store sink') (unreported r)) same goes.run)
+          (λ e. e) (λ bytes. subst (λ text. TranscribesExactly text plain m bytes (store sink) (store sink') (unreported r)) same)
+          (λ bytes e. e) (λ goes e. e) run.0,
+      run.1,
+    )
 all_run rules r all (inr never) = inr never
 
 -- ---- one frame
@@ -59,22 +67,34 @@ keeps : (s : Selector) (frame : Frame) → decides s.rules.now (outline_of frame
 keeps s frame e = rw e refl
 
 -- a frame that is kept
-kept_step : (s : Selector) (raw : Raw) (frame : Frame) (b : Bool) → whole raw ≡ Ok frame → IsDecision s raw b → b ≡ true → IsStep selecting s s raw (canon frame)
-kept_step s raw frame b is decided yes-keep = record { frame = frame; is_whole = is; at_level = refl; steps = ap (λ (bytes : List ℕ). Ok (bytes, s)) (keeps s frame (sym (decided frame is) ∙ yes-keep)) }
+kept_step : (s : Selector) (raw : Raw) (frame : Frame) (b : Bool) → whole raw ≡ Ok frame
+    → IsDecision s raw b → b ≡ true → IsStep selecting s s raw (canon frame)
+kept_step s raw frame b is decided yes-keep =
+    record { frame = frame; is_whole = is; at_level = refl; steps = ap (λ (bytes : List ℕ). Ok (bytes, s)) (keeps s frame (sym (decided frame is) ∙ yes-keep)) }
 
 -- before anything is written for it
-pub keeps_frame : {judged : FrameJudgement} (s : Selector) (raw : Raw) (b : Bool) → (h : IsJudged raw judged) → IsDecision s raw b → b ≡ true → IsKept selecting s s raw judged
+pub keeps_frame : {judged : FrameJudgement} (s : Selector) (raw : Raw) (b : Bool)
+    → (h : IsJudged raw judged) → IsDecision s raw b → b ≡ true → IsKept selecting s s raw judged
 keeps_frame s raw b h decided e = record { is_judged = h; step = kept_step s raw h.frame b h.is decided e; compact = refl }
 
-pub drops_frame : {judged : FrameJudgement} (s : Selector) (raw : Raw) (b : Bool) → IsJudged raw judged → IsDecision s raw b → b ≡ false → IsDropped selecting s s raw
+-- A frame that the rules do not keep is dropped, with nothing written for it.
+pub drops_frame : {judged : FrameJudgement} (s : Selector) (raw : Raw) (b : Bool)
+    → IsJudged raw judged → IsDecision s raw b → b ≡ false → IsDropped selecting s s raw
 drops_frame s raw b h decided e = record {
-  step = record { frame = h.frame; is_whole = h.is; at_level = refl; steps = ap (λ (bytes : List ℕ). Ok (bytes, s)) (drops s h.frame (sym (decided h.frame h.is) ∙ e)) };
+  step =
+      record {
+        frame = h.frame;
+        is_whole = h.is;
+        at_level = refl;
+        steps = ap (λ (bytes : List ℕ). Ok (bytes, s)) (drops s h.frame (sym (decided h.frame h.is) ∙ e));
+      };
   compact = refl;
 }
 
 -- ---- a stream
 
-selection_more : (b : Bool) (frame : Frame) (rest : List Frame) (bytes : List ℕ) → bytes ≡ canon_frames rest → (if b then canon frame else []) ++ bytes ≡ canon_frames (cond b (frame ∷ rest) rest)
+selection_more : (b : Bool) (frame : Frame) (rest : List Frame) (bytes : List ℕ) → bytes ≡ canon_frames rest
+    → (if b then canon frame else []) ++ bytes ≡ canon_frames (cond b (frame ∷ rest) rest)
 selection_more true frame rest bytes e = ap (λ (xs : List ℕ). canon frame ++ xs) e
 selection_more false frame rest bytes e = e
 
@@ -93,8 +113,11 @@ selects s =
     }
 
 -- a whole call
-pub select_run : {S K : Type 0} (s t : Selector) {supply : S → Supply} {store : K → Store} {m turns : ℕ} {source source' : S} {sink sink' : K} (r : Result (Unit {0}) (RunReport StreamError))
-    → WriterReport selecting s t supply store m turns source source' sink sink' (as_run_report r) ⊎ NeverRanReport s t source source' sink sink' (as_run_report {E = Infallible} r)
-    → SelectReport s.rules.now supply store m turns source source' sink sink' r ⊎ NeverBeganReport source source' sink sink' errors.NoMemory r
-select_run s t {supply = supply} {m = m} {source = source} {source' = source'} r (inl run) = inl (text_run (selects s) (rw unreported_as_run at run.0), report_at (selects s) m (supply source) (supply source') r run.1)
+pub select_run : {S K : Type 0} (s t : Selector) {supply : S → Supply} {store : K → Store}
+    {m budget : ℕ} {source source' : S} {sink sink' : K} (r : Result (Unit {0}) (RunReport StreamError))
+    → WriterReport selecting s t supply store m budget source source' sink sink' (as_run_report r)
+    ⊎ NeverRanReport s t source source' sink sink' (as_run_report {E = Infallible} r)
+    → SelectReport s.rules.now supply store m budget source source' sink sink' r ⊎ NeverBeganReport source source' sink sink' errors.NoMemory r
+select_run s t {supply = supply} {m = m} {source = source} {source' = source'} r (inl run) =
+    inl (text_run (selects s) (rw unreported_as_run at run.0), report_at (selects s) m (supply source) (supply source') r run.1)
 select_run s t r (inr never) = inr (never_began_report r never)

@@ -28,10 +28,12 @@ tested : (b : Bool) (rest found : List ℕ) → (if b then Some rest else None) 
 tested true rest found e = (refl, cc)
 tested false rest found e = absurd cc
 
+-- Bytes after a text are what is left where the text stands in front.
 pub after_is : (text bytes rest : List ℕ) → after text bytes ≡ Some rest → bytes ≡ text ++ rest
 after_is text bytes rest e =
     let h = tested (bytes_eq (take (length text) bytes) text) (drop (length text) bytes) rest e in
-    sym (take-append-drop (length text) bytes) ∙ ap (λ front. front ++ drop (length text) bytes) ((bytes_eq-Decides (take (length text) bytes) text).0 h.0) ∙ ap (λ more. text ++ more) h.1
+    sym (take-append-drop (length text) bytes)
+    ∙ ap (λ front. front ++ drop (length text) bytes) ((bytes_eq-Decides (take (length text) bytes) text).0 h.0) ∙ ap (λ more. text ++ more) h.1
 
 -- ---- verbs and kinds
 
@@ -50,7 +52,9 @@ kind_taken kinds.Body rest = refl
 kind_taken kinds.Heartbeat rest = refl
 
 -- one of several: this one, by its text, or one of the others
-one_of : {A : Type 0} (text_of : A → List ℕ) (bytes : List ℕ) (a : A) (others : Reading A) (found : A × List ℕ) → ((one : Option (List ℕ)) → after (text_of a) bytes ≡ one → or_else one a others ≡ Some found → (others ≡ Some found → Front text_of Always bytes found) → Front text_of Always bytes found)
+one_of : {A : Type 0} (text_of : A → List ℕ) (bytes : List ℕ) (a : A) (others : Reading A) (found : A × List ℕ)
+    → ((one : Option (List ℕ)) → after (text_of a) bytes ≡ one → or_else one a others ≡ Some found
+    → (others ≡ Some found → Front text_of Always bytes found) → Front text_of Always bytes found)
 one_of text_of bytes a others found None is e rest = rest e
 one_of text_of bytes a others found (Some more) is e rest =
     let same : (a, more) ≡ found = cc in
@@ -109,14 +113,16 @@ span_taken (spans.Range first last) rest h tail =
     (rw (number_taken last rest h.1 (no_digit rest tail))
     (rw (in_order first last h.0) refl)))
 
-ordered : (b : Bool) (span : Span) (rest : List ℕ) (found : Span × List ℕ) → (if b then Some (span, rest) else None) ≡ Some found → (b ≡ true) × ((span, rest) ≡ found)
+ordered : (b : Bool) (span : Span) (rest : List ℕ) (found : Span × List ℕ)
+    → (if b then Some (span, rest) else None) ≡ Some found → (b ≡ true) × ((span, rest) ≡ found)
 ordered true span rest found e = (refl, cc)
 ordered false span rest found e = absurd cc
 
 at_most : (first last : ℕ) → nat_le first last ≡ true → first ≤ last
 at_most first last e = grind (arith, nat_tests)
 
-range_front : (bytes rest : List ℕ) (first : ℕ) (last : Reading ℕ) (found : Span × List ℕ) → read_count rest ≡ last → bytes ≡ decimal first ++ (codes "-" ++ rest) → range_to first last ≡ Some found → Front span_text IsSpanOfNumbers bytes found
+range_front : (bytes rest : List ℕ) (first : ℕ) (last : Reading ℕ) (found : Span × List ℕ) → read_count rest ≡ last
+    → bytes ≡ decimal first ++ (codes "-" ++ rest) → range_to first last ≡ Some found → Front span_text IsSpanOfNumbers bytes found
 range_front bytes rest first None found is front e = absurd cc
 range_front bytes rest first (Some last) found is front e =
     let second = number_front rest last is in
@@ -126,7 +132,8 @@ range_front bytes rest first (Some last) found is front e =
       valid = (at_most first last.0 h.0, second.valid);
     })
 
-span_end : (bytes : List ℕ) (first : ℕ × List ℕ) (dash : Option (List ℕ)) (found : Span × List ℕ) → Front decimal IsNumber bytes first → after (codes "-") first.1 ≡ dash → span_from first dash ≡ Some found → Front span_text IsSpanOfNumbers bytes found
+span_end : (bytes : List ℕ) (first : ℕ × List ℕ) (dash : Option (List ℕ)) (found : Span × List ℕ) → Front decimal IsNumber bytes first
+    → after (codes "-") first.1 ≡ dash → span_from first dash ≡ Some found → Front span_text IsSpanOfNumbers bytes found
 span_end bytes first None found front is e =
     let same : (spans.One first.0, first.1) ≡ found = cc in
     subst (Front span_text IsSpanOfNumbers bytes) same (record { is = front.is; valid = front.valid })
@@ -148,16 +155,22 @@ record IsAfter (name rest : List ℕ) : Type 0 where
   none : after name rest ≡ None
   tail : IsTail rest
 
-part_taken : {A : Type 0} (name : List ℕ) (text : A → List ℕ) (Is : A → Type 0) (read : List ℕ → Reading A) (part : Option A) (rest : List ℕ) → ((a : A) → Is a → read (text a ++ rest) ≡ Some (a, rest)) → after name rest ≡ None → Has Is part → read_part name read (part_text name text part ++ rest) ≡ Some (part, rest)
+part_taken : {A : Type 0} (name : List ℕ) (text : A → List ℕ) (Is : A → Type 0) (read : List ℕ → Reading A) (part : Option A) (rest : List ℕ)
+    → ((a : A) → Is a → read (text a ++ rest) ≡ Some (a, rest)) → after name rest ≡ None
+    → Has Is part → read_part name read (part_text name text part ++ rest) ≡ Some (part, rest)
 part_taken name text Is read None rest taken none h = rw none refl
 part_taken name text Is read (Some a) rest taken none h =
     rw (append_assoc name (text a) rest) (rw (after-append name (text a ++ rest)) (rw (taken a h) refl))
 
-got : {A : Type 0} (o : Reading A) (found : Option A × List ℕ) → option_map (λ (part : A × List ℕ). (Some part.0, part.1)) o ≡ Some found → Bound o (λ part. Some (Some part.0, part.1)) found
+got : {A : Type 0} (o : Reading A) (found : Option A × List ℕ)
+    → option_map (λ (part : A × List ℕ). (Some part.0, part.1)) o ≡ Some found → Bound o (λ part. Some (Some part.0, part.1)) found
 got None found e = absurd cc
 got (Some part) found e = record { a = part; is = refl; gives = e }
 
-part_end : {A : Type 0} (name : List ℕ) (text : A → List ℕ) (Is : A → Type 0) (read : List ℕ → Reading A) (bytes : List ℕ) (named : Option (List ℕ)) (found : Option A × List ℕ) → ((bytes : List ℕ) (found : A × List ℕ) → read bytes ≡ Some found → Front text Is bytes found) → after name bytes ≡ named → part_at read bytes named ≡ Some found → Front (part_text name text) (Has Is) bytes found
+part_end : {A : Type 0} (name : List ℕ) (text : A → List ℕ) (Is : A → Type 0)
+    (read : List ℕ → Reading A) (bytes : List ℕ) (named : Option (List ℕ)) (found : Option A × List ℕ)
+    → ((bytes : List ℕ) (found : A × List ℕ) → read bytes ≡ Some found → Front text Is bytes found)
+    → after name bytes ≡ named → part_at read bytes named ≡ Some found → Front (part_text name text) (Has Is) bytes found
 part_end name text Is read bytes None found front is e =
     let same : (None, bytes) ≡ found = cc in
     subst (Front (part_text name text) (Has Is) bytes) same (record { is = refl; valid = tt })
@@ -170,7 +183,9 @@ part_end name text Is read bytes (Some rest) found front is e =
       valid = part.valid;
     })
 
-part_front : {A : Type 0} (name : List ℕ) (text : A → List ℕ) (Is : A → Type 0) (read : List ℕ → Reading A) (bytes : List ℕ) (found : Option A × List ℕ) → ((bytes : List ℕ) (found : A × List ℕ) → read bytes ≡ Some found → Front text Is bytes found) → read_part name read bytes ≡ Some found → Front (part_text name text) (Has Is) bytes found
+part_front : {A : Type 0} (name : List ℕ) (text : A → List ℕ) (Is : A → Type 0) (read : List ℕ → Reading A) (bytes : List ℕ) (found : Option A × List ℕ)
+    → ((bytes : List ℕ) (found : A × List ℕ) → read bytes ≡ Some found → Front text Is bytes found)
+    → read_part name read bytes ≡ Some found → Front (part_text name text) (Has Is) bytes found
 part_front name text Is read bytes found front e = part_end name text Is read bytes (after name bytes) found front refl e
 
 -- ---- what comes after each part
@@ -193,7 +208,8 @@ after_kind None None = record { none = refl; tail = tt }
 after_kind None (Some id) = record { none = refl; tail = refl }
 after_kind (Some id) method = record { none = refl; tail = refl }
 
-after_channel : (kind : Option AMQPFrameType) (class method : Option ℕ) → IsAfter (codes ",channel=") (kind_part_text kind ++ (class_text class ++ method_text method))
+after_channel : (kind : Option AMQPFrameType) (class method : Option ℕ)
+    → IsAfter (codes ",channel=") (kind_part_text kind ++ (class_text class ++ method_text method))
 after_channel None None None = record { none = refl; tail = tt }
 after_channel None None (Some id) = record { none = refl; tail = refl }
 after_channel None (Some id) method = record { none = refl; tail = refl }
@@ -205,20 +221,26 @@ always : {A : Type 0} (part : Option A) → IfSome part Always
 always None = tt
 always (Some a) = tt
 
-channel_taken : (part : Option Span) (rest : List ℕ) → IsAfter (codes ",channel=") rest → IfSome part IsSpanOfNumbers → read_part (codes ",channel=") read_span (part_text (codes ",channel=") span_text part ++ rest) ≡ Some (part, rest)
-channel_taken part rest ends h = part_taken (codes ",channel=") span_text IsSpanOfNumbers read_span part rest (λ span valid. span_taken span rest valid ends.tail) ends.none h
+channel_taken : (part : Option Span) (rest : List ℕ) → IsAfter (codes ",channel=") rest → IfSome part IsSpanOfNumbers
+    → read_part (codes ",channel=") read_span (part_text (codes ",channel=") span_text part ++ rest) ≡ Some (part, rest)
+channel_taken part rest ends h =
+    part_taken (codes ",channel=") span_text IsSpanOfNumbers read_span part rest (λ span valid. span_taken span rest valid ends.tail) ends.none h
 
-kind_part_taken : (part : Option AMQPFrameType) (rest : List ℕ) → IsAfter (codes ",kind=") rest → read_part (codes ",kind=") read_kind (kind_part_text part ++ rest) ≡ Some (part, rest)
+kind_part_taken : (part : Option AMQPFrameType) (rest : List ℕ) → IsAfter (codes ",kind=") rest
+    → read_part (codes ",kind=") read_kind (kind_part_text part ++ rest) ≡ Some (part, rest)
 kind_part_taken part rest ends = part_taken (codes ",kind=") type_text Always read_kind part rest (λ kind valid. kind_taken kind rest) ends.none (always part)
 
-id_taken : (name : List ℕ) (part : Option ℕ) (rest : List ℕ) → IsAfter name rest → IfSome part IsNumber → read_part name read_count (part_text name decimal part ++ rest) ≡ Some (part, rest)
-id_taken name part rest ends h = part_taken name decimal IsNumber read_count part rest (λ id valid. number_taken id rest valid (no_digit rest ends.tail)) ends.none h
+id_taken : (name : List ℕ) (part : Option ℕ) (rest : List ℕ) → IsAfter name rest → IfSome part IsNumber
+    → read_part name read_count (part_text name decimal part ++ rest) ≡ Some (part, rest)
+id_taken name part rest ends h =
+    part_taken name decimal IsNumber read_count part rest (λ id valid. number_taken id rest valid (no_digit rest ends.tail)) ends.none h
 
 method_taken : (part : Option ℕ) → IfSome part IsNumber → read_part (codes ",method=") read_count (method_text part) ≡ Some (part, [])
 method_taken part h =
     subst (λ bytes. read_part (codes ",method=") read_count bytes ≡ Some (part, [])) (append-nil (method_text part))
     (id_taken (codes ",method=") part [] (record { none = refl; tail = tt }) h)
 
+-- The word of a rule is read as this rule.
 pub rule_taken : (rule : Rule) → IsRule rule → read_rule (spelled rule) ≡ Some rule
 rule_taken rule h =
     let class_on = class_text rule.class_id ++ method_text rule.method_id in
@@ -239,6 +261,7 @@ ended : (made : Rule) (rest : List ℕ) (rule : Rule) → at_end made rest ≡ S
 ended made [] rule e = (refl, cc)
 ended made (byte ∷ rest) rule e = absurd cc
 
+-- A word that is read as a rule is the word of this rule.
 pub rule_front : (word : List ℕ) (rule : Rule) → read_rule word ≡ Some rule → Spells word rule
 rule_front word rule e =
     let verb = bound (read_verb word) _ rule e in
@@ -246,7 +269,8 @@ rule_front word rule e =
     let kind = bound (read_part (codes ",kind=") read_kind channel.a.1) _ rule channel.gives in
     let class = bound (read_part (codes ",class=") read_count kind.a.1) _ rule kind.gives in
     let method = bound (read_part (codes ",method=") read_count class.a.1) _ rule class.gives in
-    let at = ended (record { keep = verb.a.0; channel = channel.a.0; kind = kind.a.0; class_id = class.a.0; method_id = method.a.0 }) method.a.1 rule method.gives in
+    let at =
+    ended (record { keep = verb.a.0; channel = channel.a.0; kind = kind.a.0; class_id = class.a.0; method_id = method.a.0 }) method.a.1 rule method.gives in
     let verb_is = verb_front word verb.a verb.is in
     let channel_is = part_front (codes ",channel=") span_text IsSpanOfNumbers read_span verb.a.1 channel.a span_front channel.is in
     let kind_is = part_front (codes ",kind=") type_text Always read_kind channel.a.1 kind.a kind_front kind.is in
@@ -264,5 +288,6 @@ rule_front word rule e =
           ∙ append-nil (method_text method.a.0)))));
     })
 
+-- No two rules have the same word.
 pub one_rule : (r q : Rule) → IsRule r → IsRule q → spelled r ≡ spelled q → r ≡ q
 one_rule r q hr hq e = let same = sym (rule_taken r hr) ∙ ap read_rule e ∙ rule_taken q hq in cc

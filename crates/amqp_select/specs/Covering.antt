@@ -1,5 +1,6 @@
 -- Which rules can never be the first to match.
-use Rattle.std.specs.Prelude.{ℕ, List, Bool, true, false, ◌&&◌, ◌==◌, nat_le, Option, Some, None, take, slice_get, position, is_none, if◌then◌else◌}
+use Rattle.std.specs.Prelude.{ℕ, List, Bool, true, false, ◌&&◌, ◌==◌, nat_le, Option, Some, None}
+use Rattle.std.specs.Prelude.{take, slice_get, position, is_none, if◌then◌else◌}
 use Rattle.std.specs.Option.{option_and_then}
 use Rattle.std.specs.List.{filter_map, enumerate_from}
 use Rattle.amqp_wire.specs.declared.frame_type.AMQPFrameType.{AMQPFrameType}
@@ -32,7 +33,8 @@ stands same None part = true
 stands same (Some a) None = false
 stands same (Some a) (Some b) = same a b
 
--- Each part of the first rule stands in the second too: so all that the second matches the first does.
+-- Each part of the first rule stands in the second too: so all that the second matches
+-- the first does.
 abbrev pub covers : Rule → Rule → Bool
 covers j k =
     stands includes j.channel k.channel
@@ -42,7 +44,9 @@ covers j k =
 
 -- the first of the earlier rules that covers rule k
 abbrev pub covered : List Rule → ℕ → Option ℕ
-covered rules k = option_and_then (λ rule. position (λ earlier. covers earlier rule) (take k rules)) (slice_get rules k)
+covered rules k =
+    option_and_then (λ rule. position (λ earlier. covers earlier rule) (take k rules))
+    (slice_get rules k)
 
 -- the rule at a place, unless an earlier one covers it
 abbrev pub uncovered_at : List Rule → ℕ × Rule → Option Rule

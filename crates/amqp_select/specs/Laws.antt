@@ -8,7 +8,8 @@ use Rattle.amqp_select.specs.Covering.{uncovered}
 
 -- without the rules that an earlier one covers the same frames are kept
 abbrev pub CoveredRulesDecideNothing : Type 0
-CoveredRulesDecideNothing = (rules : List Rule) (frames : List Frame) → kept (uncovered rules) frames ≡ kept rules frames
+CoveredRulesDecideNothing =
+    (rules : List Rule) (frames : List Frame) → kept (uncovered rules) frames ≡ kept rules frames
 
 -- no word stands for two rules
 abbrev pub WordsSpellOneRule : Type 0

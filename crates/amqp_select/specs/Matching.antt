@@ -1,5 +1,6 @@
 -- Which frames rules keep.
-use Rattle.std.specs.Prelude.{ℕ, List, [], ◌∷◌, Bool, true, false, ◌&&◌, ◌==◌, nat_le, Option, Some, None, is_none, find, filter, if◌then◌else◌}
+use Rattle.std.specs.Prelude.{ℕ, List, [], ◌∷◌, Bool, true, false, ◌&&◌, ◌==◌, nat_le, Option, Some}
+use Rattle.std.specs.Prelude.{None, is_none, find, filter, if◌then◌else◌}
 use Rattle.amqp_wire.specs.declared.frame_type.AMQPFrameType.{AMQPFrameType}
 use Rattle.amqp_wire.specs.declared.frame_type.AMQPFrameType.TheVariants as kinds
 use Rattle.amqp_wire.specs.declared.outline.FrameOutline.{FrameOutline}
@@ -50,7 +51,8 @@ matches rule outline =
 
 -- the rule has no part, so that it matches every frame
 abbrev pub is_bare : Rule → Bool
-is_bare rule = is_none rule.channel && is_none rule.kind && is_none rule.class_id && is_none rule.method_id
+is_bare rule =
+    is_none rule.channel && is_none rule.kind && is_none rule.class_id && is_none rule.method_id
 
 -- the first rule that matches the frame
 abbrev pub first_match : List Rule → FrameOutline → Option Rule

@@ -1,5 +1,6 @@
 -- Which words are rules, and why others are not.
-use Rattle.std.specs.Prelude.{◌≡◌, ◌<◌, ◌≤◌, ℕ, List, ◌∷◌, ◌++◌, length, map, codes, ◌⊎◌, Result, Ok, Err, String, string_bytes, Vec}
+use Rattle.std.specs.Prelude.{◌≡◌, ◌<◌, ◌≤◌, ℕ, List, ◌∷◌, ◌++◌, length, map, codes, ◌⊎◌, Result}
+use Rattle.std.specs.Prelude.{Ok, Err, String, string_bytes, Vec}
 use Rattle.std.specs.Fmt.{decimal}
 use Rattle.std.specs.List.{AllByRecursion}
 use Rattle.std.specs.declared.alloc.Global.{Global}
@@ -50,7 +51,8 @@ ParsesRules words (Err errors.Count) = (length words ≡ 0) ⊎ (64 < length wor
 ParsesRules words (Err (errors.Malformed place)) = IsFirstMalformed words place
 ParsesRules words (Err errors.NoMemory) = (rules : List Rule) × Spell words rules
 
--- The same of a call that gives them in a vector, and that does not look at all words where memory runs out.
+-- The same of a call that gives them in a vector, and that does not look at all words where
+-- memory runs out.
 abbrev pub ParsesItems : List (List ℕ) → Result (Vec Rule Global) RuleError → Type 0
 ParsesItems words (Ok rules) = Spell words rules.items
 ParsesItems words (Err errors.NoMemory) = IsCount (length words)

@@ -1,5 +1,6 @@
 -- Rules, and the one word that stands for each.
-use Rattle.std.specs.Prelude.{ℕ, ◌≤◌, List, [], ◌++◌, Bool, true, false, Option, Some, None, codes, IfSome}
+use Rattle.std.specs.Prelude.{ℕ, ◌≤◌, List, [], ◌++◌, Bool, true, false}
+use Rattle.std.specs.Prelude.{Option, Some, None, codes, IfSome}
 use Rattle.std.specs.Fmt.{decimal}
 use Rattle.amqp_wire.specs.declared.frame_type.AMQPFrameType.{AMQPFrameType}
 use Rattle.amqp_wire.specs.declared.frame_type.AMQPFrameType.TheVariants as kinds

@@ -25,17 +25,23 @@ selection rules frames = canon_frames (kept rules frames)
 abbrev pub selected : List Rule → Frame → List ℕ
 selected rules frame = if decides rules (outline_of frame) then canon frame else []
 
--- selecting as a manner of writing: frames are read at level plain, none is refused, and the input may end after any of them
+-- selecting as a manner of writing: frames are read at level plain, none is refused, and the input
+-- may end after any of them
 abbrev pub selecting : Manner Selector Infallible
 selecting = mapping plain (λ s frame. selected s.rules.now frame) true
 
 -- a run that writes the canonical bytes of the frames that rules keep
-abbrev pub SelectRun : {S K : Type 0} → List Rule → (S → Supply) → (K → Store) → ℕ → ℕ → S → S → K → K → Result (Unit {0}) StreamError → Type 0
-SelectRun rules supply store m turns source source' sink sink' result = TextRun (selection rules) plain supply store m turns source source' sink sink' result
-    (Transcribes (selection rules) plain m turns (supply source) (supply source') (store sink) (store sink') result)
+abbrev pub SelectRun : {S K : Type 0} → List Rule → (S → Supply) → (K → Store)
+    → ℕ → ℕ → S → S → K → K → Result (Unit {0}) StreamError → Type 0
+SelectRun rules supply store m budget source source' sink sink' result =
+    TextRun (selection rules) plain supply store m budget source source' sink sink' result
+    (Transcribes (selection rules) plain m budget (supply source)
+    (supply source') (store sink) (store sink') result)
     (result ≡ Ok tt)
 
 -- the same, with its report
-abbrev pub SelectReport : {S K : Type 0} → List Rule → (S → Supply) → (K → Store) → ℕ → ℕ → S → S → K → K → Result (Unit {0}) (RunReport StreamError) → Type 0
-SelectReport rules supply store m turns source source' sink sink' result =
-    SelectRun rules supply store m turns source source' sink sink' (unreported result) × IfErr result (IsReportAt plain m (supply source) (supply source'))
+abbrev pub SelectReport : {S K : Type 0} → List Rule → (S → Supply) → (K → Store)
+    → ℕ → ℕ → S → S → K → K → Result (Unit {0}) (RunReport StreamError) → Type 0
+SelectReport rules supply store m budget source source' sink sink' result =
+    SelectRun rules supply store m budget source source' sink sink' (unreported result)
+    × IfErr result (IsReportAt plain m (supply source) (supply source'))

@@ -4,7 +4,8 @@ ghost use Rattle.std.specs.Prelude.{◌≡◌, codes};
 ghost use Rattle.std.specs.Option.{option_copied};
 ghost use Rattle.std.specs.Str.Parse.{AllDigits};
 ghost use Rattle.amqp_types.specs.Numerals.{number_named};
-ghost use Rattle.amqp_select.specs.Reading.{Gives, after, at_end, digits_in_front, read_kind, read_count, read_part, read_rule, read_span, read_verb};
+ghost use Rattle.amqp_select.specs.Reading.{Gives, after, at_end, digits_in_front, read_kind};
+ghost use Rattle.amqp_select.specs.Reading.{read_count, read_part, read_rule, read_span, read_verb};
 
 use crate::rule::{Rule, Span};
 use amqp_types::parse_decimal;

@@ -95,7 +95,8 @@ impl Rules {
     /// no outline of any frame then.
     pub fn decide_all(&self) -> Option<bool>
         ensures value { result ≡ decided_of_all self.now }
-        ensures every { (outline : FrameOutline) → IfSome result (λ keep. keep ≡ decides self.now outline) }
+        ensures every { (outline : FrameOutline)
+            → IfSome result (λ keep. keep ≡ decides self.now outline) }
     {
         decide_all(&self.rules)
     }
@@ -158,7 +159,8 @@ fn first_match(rules: &[Rule], outline: FrameOutline) -> Option<&Rule>
 /// What is decided of every frame, where the first rule has no part.
 fn decide_all(rules: &[Rule]) -> Option<bool>
     ensures value { result ≡ decided_of_all rules.now }
-    ensures every { (outline : FrameOutline) → IfSome result (λ keep. keep ≡ decides rules.now outline) }
+    ensures every { (outline : FrameOutline)
+        → IfSome result (λ keep. keep ≡ decides rules.now outline) }
 {
     match rules {
         [first, ..] if first.is_bare() => Some(first.keep),

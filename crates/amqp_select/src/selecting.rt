@@ -7,14 +7,12 @@ ghost use Rattle.amqp_wire.specs.Frames.{Frame, raw_of};
 ghost use Rattle.amqp_wire.specs.Outlines.{outline_of};
 ghost use Rattle.amqp_wire.specs.Verdicts.{whole};
 ghost use Rattle.amqp_select.specs.Matching.{decides};
-ghost use Rattle.amqp_stream.specs.Decisions.{DecidesBy};
-ghost use Rattle.amqp_select.specs.Selecting.{selecting, SelectReport, SelectRun};
+ghost use Rattle.amqp_select.specs.Selecting.{SelectReport, SelectRun};
 
 use crate::rules::Rules;
 use amqp_stream::{
-    Decision, FrameWriter, OutputBuffer, RunError, RunReport, Sink, Source, StreamError,
-    canonicalize_reported, payload_error, put_decided, run_stream_reported, unrefused_report,
-    unreported,
+    Decision, FrameDecider, RunError, RunReport, Sink, Source, StreamError, canonicalize_reported,
+    payload_error, run_stream_reported, unrefused_report, unreported,
 };
 use amqp_types::ChunkSize;
 use amqp_wire::{AMQPRawFrame, judge_frame, outline_front};
@@ -31,7 +29,8 @@ impl<'a> Selector<'a> {
     /// Whether a borrowed frame is kept. Its payload is not decoded yet, so that one that is kept is decoded once, as
     /// it is written.
     fn keeps(&self, raw: AMQPRawFrame<'_>) -> bool
-        ensures { (frame : Frame) → whole (raw_of raw.entry) ≡ Ok frame → result ≡ decides self.now.rules.now (outline_of frame) }
+        ensures { (frame : Frame) → whole (raw_of raw.entry) ≡ Ok frame
+            → result ≡ decides self.now.rules.now (outline_of frame) }
     {
         if let Some(keep) = self.rules.decide_all() {
             return keep;
@@ -41,48 +40,23 @@ impl<'a> Selector<'a> {
             None => false,
         }
     }
-
-    /// What is written for a borrowed frame. One that is dropped is decoded all the same.
-    #[inline(always)]
-    fn decide(&self, raw: AMQPRawFrame<'_>) -> Result<Decision, RunError<Infallible>>
-        ensures { DecidesBy selecting self.now self.now (raw_of raw.entry) result }
-    {
-        let keeps = self.keeps(raw);
-        match judge_frame(raw) {
-            Ok(judged) if keeps => Ok(Decision::Kept(judged)),
-            Ok(_) => Ok(Decision::Dropped),
-            Err(error) => Err(RunError::Stream(payload_error(error))),
-        }
-    }
 }
 
-impl<'a> FrameWriter for Selector<'a> {
+impl<'a> FrameDecider for Selector<'a> {
     ghost use Rattle.amqp_select.specs.Selecting.{selecting};
 
     type Refusal = Infallible;
 
     ghost manner = { selecting };
 
+    /// What is written for a borrowed frame. One that is dropped is decoded all the same.
     #[inline(always)]
-    fn pass(&mut self, raw: AMQPRawFrame<'_>) -> Result<Option<Decision>, RunError<Infallible>> {
-        match self.decide(raw) {
-            Ok(decision) => Ok(Some(decision)),
-            Err(error) => Err(error),
-        }
-    }
-
-    fn write_frame<K: Sink>(
-        &mut self,
-        out: &mut OutputBuffer,
-        _sink: &mut K,
-        raw: AMQPRawFrame<'_>,
-    ) -> Result<(), RunError<Infallible>> {
-        match self.decide(raw) {
-            Ok(decision) => {
-                put_decided(out, raw, decision);
-                Ok(())
-            }
-            Err(error) => Err(error),
+    fn decide(&mut self, raw: AMQPRawFrame<'_>) -> Result<Decision, RunError<Infallible>> {
+        let keeps = self.keeps(raw);
+        match judge_frame(raw) {
+            Ok(judged) if keeps => Ok(Decision::Kept(judged)),
+            Ok(_) => Ok(Decision::Dropped),
+            Err(error) => Err(RunError::Stream(payload_error(error))),
         }
     }
 
@@ -99,18 +73,19 @@ pub fn select_reported<S: Source, K: Sink>(
     source: &mut S,
     sink: &mut K,
     max_payload: ChunkSize,
-    turns: u64,
+    budget: u64,
 ) -> Result<(), RunReport<StreamError>>
-    ensures run { SelectReport rules.now S.supply K.store max_payload turns source.old source.new sink.old sink.new result
+    ensures run { SelectReport rules.now S.supply K.store max_payload
+        budget source.old source.new sink.old sink.new result
         ⊎ NeverBeganReport source.old source.new sink.old sink.new StreamError.NoMemory result }
     ensures never_untidy { unreported result ≢ Err StreamError.NotTidy }
 {
     // Where every frame is kept, no frame is looked at but by the canonicalizer.
     if let Some(true) = rules.decide_all() {
-        return canonicalize_reported(alloc, source, sink, max_payload, turns);
+        return canonicalize_reported(alloc, source, sink, max_payload, budget);
     }
     let mut writer = Selector { rules };
-    let run = run_stream_reported(alloc, &mut writer, source, sink, max_payload, turns);
+    let run = run_stream_reported(alloc, &mut writer, source, sink, max_payload, budget);
     unrefused_report(run)
 }
 
@@ -121,11 +96,12 @@ pub fn select<S: Source, K: Sink>(
     source: &mut S,
     sink: &mut K,
     max_payload: ChunkSize,
-    turns: u64,
+    budget: u64,
 ) -> Result<(), StreamError>
-    ensures run { SelectRun rules.now S.supply K.store max_payload turns source.old source.new sink.old sink.new result
+    ensures run { SelectRun rules.now S.supply K.store max_payload
+        budget source.old source.new sink.old sink.new result
         ⊎ NeverBegan source.old source.new sink.old sink.new StreamError.NoMemory result }
     ensures never_untidy { result ≢ Err StreamError.NotTidy }
 {
-    unreported(select_reported(alloc, rules, source, sink, max_payload, turns))
+    unreported(select_reported(alloc, rules, source, sink, max_payload, budget))
 }

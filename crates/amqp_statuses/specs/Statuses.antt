@@ -71,14 +71,17 @@ status_sentence statuses.NoMemory = codes "out of memory"
 status_sentence statuses.ReadFault = codes "a read failed"
 status_sentence statuses.WriteFault = codes "a write failed"
 status_sentence statuses.LongText = codes "more than 16,777,216 bytes of text"
-status_sentence statuses.BadHex = codes "the text, but for one newline at its end, is not an even number of hex digits"
-status_sentence statuses.UnknownFrameType = codes "the first byte of a frame is none of 1, 2, 3, 8 and 65"
+status_sentence statuses.BadHex =
+    codes "the text, but for one newline at its end, is not an even number of hex digits"
+status_sentence statuses.UnknownFrameType =
+    codes "the first byte of a frame is none of 1, 2, 3, 8 and 65"
 status_sentence statuses.BadProtocolHeader = codes "a frame begins as a protocol header and is none"
 status_sentence statuses.TooLarge = codes "a payload is longer than the limit"
 status_sentence statuses.BadFrameEnd = codes "the byte after the payload is not 206"
 status_sentence statuses.UnknownClass = codes "a method of no class"
 status_sentence statuses.UnknownMethod = codes "a method that its class does not have"
-status_sentence statuses.ShortPayload = codes "something passes the end of the payload, or of a table or an array in it"
+status_sentence statuses.ShortPayload =
+    codes "something passes the end of the payload, or of a table or an array in it"
 status_sentence statuses.TrailingBytes = codes "bytes are left after the last field of a payload"
 status_sentence statuses.NotUtf8 = codes "a short string is not UTF-8"
 status_sentence statuses.UnknownTag = codes "a field tag of no kind of value"
@@ -88,7 +91,10 @@ status_sentence statuses.TurnsSpent = codes "as many reads as were allowed were 
 status_sentence statuses.NotTidy = codes "a frame whose ignored parts are not canonical"
 status_sentence statuses.BadContent = codes "a frame that may not come next on its channel"
 status_sentence statuses.OpenContent = codes "the input ends inside a message"
-status_sentence statuses.BadText = codes "a line is not the exact text form of any frame with a payload within the limit"
+status_sentence statuses.BadText =
+    codes "a line is not the exact text form of any frame with a payload within the limit"
 status_sentence statuses.BufferTooSmall = codes "the buffer is too short for what is written"
 status_sentence statuses.BadArgument = codes "a number names none of what is asked for"
-status_sentence statuses.TooLong = codes "a short string has more than 255 bytes, or what fills a table or an array more than 2^32 - 1"
+status_sentence statuses.TooLong =
+    codes
+    "a short string has more than 255 bytes, or what fills a table or an array more than 2^32 - 1"

@@ -1,5 +1,6 @@
 -- What was taken, written and counted adds up.
-use Rattle.std.proofs.Common.{◌≡◌, ℕ, ◌+◌, ◌-◌, ◌<◌, ◌≤◌, List, [], ◌++◌, length, get_or, Option, Some, None, refl, sym, ap, subst, ◌∙◌, inl, inr, arith, append_assoc, append-nil}
+use Rattle.std.proofs.Common.{◌≡◌, ℕ, ◌+◌, ◌-◌, ◌<◌, ◌≤◌, List, [], ◌++◌, length, get_or, Option, Some, None, refl, sym, ap, subst, ◌∙◌, inl, inr}
+use Rattle.std.proofs.Common.{arith, append_assoc, append-nil}
 use Rattle.std.proofs.lemmas.Bool.{cases_lt}
 use Rattle.std.proofs.lemmas.List.{length-append, get_or_append_left, get_or-append-add}
 use Rattle.amqp_types.specs.Judging.{IsBytes}
@@ -30,6 +31,7 @@ counted-zero : (reads : Option ℕ) → counted 0 reads ≡ reads
 counted-zero None = refl
 counted-zero (Some r) = ap Some (omega arith)
 
+-- Bytes that were taken in two parts, one after the other, were taken.
 pub Takes-then : (a b c : Supply) (p q : List ℕ) (n k : ℕ) → Takes a b p n → Takes b c q k → Takes a c (p ++ q) (n + k)
 Takes-then a b c p q n k f g = record {
   bytes = f.bytes ∙ ap (prepended p) g.bytes ∙ prepended-prepended p q c.left;
@@ -37,6 +39,7 @@ Takes-then a b c p q n k f g = record {
   faults = omega (arith, f.faults, g.faults);
 }
 
+-- A source that was not read has given no bytes.
 pub Takes-none : (a : Supply) → Takes a a [] 0
 Takes-none a = record { bytes = prepended-nil a.left; counts = sym (counted-zero a.reads); faults = omega arith }
 
@@ -50,7 +53,8 @@ Takes-ahead a b held piece all n e f = record {
 
 -- nothing is held already
 pub ahead_of_none : (held : List ℕ) (a : Supply) → held ≡ [] → ahead held a ≡ a
-ahead_of_none held a e = ap (λ (xs : List ℕ). ahead xs a) e ∙ ap (λ left. record { left = left; reads = a.reads; faults = a.faults }) (sym (prepended-nil a.left))
+ahead_of_none held a e =
+    ap (λ (xs : List ℕ). ahead xs a) e ∙ ap (λ left. record { left = left; reads = a.reads; faults = a.faults }) (sym (prepended-nil a.left))
 
 -- ---- counts of bytes
 
@@ -59,8 +63,10 @@ pub counted_none : (count : ℕ) (piece : List ℕ) → length piece ≡ 0 → S
 counted_none count piece e = ap Some (omega (arith, e))
 
 -- more came
-pub counted_more : (first second third : ℕ) (p q : List ℕ) → Some second ≡ counted (length p) (Some first) → Some third ≡ counted (length q) (Some second) → Some third ≡ counted (length (p ++ q)) (Some first)
-counted_more first second third p q f g = g ∙ ap (counted (length q)) f ∙ counted-counted (length p) (length q) (Some first) ∙ ap (λ k. counted k (Some first)) (sym (length-append p q))
+pub counted_more : (first second third : ℕ) (p q : List ℕ) → Some second ≡ counted (length p) (Some first)
+    → Some third ≡ counted (length q) (Some second) → Some third ≡ counted (length (p ++ q)) (Some first)
+counted_more first second third p q f g =
+    g ∙ ap (counted (length q)) f ∙ counted-counted (length p) (length q) (Some first) ∙ ap (λ k. counted k (Some first)) (sym (length-append p q))
 
 -- ---- sinks
 
@@ -74,9 +80,11 @@ grown-nil Nothing = refl
 grown-nil (Number n) = ap Number (omega arith)
 grown-nil (Bytes bytes) = ap Bytes (append-nil bytes)
 
+-- A sink to which nothing was written has got no bytes.
 pub Gains-none : (a : Store) → Gains a a []
 Gains-none a = record { bytes = sym (grown-nil a.taken); faults = omega arith }
 
+-- Bytes that were written in two parts, one after the other, were written.
 pub Gains-then : (a b c : Store) (p q : List ℕ) → Gains a b p → Gains b c q → Gains a c (p ++ q)
 Gains-then a b c p q f g = record {
   bytes = g.bytes ∙ ap (λ t. grown t q) f.bytes ∙ grown-grown a.taken p q;
@@ -85,11 +93,15 @@ Gains-then a b c p q f g = record {
 
 -- ---- bytes
 
+-- Two lists of bytes, one after the other, are bytes.
 pub IsBytes-append : (p q : List ℕ) → IsBytes p → IsBytes q → IsBytes (p ++ q)
 IsBytes-append p q f g i = elim (cases_lt i (length p)) [
   | inl low ↦ rw (get_or_append_left p q 0 i low) (f i)
-  | inr high ↦ let at : length p + (i - length p) ≡ i = omega arith in subst (λ k. get_or (p ++ q) k 0 < 256) at (rw (get_or-append-add p q (i - length p) 0) (g (i - length p)))
+  | inr high ↦
+      let at : length p + (i - length p) ≡ i = omega arith in
+      subst (λ k. get_or (p ++ q) k 0 < 256) at (rw (get_or-append-add p q (i - length p) 0) (g (i - length p)))
 ]
 
+-- No bytes are bytes.
 pub IsBytes-nil : IsBytes []
 IsBytes-nil i = omega arith

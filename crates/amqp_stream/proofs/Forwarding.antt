@@ -12,7 +12,7 @@ use Rattle.amqp_stream.specs.declared.errors.StreamError.TheVariants as errors
 use Rattle.amqp_stream.specs.declared.errors.RunError.TheVariants as ends
 use Rattle.amqp_stream.specs.declared.forwarder.Forwarded.{Forwarded}
 use Rattle.amqp_stream.specs.declared.forwarder.Forwarded.TheVariants as results
-use Rattle.amqp_stream.specs.Errors.{Cause, faulty, cut_short, turns_spent, read_failed, write_failed, out_of_memory, cause_of}
+use Rattle.amqp_stream.specs.Errors.{Cause, faulty, cut_short, budget_spent, read_failed, write_failed, out_of_memory, cause_of}
 use Rattle.amqp_stream.specs.Ends.{Supply, Store, Takes}
 use Rattle.amqp_stream.specs.Canonicalizing.{Canonicalizes, canon_of}
 use Rattle.amqp_stream.specs.Manners.{canonical_at}
@@ -25,26 +25,33 @@ use Rattle.amqp_stream.proofs.Transcribing.{CanonicalizesAs, canonical, canonica
 -- ---- a call
 
 -- what is held, where memory never runs out
-held_unless : {S E : Type 0} (w : Manner S E) (s t : S) (m : ℕ) (bytes written held : List ℕ) (cause : Cause) → (cause ≡ out_of_memory → ⊥) → RestsBy w s t m bytes written held (stopped_by cause) → HeldUnless w.level m bytes held cause
+held_unless : {S E : Type 0} (w : Manner S E) (s t : S) (m : ℕ) (bytes written held : List ℕ) (cause : Cause)
+    → (cause ≡ out_of_memory → ⊥) → RestsBy w s t m bytes written held (stopped_by cause) → HeldUnless w.level m bytes held cause
 held_unless w s t m bytes written held write_failed some h = tt
 held_unless w s t m bytes written held out_of_memory some h = absurd (some refl)
 held_unless w s t m bytes written held (faulty bad) some h = h.place_is
 held_unless w s t m bytes written held cut_short some h = h.place_is
-held_unless w s t m bytes written held turns_spent some h = h.place_is
+held_unless w s t m bytes written held budget_spent some h = h.place_is
 held_unless w s t m bytes written held read_failed some h = h.place_is
 
 memory_error : (error : StreamError) → cause_of error ≡ out_of_memory → error ≡ errors.NoMemory
 memory_error error e = grind arith
 
 -- no call of canonical bytes ends for memory
-no_memory : {level : Level} {m turns : ℕ} {a b : Supply} {k l : Store} (error : StreamError) → Canonicalizes level m turns a b k l (Err error) → cause_of error ≡ out_of_memory → ⊥
+no_memory : {level : Level} {m budget : ℕ} {a b : Supply} {k l : Store} (error : StreamError)
+    → Canonicalizes level m budget a b k l (Err error) → cause_of error ≡ out_of_memory → ⊥
 no_memory error call e = never_out_of_memory call.run (ap (λ x. Err x) (memory_error error e))
 
-held_at : {S E : Type 0} {level : Level} {s t : S} {m : ℕ} {before after : List ℕ} {came later : ℕ} {a b : Supply} {k l : Store} (error : StreamError) (h : Resumes {E = E} (canonical_at level) s t m 1 before after came later a b k l (stopped_by (cause_of error))) → (is : CanonicalizesAs (Err error) h.run) → HeldAfter level m is.call.run.taken after (Err error)
+held_at : {S E : Type 0} {level : Level} {s t : S} {m : ℕ} {before after : List ℕ} {came later : ℕ} {a b : Supply} {k l : Store}
+    (error : StreamError) (h : Resumes {E = E} (canonical_at level) s t m 1 before after came later a b k l (stopped_by (cause_of error)))
+    → (is : CanonicalizesAs (Err error) h.run) → HeldAfter level m is.call.run.taken after (Err error)
 held_at {level = level} {s = s} {t = t} {m = m} {after = after} error h is =
-    subst (λ (xs : List ℕ). HeldUnless level m xs after (cause_of error)) (sym is.taken) (held_unless (canonical_at level) s t m h.run.taken h.run.written after (cause_of error) (no_memory error is.call) h.rests)
+    subst (λ (xs : List ℕ). HeldUnless level m xs after (cause_of error)) (sym is.taken)
+    (held_unless (canonical_at level) s t m h.run.taken h.run.written after (cause_of error) (no_memory error is.call) h.rests)
 
-pub forwards : {S E : Type 0} {s t : S} {old new : Forwarding} {a b : Supply} {k l : Store} (result : Result Forwarded StreamError) → ForwardsBy {E = E} (canonical_at plain) s t old new a b k l (as_forward result) → Forwards plain old new a b k l result
+-- A call of a forwarder with the writer of canonical bytes is a call that writes the canonical bytes of what came.
+pub forwards : {S E : Type 0} {s t : S} {old new : Forwarding} {a b : Supply} {k l : Store} (result : Result Forwarded StreamError)
+    → ForwardsBy {E = E} (canonical_at plain) s t old new a b k l (as_forward result) → Forwards plain old new a b k l result
 forwards {a = a} {b = b} (Ok results.More) h =
     let is = canonicalizes_as {r = Err errors.TurnsSpent} canonical h.run.run in
     record {
@@ -86,30 +93,36 @@ forwards {a = a} {b = b} (Err error) h =
     }
 
 -- an error is the same without refusals
-pub as_error : {E : Type 0} (result : Result Forwarded StreamError) (error : StreamError) → as_forward {E = E} result ≡ Err (ends.Stream error) → result ≡ Err error
+pub as_error : {E : Type 0} (result : Result Forwarded StreamError) (error : StreamError)
+    → as_forward {E = E} result ≡ Err (ends.Stream error) → result ≡ Err error
 as_error (Ok forwarded) error e = absurd cc
 as_error (Err other) error e = cc
 
 -- ---- bytes that are fed in pieces
 
-front_more : (level : Level) (m : ℕ) (a b : List ℕ) → front level (Some m) (a ++ b) ≡ front level (Some m) a ++ front level (Some m) (place level (Some m) a ++ b)
+front_more : (level : Level) (m : ℕ) (a b : List ℕ)
+    → front level (Some m) (a ++ b) ≡ front level (Some m) a ++ front level (Some m) (place level (Some m) a ++ b)
 front_more level m a b =
     let s = splits_of level (Some m) a in
-    ap (λ (xs : List ℕ). front level (Some m) (xs ++ b)) s.parts ∙ ap (front level (Some m)) (append_assoc s.used (place level (Some m) a) b) ∙ s.sequence.sequence (place level (Some m) a ++ b)
+    ap (λ (xs : List ℕ). front level (Some m) (xs ++ b)) s.parts
+    ∙ ap (front level (Some m)) (append_assoc s.used (place level (Some m) a) b) ∙ s.sequence.sequence (place level (Some m) a ++ b)
 
 place_more : (level : Level) (m : ℕ) (a b : List ℕ) → place level (Some m) (a ++ b) ≡ place level (Some m) (place level (Some m) a ++ b)
 place_more level m a b =
     let s = splits_of level (Some m) a in
-    ap (λ (xs : List ℕ). place level (Some m) (xs ++ b)) s.parts ∙ ap (place level (Some m)) (append_assoc s.used (place level (Some m) a) b) ∙ s.sequence.after (place level (Some m) a ++ b)
+    ap (λ (xs : List ℕ). place level (Some m) (xs ++ b)) s.parts
+    ∙ ap (place level (Some m)) (append_assoc s.used (place level (Some m) a) b) ∙ s.sequence.after (place level (Some m) a ++ b)
 
 text_more : (level : Level) (m : ℕ) (a b : List ℕ) → canon_of level m (a ++ b) ≡ canon_of level m a ++ canon_of level m (place level (Some m) a ++ b)
-text_more level m a b = ap canon_frames (front_more level m a b) ∙ flat_map-append canon (front level (Some m) a) (front level (Some m) (place level (Some m) a ++ b))
+text_more level m a b =
+    ap canon_frames (front_more level m a b) ∙ flat_map-append canon (front level (Some m) a) (front level (Some m) (place level (Some m) a ++ b))
 
 -- what all of some bytes give
 abbrev at_once : Level → ℕ → List ℕ → Fed
 at_once level m bytes = record { text = canon_of level m bytes; held = place level (Some m) bytes }
 
-same_fed : (text other held rest : List ℕ) → text ≡ other → held ≡ rest → (let a : Fed = record { text = text; held = held } in let b : Fed = record { text = other; held = rest } in a ≡ b)
+same_fed : (text other held rest : List ℕ) → text ≡ other → held ≡ rest
+    → (let a : Fed = record { text = text; held = held } in let b : Fed = record { text = other; held = rest } in a ≡ b)
 same_fed text other held rest e f = cc
 
 fed_more : (level : Level) (m : ℕ) (a : List ℕ) (pieces : List (List ℕ)) → fed_after level m (at_once level m a) pieces ≡ at_once level m (a ++ concat pieces)
@@ -119,5 +132,8 @@ fed_more level m a (piece ∷ pieces) =
     ∙ fed_more level m (a ++ piece) pieces
     ∙ ap (at_once level m) (append_assoc a piece (concat pieces))
 
+-- Bytes that come in pieces give what they give at once, however they are cut.
 pub pieces_are_whole : PiecesAreWhole
-pieces_are_whole level m pieces = ap (λ (done : Fed). fed_after level m done pieces) (same_fed _ _ _ _ (sym (ap canon_frames (front-none level (Some m)))) (sym (place-none level (Some m)))) ∙ fed_more level m [] pieces
+pieces_are_whole level m pieces =
+    ap (λ (done : Fed). fed_after level m done pieces) (same_fed _ _ _ _ (sym (ap canon_frames (front-none level (Some m)))) (sym (place-none level (Some m))))
+    ∙ fed_more level m [] pieces

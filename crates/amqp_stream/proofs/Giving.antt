@@ -21,7 +21,9 @@ put_front : (old new bytes : List ℕ) (end : ℕ) → Puts old new 0 bytes end 
 unfolding written
 put_front old new bytes end p = ap (take end) p.put ∙ take_at bytes (drop (0 + length bytes) old) end (omega (arith, p.behind))
 
-pub refilled_making : (frame new : List ℕ) (s : Span) (next frames end : ℕ) → IsMaking frame s next frames → next ≢ frames → Puts frame new 0 (made_frame next) end → IsMaking new (span 0 end) (next + 1) frames
+-- After the next frame was put into the buffer of one frame, its bytes are to be given.
+pub refilled_making : (frame new : List ℕ) (s : Span) (next frames end : ℕ) → IsMaking frame s next frames
+    → next ≢ frames → Puts frame new 0 (made_frame next) end → IsMaking new (span 0 end) (next + 1) frames
 refilled_making frame new s next frames end making more p =
     let len = puts-length frame new 0 end (made_frame next) (omega (arith, made_frame-short next, making.len)) p in
     record {
@@ -31,15 +33,19 @@ refilled_making frame new s next frames end making more p =
       few = making.few;
     }
 
-made_from-next : (next frames : ℕ) → next ≤ frames → next ≢ frames → made_from next (frames - next) ≡ made_frame next ++ made_from (next + 1) (frames - (next + 1))
+made_from-next : (next frames : ℕ) → next ≤ frames → next ≢ frames
+    → made_from next (frames - next) ≡ made_frame next ++ made_from (next + 1) (frames - (next + 1))
 made_from-next next frames ordered more = ap (made_from next) {x = frames - next} {y = suc (frames - (next + 1))} (omega arith)
 
-pub refilled_same : (frame new : List ℕ) (s : Span) (next frames end : ℕ) → IsMaking frame s next frames → s.end ≤ s.start → next ≢ frames → Puts frame new 0 (made_frame next) end → left_in new (span 0 end) (next + 1) frames ≡ left_in frame s next frames
+-- The bytes that are left to give stay the same when the next frame is put into the buffer of one frame.
+pub refilled_same : (frame new : List ℕ) (s : Span) (next frames end : ℕ) → IsMaking frame s next frames → s.end ≤ s.start
+    → next ≢ frames → Puts frame new 0 (made_frame next) end → left_in new (span 0 end) (next + 1) frames ≡ left_in frame s next frames
 refilled_same frame new s next frames end making none more p =
     let rest = made_from (next + 1) (frames - (next + 1)) in
     let empty : held_in frame s ≡ [] = ap (λ n. take n (drop s.start frame)) {x = s.end - s.start} {y = 0} (omega arith) in
     let filled : held_in new (span 0 end) ≡ made_frame next = ap (λ n. take n new) {x = end - 0} (omega arith) ∙ put_front frame new (made_frame next) end p in
-    ap (λ (xs : List ℕ). xs ++ rest) filled ∙ sym (made_from-next next frames making.ordered more) ∙ ap (λ (xs : List ℕ). xs ++ made_from next (frames - next)) (sym empty)
+    ap (λ (xs : List ℕ). xs ++ rest) filled ∙ sym (made_from-next next frames making.ordered more)
+    ∙ ap (λ (xs : List ℕ). xs ++ made_from next (frames - next)) (sym empty)
 
 -- ---- a piece of it
 
@@ -49,7 +55,9 @@ pub record Giving (all buf frame : List ℕ) (s : Span) (next frames given : ℕ
   pub within : given ≤ length buf
   pub parts : all ≡ take given buf ++ left_in frame s next frames
 
-pub given_refilled : (all buf frame new : List ℕ) (s t : Span) (next then frames given : ℕ) → Giving all buf frame s next frames given → IsMaking new t then frames → left_in new t then frames ≡ left_in frame s next frames → Giving all buf new t then frames given
+-- What was given stays so when the next frame is put into the buffer of one frame.
+pub given_refilled : (all buf frame new : List ℕ) (s t : Span) (next then frames given : ℕ) → Giving all buf frame s next frames given
+    → IsMaking new t then frames → left_in new t then frames ≡ left_in frame s next frames → Giving all buf new t then frames given
 given_refilled all buf frame new s t next then frames given g making same = record {
   making = making;
   within = g.within;
@@ -62,16 +70,22 @@ unfolding written
 put_behind old new bytes at end room p =
     let front = length-take-le at old room in
     let behind = drop (at + length bytes) old in
-    ap (take end) p.put ∙ ap (λ n. take n (take at old ++ (bytes ++ behind))) {x = end} {y = length (take at old) + length bytes} (omega (arith, p.behind)) ∙ take-append-add (take at old) (bytes ++ behind) (length bytes) ∙ ap (λ (xs : List ℕ). take at old ++ xs) (take_at bytes behind (length bytes) refl)
+    ap (take end) p.put ∙ ap (λ n. take n (take at old ++ (bytes ++ behind))) {x = end} {y = length (take at old) + length bytes} (omega (arith, p.behind))
+    ∙ take-append-add (take at old) (bytes ++ behind) (length bytes) ∙ ap (λ (xs : List ℕ). take at old ++ xs) (take_at bytes behind (length bytes) refl)
 
 -- the first bytes of a part, and what is left of it
-cut_part : (frame : List ℕ) (start end n : ℕ) → n ≤ end - start → held_in frame (span start end) ≡ take (start + n - start) (drop start frame) ++ held_in frame (span (start + n) end)
+cut_part : (frame : List ℕ) (start end n : ℕ) → n ≤ end - start
+    → held_in frame (span start end) ≡ take (start + n - start) (drop start frame) ++ held_in frame (span (start + n) end)
 cut_part frame start end n h =
     let part = held_in frame (span start end) in
-    let first : take n part ≡ take (start + n - start) (drop start frame) = take-take n (end - start) (drop start frame) h ∙ ap (λ k. take k (drop start frame)) {x = n} (omega arith) in
+    let first : take n part ≡ take (start + n - start) (drop start frame) =
+    take-take n (end - start) (drop start frame) h ∙ ap (λ k. take k (drop start frame)) {x = n} (omega arith) in
     sym (take-append-drop n part) ∙ ap₂ (λ (xs ys : List ℕ). xs ++ ys) first (sym (part-drop frame start end n))
 
-pub given_more : (all buf new frame : List ℕ) (start end next frames given most behind : ℕ) → Giving all buf frame (span start end) next frames given → most ≤ end - start → most ≤ length buf - given → Puts buf new given (take (start + most - start) (drop start frame)) behind → Giving all new frame (span (start + most) end) next frames behind
+-- A piece of the frame in the buffer that is put behind what was given was given too.
+pub given_more : (all buf new frame : List ℕ) (start end next frames given most behind : ℕ)
+    → Giving all buf frame (span start end) next frames given → most ≤ end - start → most ≤ length buf - given
+    → Puts buf new given (take (start + most - start) (drop start frame)) behind → Giving all new frame (span (start + most) end) next frames behind
 given_more all buf new frame start end next frames given most behind g few room p =
     let piece = take (start + most - start) (drop start frame) in
     let rest = made_from next (frames - next) in
@@ -86,5 +100,8 @@ given_more all buf new frame start end next frames given most behind g few room 
       };
       within = omega (arith, g.within, p.behind);
       parts =
-          g.parts ∙ ap (λ (xs : List ℕ). take given buf ++ (xs ++ rest)) (cut_part frame start end most few) ∙ ap (λ (xs : List ℕ). take given buf ++ xs) (append_assoc piece (held_in frame (span (start + most) end)) rest) ∙ sym (append_assoc (take given buf) piece (left_in frame (span (start + most) end) next frames)) ∙ ap (λ (xs : List ℕ). xs ++ left_in frame (span (start + most) end) next frames) (sym (put_behind buf new piece given behind g.within p));
+          g.parts ∙ ap (λ (xs : List ℕ). take given buf ++ (xs ++ rest)) (cut_part frame start end most few)
+          ∙ ap (λ (xs : List ℕ). take given buf ++ xs) (append_assoc piece (held_in frame (span (start + most) end)) rest)
+          ∙ sym (append_assoc (take given buf) piece (left_in frame (span (start + most) end) next frames))
+          ∙ ap (λ (xs : List ℕ). xs ++ left_in frame (span (start + most) end) next frames) (sym (put_behind buf new piece given behind g.within p));
     }

@@ -7,10 +7,11 @@ pub mod Passing
 pub mod Going
 pub mod Finishing
 pub mod Standing
+pub mod Keeping
 pub mod Resuming
 pub mod Reporting
 pub mod Joining
-pub mod Turning
+pub mod Rounds
 pub mod Exactly
 pub mod Transcribing
 pub mod Runs

@@ -10,9 +10,11 @@ use Rattle.amqp_types.specs.Numbers.{bytes2}
 use Rattle.amqp_types.specs.Flags.{judge_flags}
 use Rattle.amqp_types.specs.Strings.{judge_short_string, judge_long_string}
 use Rattle.amqp_types.specs.Values.{FieldValue, Entry, boolean_value}
-use Rattle.amqp_types.specs.ValueJudging.{read_map, next_item, filled, took_all, judge_entry, judge_table, judge_behind, judge_tagged, nested, judge_value, judge_field_table}
+use Rattle.amqp_types.specs.ValueJudging.{read_map, next_item, filled, took_all, judge_entry, judge_table, judge_behind, judge_tagged, nested}
+use Rattle.amqp_types.specs.ValueJudging.{judge_value, judge_field_table}
 use Rattle.amqp_types.specs.Settling.{settled}
-use Rattle.amqp_types.specs.Slots.{Item, number_item, flag_item, text_item, entries_item, number_form, flags_form, short_string_form, table_form, Slot, kept_slot, reserved_slot}
+use Rattle.amqp_types.specs.Slots.{Item, number_item, flag_item, text_item, entries_item, number_form, flags_form, short_string_form, table_form}
+use Rattle.amqp_types.specs.Slots.{Slot, kept_slot, reserved_slot}
 use Rattle.amqp_types.specs.SlotJudging.{judge_form, judge_dropped, judge_slots}
 use Rattle.amqp_types.specs.Rows.{rows_of, slots_at}
 use Rattle.amqp_types.specs.Methods.{Method, method, judge_method, judge_in_class, judge_payload}
@@ -119,7 +121,8 @@ unused = reserved_slot (number_form bytes2) (number_item 0 ∷ [])
 
 table_slots_judged : judge_slots table_slots table_bytes ≡ took from_table 12
 unfolding judge_slots judge_form
-table_slots_judged = slot_then (kept_slot table_form) [] table_bytes from_table [] 12 0 (ap (λ j. j >>= λ es. took (entries_item es.0 ∷ []) es.1) table_judged) refl
+table_slots_judged =
+    slot_then (kept_slot table_form) [] table_bytes from_table [] 12 0 (ap (λ j. j >>= λ es. took (entries_item es.0 ∷ []) es.1) table_judged) refl
 
 flags_slots_judged : judge_slots flags_slots (255 ∷ table_bytes) ≡ took (flags ++ from_table) 13
 unfolding judge_form judge_flags
@@ -127,7 +130,9 @@ flags_slots_judged = slot_then (kept_slot (flags_form 5)) table_slots (255 ∷ t
 
 name_slots_judged : judge_slots name_slots (0 ∷ 255 ∷ table_bytes) ≡ took (text_item [] ∷ flags ++ from_table) 14
 unfolding judge_form
-name_slots_judged = slot_then (kept_slot short_string_form) flags_slots (0 ∷ 255 ∷ table_bytes) (text_item [] ∷ []) (flags ++ from_table) 1 13 (ap (λ j. j >>= λ text. took (text_item text.0 ∷ []) text.1) name_judged) flags_slots_judged
+name_slots_judged =
+    slot_then (kept_slot short_string_form) flags_slots (0 ∷ 255 ∷ table_bytes) (text_item [] ∷ [])
+    (flags ++ from_table) 1 13 (ap (λ j. j >>= λ text. took (text_item text.0 ∷ []) text.1) name_judged) flags_slots_judged
 
 slots_judged : judge_slots (unused ∷ name_slots) (0 ∷ 9 ∷ 0 ∷ 255 ∷ table_bytes) ≡ took declare.items 16
 unfolding judge_form judge_dropped
@@ -154,7 +159,9 @@ frame_at i =
     else (if i % 4 == 2 then Meth (made_channel i) select
     else Meth (made_channel i) declare))
 
-spelled_one : (first second third : Bool) (a b c d : List ℕ) (f g h k : Frame) → Spells plain a f → Spells plain b g → Spells plain c h → Spells plain d k → Spells plain (if first then a else (if second then b else (if third then c else d))) (if first then f else (if second then g else (if third then h else k)))
+spelled_one : (first second third : Bool) (a b c d : List ℕ) (f g h k : Frame) → Spells plain a f → Spells plain b g → Spells plain c h → Spells plain d k
+    → Spells plain (if first then a else (if second then b else (if third then c else d)))
+    (if first then f else (if second then g else (if third then h else k)))
 spelled_one true second third a b c d f g h k sa sb sc sd = sa
 spelled_one false true third a b c d f g h k sa sb sc sd = sb
 spelled_one false false true a b c d f g h k sa sb sc sd = sc
@@ -185,5 +192,6 @@ frame_spelled i =
       spelled = declare_spelled;
     })
 
+-- The generated stream is a sequence of frames at each level.
 pub all_made : MadeIsASequence
 all_made = made_sequence frame_at frame_spelled 0

@@ -11,7 +11,8 @@ use Rattle.amqp_stream.specs.Made.{made_frame, made_from, made, made_channel, ma
 abbrev pub length_by : ℕ → ℕ
 length_by k = if k == 0 then 9 else (if k == 1 then 9 else (if k == 2 then 13 else 28))
 
-length_of_one : (first second third : Bool) (a b c d : List ℕ) → length a ≡ 9 → length b ≡ 9 → length c ≡ 13 → length d ≡ 28 → length (if first then a else (if second then b else (if third then c else d))) ≡ (if first then 9 else (if second then 9 else (if third then 13 else 28)))
+length_of_one : (first second third : Bool) (a b c d : List ℕ) → length a ≡ 9 → length b ≡ 9 → length c ≡ 13 → length d ≡ 28
+    → length (if first then a else (if second then b else (if third then c else d))) ≡ (if first then 9 else (if second then 9 else (if third then 13 else 28)))
 length_of_one true second third a b c d la lb lc ld = la
 length_of_one false true third a b c d la lb lc ld = lb
 length_of_one false false true a b c d la lb lc ld = lc
@@ -19,14 +20,18 @@ length_of_one false false false a b c d la lb lc ld = ld
 
 pub made_frame-length : (i : ℕ) → length (made_frame i) ≡ length_by (i % 4)
 unfolding made_frame
-made_frame-length i = length_of_one (i % 4 == 0) (i % 4 == 1) (i % 4 == 2) _ _ _ _ (framed_length 8 0 (made_payload i)) (framed_length 3 (made_channel i) (made_payload i)) (framed_length 1 (made_channel i) select_payload) (framed_length 1 (made_channel i) declare_payload)
+made_frame-length i =
+    length_of_one (i % 4 == 0) (i % 4 == 1) (i % 4 == 2) _ _ _ _ (framed_length 8 0 (made_payload i)) (framed_length 3 (made_channel i) (made_payload i))
+    (framed_length 1 (made_channel i) select_payload) (framed_length 1 (made_channel i) declare_payload)
 
 length_by-bounds : (k : ℕ) → (0 < length_by k) × (length_by k ≤ 28)
 length_by-bounds k = (grind (arith, nat_tests), grind (arith, nat_tests))
 
+-- No generated frame is empty.
 pub made_frame-some : (i : ℕ) → 0 < length (made_frame i)
 made_frame-some i = omega (arith, made_frame-length i, (length_by-bounds (i % 4)).0)
 
+-- No generated frame has more than 28 bytes.
 pub made_frame-short : (i : ℕ) → length (made_frame i) ≤ 28
 made_frame-short i = omega (arith, made_frame-length i, (length_by-bounds (i % 4)).1)
 
@@ -51,6 +56,7 @@ made_from-length i (suc n) =
     let more : made_length ((i + 1) + n) ≡ made_length (i + suc n) = ap made_length {x = (i + 1) + n} {y = i + suc n} (omega arith) in
     omega (arith, length-append (made_frame i) (made_from (i + 1) n), made_frame-length i, made_length-one i, made_from-length (i + 1) n)
 
+-- The number of bytes of so many generated frames, by a formula.
 pub made-length : (n : ℕ) → length (made n) ≡ made_length n
 made-length n =
     let all : made_length (0 + n) ≡ made_length n = ap made_length {x = 0 + n} {y = n} (omega arith) in

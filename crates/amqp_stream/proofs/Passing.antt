@@ -9,16 +9,22 @@ pub record Passes {S E : Type 0} (w : Manner S E) (s t : S) (frames : List Frame
   pub refused_is : (more : List Frame) → refused w s (frames ++ more) ≡ refused w t more
   pub state_is : (more : List Frame) → state w s (frames ++ more) ≡ state w t more
 
+-- For no frames nothing is written, and the state stays.
 pub Passes-none : {S E : Type 0} (w : Manner S E) (s : S) → Passes w s s [] []
 Passes-none w s = record { text_is = λ more. refl; refused_is = λ more. refl; state_is = λ more. refl }
 
-pub Passes-then : {S E : Type 0} {w : Manner S E} {s t u : S} {fs gs : List Frame} {p q : List ℕ} → Passes w s t fs p → Passes w t u gs q → Passes w s u (fs ++ gs) (p ++ q)
+-- Frames that are written for, and then others, are written for one after the other.
+pub Passes-then : {S E : Type 0} {w : Manner S E} {s t u : S} {fs gs : List Frame} {p q : List ℕ}
+    → Passes w s t fs p → Passes w t u gs q → Passes w s u (fs ++ gs) (p ++ q)
 Passes-then {w = w} {s = s} {u = u} {fs = fs} {gs = gs} {p = p} {q = q} h g = record {
-  text_is = λ more. ap (text w s) (append_assoc fs gs more) ∙ h.text_is (gs ++ more) ∙ ap (λ (xs : List ℕ). p ++ xs) (g.text_is more) ∙ sym (append_assoc p q (text w u more));
+  text_is = λ more.
+      ap (text w s) (append_assoc fs gs more) ∙ h.text_is (gs ++ more)
+      ∙ ap (λ (xs : List ℕ). p ++ xs) (g.text_is more) ∙ sym (append_assoc p q (text w u more));
   refused_is = λ more. ap (refused w s) (append_assoc fs gs more) ∙ h.refused_is (gs ++ more) ∙ g.refused_is more;
   state_is = λ more. ap (state w s) (append_assoc fs gs more) ∙ h.state_is (gs ++ more) ∙ g.state_is more;
 }
 
+-- A frame for which the writer takes a step is written for.
 pub Passes-one : {S E : Type 0} (w : Manner S E) (s t : S) (f : Frame) (bytes : List ℕ) → w.step s f ≡ Ok (bytes, t) → Passes w s t (f ∷ []) bytes
 unfolding text refused state
 Passes-one w s t f bytes e = record {
@@ -33,6 +39,7 @@ pub record PassesAll {S E : Type 0} (w : Manner S E) (s t : S) (frames : List Fr
   pub none_refused : refused w s frames ≡ None
   pub state_is : state w s frames ≡ t
 
+-- What is written for frames that are written for, where nothing follows, is that text, and none is refused.
 pub Passes-all : {S E : Type 0} {w : Manner S E} {s t : S} {frames : List Frame} {bytes : List ℕ} → Passes w s t frames bytes → PassesAll w s t frames bytes
 unfolding text refused state
 Passes-all {w = w} {s = s} {frames = frames} {bytes = bytes} h = record {
@@ -47,6 +54,7 @@ pub record RefusesHere {S E : Type 0} (w : Manner S E) (s : S) (frames : List Fr
   pub refused_is : refused w s frames ≡ Some why
   pub state_is : state w s frames ≡ s
 
+-- From a frame that the writer refuses on nothing is written, and the state stays.
 pub refuses_here : {S E : Type 0} (w : Manner S E) (s : S) (f : Frame) (fs : List Frame) (why : E) → w.step s f ≡ Err why → RefusesHere w s (f ∷ fs) why
 unfolding text refused state
 refuses_here w s f fs why e = record {
@@ -60,10 +68,13 @@ pub record IsSettled {S E : Type 0} (w : Manner S E) (s : S) (fs gs : List Frame
   pub refused_is : refused w s (fs ++ gs) ≡ Some why
   pub text_is : text w s (fs ++ gs) ≡ text w s fs
 
-settled_at : {S E : Type 0} (w : Manner S E) (fs gs : List Frame) (why : E) (r : Result (List ℕ × S) E) → ((t : S) → refused w t fs ≡ Some why → IsSettled w t fs gs why) → refused_at r (λ t. refused w t fs) ≡ Some why → (refused_at r (λ t. refused w t (fs ++ gs)) ≡ Some why) × (text_at r (λ t. text w t (fs ++ gs)) ≡ text_at r (λ t. text w t fs))
+settled_at : {S E : Type 0} (w : Manner S E) (fs gs : List Frame) (why : E) (r : Result (List ℕ × S) E)
+    → ((t : S) → refused w t fs ≡ Some why → IsSettled w t fs gs why) → refused_at r (λ t. refused w t fs) ≡ Some why
+    → (refused_at r (λ t. refused w t (fs ++ gs)) ≡ Some why) × (text_at r (λ t. text w t (fs ++ gs)) ≡ text_at r (λ t. text w t fs))
 settled_at w fs gs why (Ok p) ih h = let rest = ih p.1 h in (rest.refused_is, ap (λ (xs : List ℕ). p.0 ++ xs) rest.text_is)
 settled_at w fs gs why (Err x) ih h = (h, refl)
 
+-- Frames that follow a refused one change neither the refusal nor what is written.
 pub settled : {S E : Type 0} (w : Manner S E) (s : S) (fs gs : List Frame) (why : E) → refused w s fs ≡ Some why → IsSettled w s fs gs why
 unfolding text refused
 settled w s [] gs why h = absurd cc

@@ -1,21 +1,22 @@
 -- What a run that ended early reports: the place and the channel, by what was taken and what is held.
-use Rattle.std.proofs.Common.{◌≡◌, ℕ, ◌+◌, ◌-◌, ◌≤◌, min, max, List, [], ◌++◌, length, ◌⊎◌, inl, inr, Option, Some, None, Result, Ok, Err, IsTrue, refl, sym, ap, subst, ◌∙◌, arith}
+use Rattle.std.proofs.Common.{◌≡◌, ℕ, ◌+◌, ◌-◌, ◌≤◌, min, max, List, [], ◌++◌, length, ◌⊎◌, inl, inr, Some, None, Result, Ok, Err}
+use Rattle.std.proofs.Common.{refl, sym, ap, subst, ◌∙◌, arith}
 use Rattle.std.specs.Prelude.{IfErr}
 use Rattle.std.proofs.lemmas.List.{length-append}
-use Rattle.amqp_types.specs.Levels.{Level}
 use Rattle.amqp_wire.specs.Frames.{Frame}
 use Rattle.amqp_stream.specs.declared.errors.StreamError.{StreamError}
 use Rattle.amqp_stream.specs.declared.errors.StreamError.TheVariants as errors
 use Rattle.amqp_stream.specs.declared.errors.RunError.{RunError}
 use Rattle.amqp_stream.specs.declared.errors.RunError.TheVariants as ends
 use Rattle.amqp_stream.specs.declared.report.RunReport.{RunReport}
-use Rattle.amqp_stream.specs.Errors.{Cause, faulty, cut_short, turns_spent, read_failed, write_failed, out_of_memory, cause_of}
+use Rattle.amqp_stream.specs.Errors.{Cause, faulty, cut_short, budget_spent, read_failed, write_failed, out_of_memory, cause_of}
 use Rattle.amqp_stream.specs.Ends.{Supply, Store, Takes, last, counted}
 use Rattle.amqp_stream.specs.Steps.{Manner}
 use Rattle.amqp_stream.specs.Transcribing.{IsSequence}
-use Rattle.amqp_stream.specs.Streaming.{Ending, finished, refused_by, stopped_by, error_ending, ending_of, as_run, refused_of, state_of}
+use Rattle.amqp_stream.specs.Streaming.{Ending, refused_by, stopped_by, error_ending, ending_of, as_run, refused_of, state_of}
 use Rattle.amqp_stream.specs.Resuming.{IsRefusedThere, RestsBy, Resumes}
-use Rattle.amqp_stream.specs.Reports.{channel_in, EndsAt, IsRestBy, IsReportBy, IsRestAt, IsReportAt, IsAtStart, NeverRanReport, NeverBeganReport, unreported, as_run_report}
+use Rattle.amqp_stream.specs.Reports.{channel_in, IsRestBy, IsReportBy, IsRestAt, IsReportAt, NeverRanReport}
+use Rattle.amqp_stream.specs.Reports.{NeverBeganReport, unreported, as_run_report}
 use Rattle.amqp_stream.specs.Runs.{WriterRun}
 use Rattle.amqp_stream.proofs.Exactly.{streams_exactly, completes}
 use Rattle.amqp_stream.proofs.Resuming.{as_one_run}
@@ -23,10 +24,12 @@ use Rattle.amqp_stream.proofs.Transcribing.{Transcriber, never_began}
 
 -- ---- a run that began with nothing held
 
-pub one_run : {T E S K : Type 0} {w : Manner T E} {s t : T} {supply : S → Supply} {store : K → Store} {m turns c0 c1 : ℕ} {before after : List ℕ} {source source' : S} {sink sink' : K} {result : Result (Unit {0}) (RunError E)}
-    → before ≡ [] → Resumes w s t m turns before after c0 c1 (supply source) (supply source') (store sink) (store sink') (ending_of result)
-    → (turns ≡ 0 → source' ≡ source) → (turns ≡ 0 → sink' ≡ sink) → (turns ≡ 0 → result ≡ Err (ends.Stream errors.TurnsSpent))
-    → WriterRun w s t supply store m turns source source' sink sink' result
+-- A run that began with nothing held is a run of a writer, with all that is said of one.
+pub one_run : {T E S K : Type 0} {w : Manner T E} {s t : T} {supply : S → Supply} {store : K → Store} {m budget c0 c1 : ℕ}
+    {before after : List ℕ} {source source' : S} {sink sink' : K} {result : Result (Unit {0}) (RunError E)}
+    → before ≡ [] → Resumes w s t m budget before after c0 c1 (supply source) (supply source') (store sink) (store sink') (ending_of result)
+    → (budget ≡ 0 → source' ≡ source) → (budget ≡ 0 → sink' ≡ sink) → (budget ≡ 0 → result ≡ Err (ends.Stream errors.TurnsSpent))
+    → WriterRun w s t supply store m budget source source' sink sink' result
 one_run none resumed unread unwritten spent =
     let stream = as_one_run none resumed in
     record {
@@ -46,9 +49,12 @@ record Reached {S E : Type 0} (w : Manner S E) (s : S) (m : ℕ) (bytes held : L
   none_refused : refused_of w s m used ≡ None
   rest_is : IsRestBy w (state_of w s m used) m bytes held ending
 
-reached : {S E : Type 0} (w : Manner S E) (s t : S) (m : ℕ) (bytes written held : List ℕ) (ending : Ending E) → RestsBy w s t m bytes written held ending → Reached w s m bytes held ending
-reached w s t m bytes written held (stopped_by write_failed) h = record { used = h.used; parts = h.parts; is_sequence = h.is_sequence; none_refused = h.none_refused; rest_is = tt }
-reached w s t m bytes written held (stopped_by out_of_memory) h = record { used = h.rests.used; parts = h.rests.parts; is_sequence = h.rests.is_sequence; none_refused = h.rests.none_refused; rest_is = h.wanting }
+reached : {S E : Type 0} (w : Manner S E) (s t : S) (m : ℕ) (bytes written held : List ℕ) (ending : Ending E)
+    → RestsBy w s t m bytes written held ending → Reached w s m bytes held ending
+reached w s t m bytes written held (stopped_by write_failed) h =
+    record { used = h.used; parts = h.parts; is_sequence = h.is_sequence; none_refused = h.none_refused; rest_is = tt }
+reached w s t m bytes written held (stopped_by out_of_memory) h =
+    record { used = h.rests.used; parts = h.rests.parts; is_sequence = h.rests.is_sequence; none_refused = h.rests.none_refused; rest_is = h.wanting }
 reached w s t m bytes written held (refused_by why) h = record {
   used = h.rests.used;
   parts = h.rests.parts;
@@ -56,14 +62,16 @@ reached w s t m bytes written held (refused_by why) h = record {
   none_refused = h.rests.none_refused;
   rest_is = subst (λ x. IsRefusedThere w x m held why ⊎ ((held ≡ []) × (w.end x ≡ Some why))) h.rests.state_is h.refused;
 }
-reached w s t m bytes written held ending h = record { used = h.rests.used; parts = h.rests.parts; is_sequence = h.rests.is_sequence; none_refused = h.rests.none_refused; rest_is = h.place_is }
+reached w s t m bytes written held ending h =
+    record { used = h.rests.used; parts = h.rests.parts; is_sequence = h.rests.is_sequence; none_refused = h.rests.none_refused; rest_is = h.place_is }
 
 -- where no more came than the count holds, it is exact
 came_is : (came n : ℕ) → Some came ≡ counted n (Some 0) → n ≤ last → came ≡ n
 came_is came n e few = let c : came ≡ max 0 (min (0 + n) last) = cc in omega (arith, c, few)
 
-report_by : {S E : Type 0} {w : Manner S E} {s t : S} {m turns came : ℕ} {before held : List ℕ} {a b : Supply} {k l : Store} (report : RunReport (RunError E))
-    → before ≡ [] → Resumes w s t m turns before held 0 came a b k l (error_ending report.error) → length held ≤ m + 8 → report.place ≡ came - length held → report.channel ≡ channel_in held
+report_by : {S E : Type 0} {w : Manner S E} {s t : S} {m budget came : ℕ} {before held : List ℕ} {a b : Supply} {k l : Store} (report : RunReport (RunError E))
+    → before ≡ [] → Resumes w s t m budget before held 0 came a b k l (error_ending report.error)
+    → length held ≤ m + 8 → report.place ≡ came - length held → report.channel ≡ channel_in held
     → IsReportBy w s m a b report
 report_by {w = w} {s = s} {t = t} {m = m} {came = came} {held = held} {a = a} {b = b} report none h few at_is channel_is =
     let at = reached w s t m h.run.taken h.run.written held (error_ending report.error) h.rests in
@@ -78,33 +86,49 @@ report_by {w = w} {s = s} {t = t} {m = m} {came = came} {held = held} {a = a} {b
       is_sequence = at.is_sequence;
       few = few;
       there = (at.none_refused, at.rest_is);
-      place_is = λ fits. omega (arith, at_is, came_is came (length h.piece) h.counts (omega (arith, fits, ap length taken)), ap length taken, ap length at.parts, length-append at.used held);
+      place_is = λ fits.
+          omega (
+            arith,
+            at_is,
+            came_is came (length h.piece) h.counts (omega (arith, fits, ap length taken)),
+            ap length taken,
+            ap length at.parts,
+            length-append at.used held,
+          );
       channel_is = channel_is;
     }
 
 -- by its result
-pub reports : {S E : Type 0} {w : Manner S E} {s t : S} {m turns came : ℕ} {before held : List ℕ} {a b : Supply} {k l : Store} {ended : Result (Unit {0}) (RunError E)} (r : Result (Unit {0}) (RunReport (RunError E)))
-    → unreported r ≡ ended → before ≡ [] → Resumes w s t m turns before held 0 came a b k l (ending_of ended) → length held ≤ m + 8 → IfErr r (λ report. report.place ≡ came - length held) → IfErr r (λ report. report.channel ≡ channel_in held)
+pub reports : {S E : Type 0} {w : Manner S E} {s t : S} {m budget came : ℕ} {before held : List ℕ} {a b : Supply}
+    {k l : Store} {ended : Result (Unit {0}) (RunError E)} (r : Result (Unit {0}) (RunReport (RunError E)))
+    → unreported r ≡ ended → before ≡ [] → Resumes w s t m budget before held 0 came a b k l (ending_of ended) → length held ≤ m + 8
+    → IfErr r (λ report. report.place ≡ came - length held) → IfErr r (λ report. report.channel ≡ channel_in held)
     → IfErr r (IsReportBy w s m a b)
 reports (Ok done) e none h few at_is channel_is = tt
-reports {w = w} {s = s} {t = t} {m = m} {turns = turns} {came = came} {before = before} {held = held} {a = a} {b = b} {k = k} {l = l} (Err report) e none h few at_is channel_is =
-    report_by report none (subst (λ x. Resumes w s t m turns before held 0 came a b k l (ending_of x)) (sym e) h) few at_is channel_is
+reports {w = w} {s = s} {t = t} {m = m} {budget = budget} {came = came} {before = before}
+    {held = held} {a = a} {b = b} {k = k} {l = l} (Err report) e none h few at_is channel_is =
+    report_by report none (subst (λ x. Resumes w s t m budget before held 0 came a b k l (ending_of x)) (sym e) h) few at_is channel_is
 
 -- ---- a run in which nothing is refused
 
+-- The error of a report is the same before and after it is made one of a run.
 pub unreported_as_run : {E : Type 0} (r : Result (Unit {0}) (RunReport StreamError)) → unreported {E = RunError E} (as_run_report r) ≡ as_run (unreported r)
 unreported_as_run (Ok done) = refl
 unreported_as_run (Err report) = refl
 
-rest_at : {S E : Type 0} (w : Manner S E) (t : S) (m : ℕ) (taken rest : List ℕ) (cause : Cause) → ((h : IsRestBy w t m taken rest (stopped_by out_of_memory)) → ⊥) → IsRestBy w t m taken rest (stopped_by cause) → IsRestAt w.level m taken rest cause
+rest_at : {S E : Type 0} (w : Manner S E) (t : S) (m : ℕ) (taken rest : List ℕ) (cause : Cause)
+    → ((h : IsRestBy w t m taken rest (stopped_by out_of_memory)) → ⊥) → IsRestBy w t m taken rest (stopped_by cause) → IsRestAt w.level m taken rest cause
 rest_at w t m taken rest write_failed never h = tt
 rest_at w t m taken rest out_of_memory never h = never h
 rest_at w t m taken rest (faulty bad) never h = h
 rest_at w t m taken rest cut_short never h = h
-rest_at w t m taken rest turns_spent never h = h
+rest_at w t m taken rest budget_spent never h = h
 rest_at w t m taken rest read_failed never h = h
 
-pub report_at : {S E : Type 0} {w : Manner S E} {s : S} {f : List Frame → List ℕ} → Transcriber w s f → (m : ℕ) (a b : Supply) (r : Result (Unit {0}) (RunReport StreamError)) → IfErr (as_run_report {E = E} r) (IsReportBy w s m a b) → IfErr r (IsReportAt w.level m a b)
+-- Of a writer that writes bytes for each frame and refuses none, a report says where reading ended.
+pub report_at : {S E : Type 0} {w : Manner S E} {s : S} {f : List Frame → List ℕ}
+    → Transcriber w s f → (m : ℕ) (a b : Supply) (r : Result (Unit {0}) (RunReport StreamError))
+    → IfErr (as_run_report {E = E} r) (IsReportBy w s m a b) → IfErr r (IsReportAt w.level m a b)
 report_at is m a b (Ok done) h = tt
 report_at {w = w} {s = s} is m a b (Err report) h = record {
   taken = h.taken;
@@ -122,11 +146,13 @@ report_at {w = w} {s = s} is m a b (Err report) h = record {
 
 -- ---- the result without the report
 
+-- Of what a call returned, or that it never began, with a report, what is said without one.
 pub without_report : {A B C D : Type 0} → (A × B) ⊎ (C × D) → A ⊎ C
 without_report (inl h) = inl h.0
 without_report (inr h) = inr h.0
 
 -- a run that never began, where nothing is refused
-pub never_began_report : {T E S K : Type 0} {s t : T} {source source' : S} {sink sink' : K} (r : Result (Unit {0}) (RunReport StreamError)) → NeverRanReport {E = E} s t source source' sink sink' (as_run_report r) → NeverBeganReport source source' sink sink' errors.NoMemory r
+pub never_began_report : {T E S K : Type 0} {s t : T} {source source' : S} {sink sink' : K} (r : Result (Unit {0}) (RunReport StreamError))
+    → NeverRanReport {E = E} s t source source' sink sink' (as_run_report r) → NeverBeganReport source source' sink sink' errors.NoMemory r
 never_began_report (Ok done) h = absurd (let other = h.0.0.no_memory in cc)
 never_began_report (Err report) h = (never_began (rw unreported_as_run at h.0.0), record { place_is = h.1.place_is; no_channel = h.1.no_channel })

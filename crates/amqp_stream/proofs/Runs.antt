@@ -13,9 +13,12 @@ use Rattle.amqp_stream.specs.Runs.{Runs, WriterRun, TextRun, CanonicalRun}
 use Rattle.amqp_stream.proofs.Transcribing.{Transcriber, canonicalizes, transcribes, transcribes_exactly, is_done, welcome}
 
 -- each clause by its own
-pub run_by : {S K : Type 0} {supply : S → Supply} {store : K → Store} {turns : ℕ} {source source' : S} {sink sink' : K} {P Q Spent Spent' : Type 0} {Exactly Exactly' Accepts Accepts' : List ℕ → Type 0} {Done Done' : Type 0}
-    → (P → Q) → (Spent → Spent') → ((bytes : List ℕ) → Exactly bytes → Exactly' bytes) → ((bytes : List ℕ) → Accepts' bytes → Accepts bytes) → (P → Done → Done')
-    → Runs supply store turns source source' sink sink' P Spent Exactly Accepts Done → Runs supply store turns source source' sink sink' Q Spent' Exactly' Accepts' Done'
+pub run_by : {S K : Type 0} {supply : S → Supply} {store : K → Store} {budget : ℕ} {source source' : S} {sink sink' : K}
+    {P Q Spent Spent' : Type 0} {Exactly Exactly' Accepts Accepts' : List ℕ → Type 0} {Done Done' : Type 0}
+    → (P → Q) → (Spent → Spent') → ((bytes : List ℕ) → Exactly bytes → Exactly' bytes)
+    → ((bytes : List ℕ) → Accepts' bytes → Accepts bytes) → (P → Done → Done')
+    → Runs supply store budget source source' sink sink' P Spent Exactly Accepts Done
+    → Runs supply store budget source source' sink sink' Q Spent' Exactly' Accepts' Done'
 run_by goes spent exact accepts done run = record {
   stream = goes run.stream;
   unread = run.unread;
@@ -31,13 +34,18 @@ stream_error (Ok done) error e = absurd cc
 stream_error (Err other) error e = let same : other ≡ error = cc in ap Err same
 
 -- a writer that has a text for frames and refuses none
-pub text_run : {T E S K : Type 0} {w : Manner T E} {s t : T} {f : List Frame → List ℕ} {supply : S → Supply} {store : K → Store} {m turns : ℕ} {source source' : S} {sink sink' : K} {r : Result (Unit {0}) StreamError}
-    → Transcriber w s f → WriterRun w s t supply store m turns source source' sink sink' (as_run r)
-    → TextRun f w.level supply store m turns source source' sink sink' r (Transcribes f w.level m turns (supply source) (supply source') (store sink) (store sink') r) (r ≡ Ok tt)
+pub text_run : {T E S K : Type 0} {w : Manner T E} {s t : T} {f : List Frame → List ℕ} {supply : S → Supply}
+    {store : K → Store} {m budget : ℕ} {source source' : S} {sink sink' : K} {r : Result (Unit {0}) StreamError}
+    → Transcriber w s f → WriterRun w s t supply store m budget source source' sink sink' (as_run r)
+    → TextRun f w.level supply store m budget source source' sink sink' r
+    (Transcribes f w.level m budget (supply source) (supply source') (store sink) (store sink') r) (r ≡ Ok tt)
 text_run {E = E} {m = m} {r = r} is run =
-    run_by (transcribes is) (stream_error r errors.TurnsSpent) (λ bytes. transcribes_exactly is) (λ bytes valid. (valid, welcome is m bytes)) (λ goes. is_done E r (transcribes is goes)) run
+    run_by (transcribes is) (stream_error r errors.TurnsSpent) (λ bytes. transcribes_exactly is)
+    (λ bytes valid. (valid, welcome is m bytes)) (λ goes. is_done E r (transcribes is goes)) run
 
 -- a writer of canonical bytes
-pub canonical_run : {T E S K : Type 0} {w : Manner T E} {s t : T} {supply : S → Supply} {store : K → Store} {m turns : ℕ} {source source' : S} {sink sink' : K} {r : Result (Unit {0}) StreamError}
-    → Transcriber w s canon_frames → WriterRun w s t supply store m turns source source' sink sink' (as_run r) → CanonicalRun w.level supply store m turns source source' sink sink' r
+pub canonical_run : {T E S K : Type 0} {w : Manner T E} {s t : T} {supply : S → Supply} {store : K → Store}
+    {m budget : ℕ} {source source' : S} {sink sink' : K} {r : Result (Unit {0}) StreamError}
+    → Transcriber w s canon_frames → WriterRun w s t supply store m budget source source' sink sink' (as_run r)
+    → CanonicalRun w.level supply store m budget source source' sink sink' r
 canonical_run is run = run_by canonicalizes (λ e. e) (λ bytes e. e) (λ bytes e. e) (λ goes e. e) (text_run is run)

@@ -1,15 +1,17 @@
 -- Frames that stand: their own bytes are what is written for them. And one frame of a run, taken.
-use Rattle.std.proofs.Common.{◌≡◌, ℕ, ◌+◌, ◌≤◌, List, ◌++◌, length, take, drop, true, Option, Some, None, Result, Ok, Err, IsTrue, refl, sym, ap, subst, ◌∙◌, arith, append_assoc, append-nil}
+use Rattle.std.proofs.Common.{◌≡◌, ℕ, ◌+◌, ◌≤◌, List, ◌++◌, length, take, drop, true, Option, Some, None, Result, Ok, Err, IsTrue, refl, sym, ap, subst, ◌∙◌}
+use Rattle.std.proofs.Common.{arith, append_assoc, append-nil}
 use Rattle.std.proofs.lemmas.List.{drop-drop, length-append, length-drop, length-take-le}
 use Rattle.std.proofs.Math.Seq.{take-add}
 use Rattle.amqp_types.specs.Levels.{strict}
 use Rattle.amqp_types.specs.Judging.{IsBytes}
 use Rattle.amqp_wire.specs.declared.judging.FrameJudgement.{FrameJudgement}
 use Rattle.amqp_wire.specs.declared.looking.FrameLayout.{FrameLayout}
-use Rattle.amqp_wire.specs.Frames.{Raw, frame_length}
+use Rattle.amqp_wire.specs.Frames.{Raw, Frame, frame_length}
 use Rattle.amqp_wire.specs.Looks.{laid_out}
 use Rattle.amqp_wire.specs.Canonical.{canon}
 use Rattle.amqp_wire.specs.Judgements.{IsJudged}
+use Rattle.amqp_wire.specs.Verdicts.{whole}
 use Rattle.amqp_wire.proofs.Cuts.{verdict-whole}
 use Rattle.amqp_wire.proofs.Encoded.{verdict-spells}
 use Rattle.amqp_wire.proofs.Strictness.{strict_canon}
@@ -21,16 +23,22 @@ use Rattle.amqp_stream.specs.Ends.{Store}
 use Rattle.amqp_stream.specs.Reading.{Lies}
 use Rattle.amqp_stream.specs.Steps.{Manner}
 use Rattle.amqp_stream.specs.Streaming.{Writes, WritesBy, EndsWith, error_ending}
-use Rattle.amqp_stream.specs.Taking.{gathered, IsTaken, IsStopped}
+use Rattle.amqp_stream.specs.Taking.{gathered, GathersFrame, IsTaken, IsStopped}
 use Rattle.amqp_stream.specs.Writing.{Gathered}
 use Rattle.amqp_stream.proofs.Going.{frame_fits}
 use Rattle.amqp_stream.proofs.Transcribing.{gathered_then}
 use Rattle.amqp_stream.proofs.Writes.{pushed, kept, settled}
 
+-- a payload encodes one frame
+whole_once : (raw : Raw) (f g : Frame) → whole raw ≡ Ok f → whole raw ≡ Ok g → g ≡ f
+whole_once raw f g p q = let both = sym p ∙ q in cc
+
 -- the bytes of a frame that was judged to be canonical
-pub stands_canon : {m : ℕ} {bytes : List ℕ} {layout : FrameLayout} {judged : FrameJudgement} → IsBytes bytes → Lies m bytes layout → (h : IsJudged (laid_out layout bytes) judged) → judged.canonical ≡ true → take layout.frame_len bytes ≡ canon h.frame
+pub stands_canon : {m : ℕ} {bytes : List ℕ} {layout : FrameLayout} {judged : FrameJudgement} → IsBytes bytes → Lies m bytes layout
+    → (h : IsJudged (laid_out layout bytes) judged) → judged.canonical ≡ true → take layout.frame_len bytes ≡ canon h.frame
 stands_canon {m = m} {bytes = bytes} {layout = layout} fits lies h canonical =
-    strict_canon (take layout.frame_len bytes) h.frame (verdict-spells strict (Some m) bytes h.frame layout.frame_len fits (verdict-whole strict (Some m) bytes (laid_out layout bytes) layout.frame_len h.frame lies.found (sym h.canonical ∙ canonical) h.is)).0
+    strict_canon (take layout.frame_len bytes) h.frame (verdict-spells strict (Some m) bytes h.frame layout.frame_len fits
+    (verdict-whole strict (Some m) bytes (laid_out layout bytes) layout.frame_len h.frame lies.found (sym h.canonical ∙ canonical) h.is)).0
 
 -- a decision by which a frame stands keeps it
 record Stands {S E : Type 0} (w : Manner S E) (s t : S) (raw : Raw) : Type 0 where
@@ -38,47 +46,105 @@ record Stands {S E : Type 0} (w : Manner S E) (s t : S) (raw : Raw) : Type 0 whe
   kept : IsKept w s t raw judged
   canonical : judged.canonical ≡ true
 
-stands_kept : {S E : Type 0} {w : Manner S E} {s t : S} {raw : Raw} (passed : Result (Option Decision) (RunError E)) → PassesBy w s t raw passed → stands passed ≡ true → Stands w s t raw
+stands_kept : {S E : Type 0} {w : Manner S E} {s t : S} {raw : Raw} (passed : Result (Option Decision) (RunError E))
+    → PassesBy w s t raw passed → stands passed ≡ true → Stands w s t raw
 stands_kept (Ok (Some (decisions.Kept judged))) h is = record { judged = judged; kept = h; canonical = is }
 stands_kept (Ok (Some decisions.Dropped)) h is = absurd cc
 stands_kept (Ok None) h is = absurd cc
 stands_kept (Err error) h is = absurd cc
 
-pub frame_room : {m : ℕ} {layout : FrameLayout} (passed : ℕ) (held : List ℕ) → passed ≤ length held → Lies m (drop passed held) layout → passed + layout.frame_len ≤ length held
+-- A frame that lies after the bytes that passed ends within those that are held.
+pub frame_room : {m : ℕ} {layout : FrameLayout} (passed : ℕ) (held : List ℕ) → passed ≤ length held
+    → Lies m (drop passed held) layout → passed + layout.frame_len ≤ length held
 frame_room passed held within lies = omega (arith, lies.inside, length-drop passed held)
 
 -- a frame that stands lengthens the stretch
-pub stands_taken : {S E : Type 0} {w : Manner S E} {s t : S} {m : ℕ} {held pending : List ℕ} {layout : FrameLayout} {store : Store} {passed longer : ℕ} {raw : Raw} (decided : Result (Option Decision) (RunError E)) → IsBytes (drop passed held) → passed ≤ length held → Lies m (drop passed held) layout → raw ≡ laid_out layout (drop passed held) → PassesBy w s t raw decided → stands decided ≡ true → longer ≡ passed + layout.frame_len → IsTaken w s t layout store store held held pending pending passed longer
-stands_taken {w = w} {s = s} {t = t} {m = m} {held = held} {pending = pending} {layout = layout} {store = store} {passed = passed} {longer = longer} decided fits within lies frame passes is same =
+pub stands_taken : {S E : Type 0} {w : Manner S E} {s t : S} {m : ℕ} {held pending : List ℕ} {layout : FrameLayout}
+    {store : Store} {passed longer : ℕ} {raw : Raw} (decided : Result (Option Decision) (RunError E))
+    → IsBytes (drop passed held) → passed ≤ length held → Lies m (drop passed held) layout
+    → raw ≡ laid_out layout (drop passed held) → PassesBy w s t raw decided → stands decided ≡ true
+    → longer ≡ passed + layout.frame_len → IsTaken w s t layout store store held held pending pending passed longer
+stands_taken {w = w} {s = s} {t = t} {m = m} {held = held} {pending = pending} {layout = layout}
+    {store = store} {passed = passed} {longer = longer} decided fits within lies frame passes is same =
     let n = layout.frame_len in
     let at = stands_kept decided (subst (λ (r : Raw). PassesBy w s t r decided) frame passes) is in
     let own = stands_canon fits lies at.kept.is_judged at.canonical in
-    let parts : take longer held ≡ take passed held ++ canon at.kept.is_judged.frame = ap (λ k. take k held) same ∙ take-add passed n held ∙ ap (λ (xs : List ℕ). take passed held ++ xs) own in
+    let parts : take longer held ≡ take passed held ++ canon at.kept.is_judged.frame =
+    ap (λ k. take k held) same ∙ take-add passed n held ∙ ap (λ (xs : List ℕ). take passed held ++ xs) own in
     record {
       within = omega (arith, same, frame_room passed held within lies);
       rest = ap (λ k. drop k held) same ∙ sym (drop-drop n passed held);
-      compact = λ is. omega (arith, same, frame_room passed held within lies, length-append pending (take passed held), length-append pending (take longer held), length-take-le passed held within, length-take-le longer held (omega (arith, same, frame_room passed held within lies)));
+      compact = λ is.
+          omega (
+            arith,
+            same,
+            frame_room passed held within lies,
+            length-append pending (take passed held),
+            length-append pending (take longer held),
+            length-take-le passed held within,
+            length-take-le longer held (omega (arith, same, frame_room passed held within lies)),
+          );
       writes = record {
         bytes = canon at.kept.is_judged.frame;
         step = at.kept.step;
-        gathered = pushed store (gathered pending passed held) (gathered pending longer held) (canon at.kept.is_judged.frame) tt (ap (λ (xs : List ℕ). pending ++ xs) parts ∙ sym (append_assoc pending (take passed held) (canon at.kept.is_judged.frame)));
+        gathered =
+            pushed store (gathered pending passed held) (gathered pending longer held) (canon at.kept.is_judged.frame) tt
+            (ap (λ (xs : List ℕ). pending ++ xs) parts ∙ sym (append_assoc pending (take passed held) (canon at.kept.is_judged.frame)));
       };
     }
 
 -- the same of a frame that is this one
-pub passed_as : {S E : Type 0} {raw other : Raw} (w : Manner S E) (s t : S) (decision : Option Decision) → raw ≡ other → PassesBy w s t raw (Ok decision) → PassesBy w s t other (Ok decision)
+pub passed_as : {S E : Type 0} {raw other : Raw} (w : Manner S E) (s t : S) (decision : Option Decision)
+    → raw ≡ other → PassesBy w s t raw (Ok decision) → PassesBy w s t other (Ok decision)
 passed_as w s t decision same h = subst (λ (r : Raw). PassesBy w s t r (Ok decision)) same h
 
 -- ---- a frame that does not stand: first the stretch was gathered
 
 -- what had room behind the stretch has it after
-pub room_left : {old new : Store} {before mid stretch : List ℕ} {passed room room_after : ℕ} {other : Raw} (held : List ℕ) (raw : Raw) → raw ≡ other → Gathered old new before mid stretch → stretch ≡ take passed held → passed ≤ length held → length before + passed + frame_length other ≤ room → room_after ≡ room → length mid + frame_length raw ≤ room_after
+pub room_left : {old new : Store} {before mid stretch : List ℕ} {passed room room_after : ℕ} {other : Raw} (held : List ℕ) (raw : Raw)
+    → raw ≡ other → Gathered old new before mid stretch → stretch ≡ take passed held → passed ≤ length held
+    → length before + passed + frame_length other ≤ room → room_after ≡ room → length mid + frame_length raw ≤ room_after
 room_left {before = before} {mid = mid} {stretch = stretch} {passed = passed} held raw frame g same within enough room =
-    omega (arith, enough, ap frame_length frame, room, ap length same, length-take-le passed held within, ap length g.parts, length-append g.written mid, length-append before stretch)
+    omega (
+      arith,
+      enough,
+      ap frame_length frame,
+      room,
+      ap length same,
+      length-take-le passed held within,
+      ap length g.parts,
+      length-append g.written mid,
+      length-append before stretch,
+    )
+
+-- a frame that is kept, and whose canonical bytes come next
+pub kept_taken : {S E : Type 0} {w : Manner S E} {s t : S} {held rest before after : List ℕ}
+    {layout : FrameLayout} {judged : FrameJudgement} {store : Store} {passed longer : ℕ}
+    → IsKept w s t (laid_out layout (drop passed held)) judged → GathersFrame layout held rest before after passed longer
+    → IsTaken w s t layout store store held rest before after passed longer
+kept_taken {held = held} {rest = rest} {before = before} {after = after} {layout = layout} {store = store} {passed = passed} {longer = longer} kept g =
+    let earlier = gathered before passed held in
+    record {
+      within = g.within;
+      rest = g.rest;
+      compact = λ compact. omega (arith, g.no_longer, ap length g.gathered_is, length-append earlier (canon g.frame));
+      writes = record {
+        bytes = canon kept.is_judged.frame;
+        step = kept.step;
+        gathered =
+            pushed store earlier (gathered after longer rest) (canon kept.is_judged.frame) tt (g.gathered_is
+            ∙ ap (λ f. earlier ++ canon f) (whole_once (laid_out layout (drop passed held)) kept.is_judged.frame g.frame kept.is_judged.is g.is_whole));
+      };
+    }
 
 -- what is written for it was gathered, and its bytes are held no more
-pub written_taken : {S E : Type 0} {w : Manner S E} {s t : S} {m : ℕ} {held rest before mid after : List ℕ} {layout : FrameLayout} {old middle new : Store} {passed none : ℕ} (raw : Raw) → Lies m (drop passed held) layout → raw ≡ laid_out layout (drop passed held) → Gathered old middle before mid (take passed held) → Writes w s t raw middle new mid after → (IsTrue w.compact → length after ≤ length mid + frame_length raw) → rest ≡ drop (passed + layout.frame_len) held → none ≡ 0 → IsTaken w s t layout old new held rest before after passed none
-written_taken {w = w} {s = s} {t = t} {m = m} {held = held} {rest = rest} {before = before} {mid = mid} {after = after} {layout = layout} {old = old} {middle = middle} {new = new} {passed = passed} {none = none} raw lies frame g written few same zero =
+pub written_taken : {S E : Type 0} {w : Manner S E} {s t : S} {m : ℕ} {held rest before mid after : List ℕ}
+    {layout : FrameLayout} {old middle new : Store} {passed none : ℕ} (raw : Raw)
+    → Lies m (drop passed held) layout → raw ≡ laid_out layout (drop passed held) → Gathered old middle before mid (take passed held)
+    → Writes w s t raw middle new mid after → (IsTrue w.compact → length after ≤ length mid + frame_length raw)
+    → rest ≡ drop (passed + layout.frame_len) held → none ≡ 0 → IsTaken w s t layout old new held rest before after passed none
+written_taken {w = w} {s = s} {t = t} {m = m} {held = held} {rest = rest} {before = before} {mid = mid} {after = after}
+    {layout = layout} {old = old} {middle = middle} {new = new} {passed = passed} {none = none} raw lies frame g written few same zero =
     let h = subst (λ (r : Raw). Writes w s t r middle new mid after) frame written in
     let all = gathered_then (settled g) h.gathered in
     let long = frame_fits m (drop passed held) (laid_out layout (drop passed held)) layout.frame_len lies.found in
@@ -95,13 +161,15 @@ written_taken {w = w} {s = s} {t = t} {m = m} {held = held} {rest = rest} {befor
     }
 
 -- the writer was left as it was, and wrote for it
-pub left_writes : {S E : Type 0} {w : Manner S E} {s u t : S} {raw : Raw} {old new : Store} {mid after : List ℕ} → u ≡ s → Writes w u t raw old new mid after → Writes w s t raw old new mid after
+pub left_writes : {S E : Type 0} {w : Manner S E} {s u t : S} {raw : Raw} {old new : Store} {mid after : List ℕ}
+    → u ≡ s → Writes w u t raw old new mid after → Writes w s t raw old new mid after
 left_writes {w = w} {t = t} {raw = raw} {old = old} {new = new} {mid = mid} {after = after} same h = subst (λ x. Writes w x t raw old new mid after) same h
 
 -- ---- the run ends at it
 
 -- before anything was written for it
-pub refused_stops : {S E : Type 0} {w : Manner S E} {s t : S} {raw other : Raw} {old new : Store} {pending : List ℕ} {why : RunError E} {error : RunError E} → raw ≡ other → RefusesTo w s t raw why → EndsWith old new pending why (Err error) → IsStopped w s t other old new pending error
+pub refused_stops : {S E : Type 0} {w : Manner S E} {s t : S} {raw other : Raw} {old new : Store} {pending : List ℕ} {why : RunError E} {error : RunError E}
+    → raw ≡ other → RefusesTo w s t raw why → EndsWith old new pending why (Err error) → IsStopped w s t other old new pending error
 refused_stops {w = w} {s = s} {t = t} {old = old} {pending = pending} {why = why} frame decides ends = record {
   mid = old;
   later = old;
@@ -114,7 +182,10 @@ refused_stops {w = w} {s = s} {t = t} {old = old} {pending = pending} {why = why
 }
 
 -- as it was written for
-pub write_stops : {S E : Type 0} {w : Manner S E} {s t : S} {raw : Raw} {old mid later new : Store} {before pending after stretch : List ℕ} {why : RunError E} {error : RunError E} → Gathered old mid before pending stretch → WritesBy w s t raw mid later pending after (error_ending why) → EndsWith later new after why (Err error) → IsStopped w s t raw old new (before ++ stretch) error
+pub write_stops : {S E : Type 0} {w : Manner S E} {s t : S} {raw : Raw} {old mid later new : Store}
+    {before pending after stretch : List ℕ} {why : RunError E} {error : RunError E}
+    → Gathered old mid before pending stretch → WritesBy w s t raw mid later pending after (error_ending why)
+    → EndsWith later new after why (Err error) → IsStopped w s t raw old new (before ++ stretch) error
 write_stops {mid = mid} {later = later} {pending = pending} {after = after} {why = why} g writes ends = record {
   mid = mid;
   later = later;

@@ -1,5 +1,6 @@
 -- Writes one after another.
-use Rattle.std.proofs.Common.{◌≡◌, ◌≢◌, ℕ, ◌+◌, ◌-◌, List, [], ◌++◌, length, take, drop, Bool, true, false, Result, Ok, Err, refl, sym, ap, subst, ◌∙◌, append_assoc, append-nil}
+use Rattle.std.proofs.Common.{◌≡◌, ◌≢◌, ℕ, ◌+◌, ◌-◌, List, [], ◌++◌, length, take, drop, Bool, true, false, Result, Ok, Err, refl, sym, ap, subst}
+use Rattle.std.proofs.Common.{◌∙◌, append_assoc, append-nil}
 use Rattle.std.proofs.lemmas.List.{take_rest, take-append-drop}
 use Rattle.std.proofs.Math.Seq.{take-add}
 use Rattle.amqp_wire.specs.declared.frame_type.AMQPFrameType.TheVariants as kinds
@@ -19,18 +20,20 @@ use Rattle.amqp_stream.specs.Errors.{Cause, faulty, write_failed, cause_of}
 use Rattle.amqp_stream.specs.Ends.{Store, Gains, Rises}
 use Rattle.amqp_stream.specs.Writing.{payload_fault, WritesAll, WritesFrame, IsUnwritten, IsFaulty, Gathered, GatherFails, Gathers, Keeps, stream_result}
 use Rattle.amqp_stream.specs.Steps.{Manner}
-use Rattle.amqp_stream.specs.Streaming.{finished, stopped_by, ending_of, as_run, WritesBy}
+use Rattle.amqp_stream.specs.Streaming.{finished, stopped_by, WritesBy}
 use Rattle.amqp_stream.proofs.Adding.{Rises-later, Gains-none, Gains-then}
 use Rattle.amqp_wire.proofs.Rewritten.{canon_beat}
 
 -- one more write
-pub Gains-more : (a b c : Store) (bytes : List ℕ) (done n : ℕ) → Gains a b (take done bytes) → Gains b c (take n (take (length bytes - done) (drop done bytes))) → Gains a c (take (done + n) bytes)
+pub Gains-more : (a b c : Store) (bytes : List ℕ) (done n : ℕ) → Gains a b (take done bytes)
+    → Gains b c (take n (take (length bytes - done) (drop done bytes))) → Gains a c (take (done + n) bytes)
 Gains-more a b c bytes done n f g =
     let piece : take n (take (length bytes - done) (drop done bytes)) ≡ take n (drop done bytes) = ap (take n) (take_rest bytes done) in
     subst (Gains a c) (ap (λ (xs : List ℕ). take done bytes ++ xs) piece ∙ sym (take-add done n bytes)) (Gains-then a b c (take done bytes) _ f g)
 
 -- a write that failed
-pub WritesAll-fault : (a b c : Store) (bytes : List ℕ) (done : ℕ) (bad : SinkFault) → Gains a b (take done bytes) → Gains b c [] → Rises b.faults c.faults → WritesAll a c bytes (Err bad)
+pub WritesAll-fault : (a b c : Store) (bytes : List ℕ) (done : ℕ) (bad : SinkFault)
+    → Gains a b (take done bytes) → Gains b c [] → Rises b.faults c.faults → WritesAll a c bytes (Err bad)
 WritesAll-fault a b c bytes done bad f g r = record {
   piece = take done bytes;
   gains = subst (Gains a c) (append-nil (take done bytes)) (Gains-then a b c (take done bytes) [] f g);
@@ -40,7 +43,8 @@ WritesAll-fault a b c bytes done bad f g r = record {
 }
 
 -- bytes and then more bytes
-pub WritesAll-then : (a b c : Store) (p q : List ℕ) (u : Unit {0}) (r : Result (Unit {0}) SinkFault) → WritesAll a b p (Ok u) → WritesAll b c q r → WritesAll a c (p ++ q) r
+pub WritesAll-then : (a b c : Store) (p q : List ℕ) (u : Unit {0}) (r : Result (Unit {0}) SinkFault)
+    → WritesAll a b p (Ok u) → WritesAll b c q r → WritesAll a c (p ++ q) r
 WritesAll-then a b c p q u (Ok v) f g = record {
   piece = f.piece ++ g.piece;
   gains = Gains-then a b c f.piece g.piece f.gains g.gains;
@@ -61,7 +65,8 @@ pub pushed : (a : Store) (before after bytes : List ℕ) (u : Unit {0}) → afte
 pushed a before after bytes u e = record { written = []; gains = Gains-none a; parts = e }
 
 -- a failed write of the front of them all
-pub gather_fails : {a b : Store} {bytes before after all : List ℕ} {e : SinkFault} (rest : List ℕ) → WritesAll a b bytes (Err e) → bytes ++ rest ≡ before ++ all → after ≡ [] → GatherFails a b before after all
+pub gather_fails : {a b : Store} {bytes before after all : List ℕ} {e : SinkFault} (rest : List ℕ)
+    → WritesAll a b bytes (Err e) → bytes ++ rest ≡ before ++ all → after ≡ [] → GatherFails a b before after all
 gather_fails rest f same none = record {
   piece = f.piece;
   gains = f.gains;
@@ -71,21 +76,26 @@ gather_fails rest f same none = record {
 }
 
 -- the pending bytes were written, and then these
-pub written_after : (a b c : Store) (before after bytes : List ℕ) (u : Unit {0}) (r : Result (Unit {0}) SinkFault) → after ≡ [] → WritesAll a b before (Ok u) → WritesAll b c bytes r → Gathers a c before after bytes r
+pub written_after : (a b c : Store) (before after bytes : List ℕ) (u : Unit {0}) (r : Result (Unit {0}) SinkFault)
+    → after ≡ [] → WritesAll a b before (Ok u) → WritesAll b c bytes r → Gathers a c before after bytes r
 written_after a b c before after bytes u (Ok v) e f g =
     let all = WritesAll-then a b c before bytes u (Ok v) f g in
     record { written = all.piece; gains = all.gains; parts = ap (λ (xs : List ℕ). all.piece ++ xs) e ∙ append-nil all.piece ∙ all.ok }
 written_after a b c before after bytes u (Err d) e f g = gather_fails [] (WritesAll-then a b c before bytes u (Err d) f g) (append-nil (before ++ bytes)) e
 
-pub flush_failed : (a b : Store) (before after bytes : List ℕ) (e : SinkFault) → after ≡ [] → WritesAll a b before (Err e) → Gathers a b before after bytes (Err e)
+-- What was pending could not be written, so that these bytes were not gathered.
+pub flush_failed : (a b : Store) (before after bytes : List ℕ) (e : SinkFault)
+    → after ≡ [] → WritesAll a b before (Err e) → Gathers a b before after bytes (Err e)
 flush_failed a b before after bytes e none f = gather_fails bytes f refl none
 
 -- all of a text was written, and the rest is pending
-pub all_but : {a b : Store} {bytes before after all : List ℕ} {u : Unit {0}} → WritesAll a b bytes (Ok u) → bytes ++ after ≡ before ++ all → Gathered a b before after all
+pub all_but : {a b : Store} {bytes before after all : List ℕ} {u : Unit {0}}
+    → WritesAll a b bytes (Ok u) → bytes ++ after ≡ before ++ all → Gathered a b before after all
 all_but {a = a} {b = b} f same = record { written = f.piece; gains = f.gains; parts = ap (λ (xs : List ℕ). xs ++ _) f.ok ∙ same }
 
 -- bytes were gathered, and then all that was pending was written
-pub gathered_flushed : {a b c : Store} {before mid bytes : List ℕ} {r : Result (Unit {0}) SinkFault} → Gathered a b before mid bytes → WritesAll b c mid r → WritesAll a c (before ++ bytes) r
+pub gathered_flushed : {a b c : Store} {before mid bytes : List ℕ} {r : Result (Unit {0}) SinkFault}
+    → Gathered a b before mid bytes → WritesAll b c mid r → WritesAll a c (before ++ bytes) r
 gathered_flushed {a = a} {b = b} {c = c} {mid = mid} {r = r} g f =
     let front : WritesAll a b g.written (Ok tt) = record { piece = g.written; gains = g.gains; prefix = ([], append-nil g.written); ok = refl; err = tt } in
     subst (λ (xs : List ℕ). WritesAll a c xs r) g.parts (WritesAll-then a b c g.written mid tt r front f)
@@ -100,26 +110,37 @@ settled {before = before} {bytes = bytes} g = record { written = g.written; gain
 
 -- ---- the canonical bytes of a frame
 
-pub wrote : (raw : Raw) (a b : Store) (before after bytes : List ℕ) (f : Frame) (r : Result (Unit {0}) SinkFault) → whole raw ≡ Ok f → bytes ≡ canon f → Gathers a b before after bytes r → WritesFrame raw a b before after (stream_result r)
+-- The canonical bytes of a frame were gathered, or a write failed.
+pub wrote : (raw : Raw) (a b : Store) (before after bytes : List ℕ) (f : Frame) (r : Result (Unit {0}) SinkFault)
+    → whole raw ≡ Ok f → bytes ≡ canon f → Gathers a b before after bytes r → WritesFrame raw a b before after (stream_result r)
 wrote raw a b before after bytes f (Ok u) w e h = (f, w, subst (λ (xs : List ℕ). Gathered a b before after xs) e h)
 wrote raw a b before after bytes f (Err d) w e h = (f, w, subst (λ (xs : List ℕ). GatherFails a b before after xs) e h)
 
 -- canonical bytes that are pending after the others
-pub added : (raw : Raw) (a : Store) (before after : List ℕ) (f : Frame) → whole raw ≡ Ok f → after ≡ before ++ canon f → WritesFrame raw a a before after (Ok tt)
+pub added : (raw : Raw) (a : Store) (before after : List ℕ) (f : Frame) → whole raw ≡ Ok f
+    → after ≡ before ++ canon f → WritesFrame raw a a before after (Ok tt)
 added raw a before after f w e = (f, w, pushed a before after (canon f) tt e)
 
-pub wrote-body : (raw : Raw) (a b : Store) (before after : List ℕ) (r : Result (Unit {0}) SinkFault) → raw.kind ≡ kinds.Body → Gathers a b before after (framed 3 raw.channel raw.payload) r → WritesFrame raw a b before after (stream_result r)
+-- A body that was gathered as it came is the canonical bytes of its frame.
+pub wrote-body : (raw : Raw) (a b : Store) (before after : List ℕ) (r : Result (Unit {0}) SinkFault) → raw.kind ≡ kinds.Body
+    → Gathers a b before after (framed 3 raw.channel raw.payload) r → WritesFrame raw a b before after (stream_result r)
 unfolding whole_as canon
 wrote-body raw a b before after r k h = wrote raw a b before after (framed 3 raw.channel raw.payload) (Body raw.channel raw.payload) r (rw k refl) refl h
 
-pub wrote-beat : (raw : Raw) (a : Store) (before after bytes : List ℕ) → raw.kind ≡ kinds.Heartbeat → bytes ≡ framed 8 raw.channel [] → after ≡ before ++ bytes → WritesFrame raw a a before after (Ok tt)
+-- A heartbeat without a payload that was gathered is the canonical bytes of its frame.
+pub wrote-beat : (raw : Raw) (a : Store) (before after bytes : List ℕ) → raw.kind ≡ kinds.Heartbeat
+    → bytes ≡ framed 8 raw.channel [] → after ≡ before ++ bytes → WritesFrame raw a a before after (Ok tt)
 unfolding whole_as
-wrote-beat raw a before after bytes k e h = added raw a before after (beat_on raw.channel) (rw k refl) (h ∙ ap (λ (xs : List ℕ). before ++ xs) (e ∙ canon_beat raw.channel))
+wrote-beat raw a before after bytes k e h =
+    added raw a before after (beat_on raw.channel) (rw k refl) (h ∙ ap (λ (xs : List ℕ). before ++ xs) (e ∙ canon_beat raw.channel))
 
-pub wrote-proto : (raw : Raw) (a : Store) (before after bytes : List ℕ) (v : ProtocolVersion) → raw.kind ≡ kinds.ProtocolHeader → whole_as kinds.ProtocolHeader raw.channel raw.payload ≡ Ok (Proto v.major v.minor v.revision)
+-- A protocol header that was gathered is the canonical bytes of its frame.
+pub wrote-proto : (raw : Raw) (a : Store) (before after bytes : List ℕ) (v : ProtocolVersion) → raw.kind ≡ kinds.ProtocolHeader
+    → whole_as kinds.ProtocolHeader raw.channel raw.payload ≡ Ok (Proto v.major v.minor v.revision)
     → bytes ≡ proto v.major v.minor v.revision → after ≡ before ++ bytes → WritesFrame raw a a before after (Ok tt)
 unfolding canon
-wrote-proto raw a before after bytes v k is_whole is h = added raw a before after (Proto v.major v.minor v.revision) (rw k is_whole) (h ∙ ap (λ (xs : List ℕ). before ++ xs) is)
+wrote-proto raw a before after bytes v k is_whole is h =
+    added raw a before after (Proto v.major v.minor v.revision) (rw k is_whole) (h ∙ ap (λ (xs : List ℕ). before ++ xs) is)
 
 -- nothing was gathered
 pub kept : (a : Store) (before after : List ℕ) → after ≡ before → Keeps a a before after
@@ -134,13 +155,17 @@ pub record IsNone (raw : Raw) (cause : Cause) : Type 0 where
   pub other : bad ≢ not_tidy
   pub tells : faulty bad ≡ cause
 
+-- a call that returned this error
 abbrev pub refusing : ParserError → Result (Unit {0}) ParserError
 refusing error = Err error
 
+-- Calls that returned an error returned the same one.
 pub refused_by : {error other : ParserError} → refusing error ≡ refusing other → error ≡ other
 refused_by h = cc
 
-pub is_none : (raw : Raw) (error : ParserError) → IsPayloadError error → refusing error ≢ Err parses.NoMemory → RefusesWhole error (whole raw) → IsNone raw (cause_of (payload_fault error))
+-- A payload that was refused, not for want of memory, has that fault at any level.
+pub is_none : (raw : Raw) (error : ParserError) → IsPayloadError error → refusing error ≢ Err parses.NoMemory
+    → RefusesWhole error (whole raw) → IsNone raw (cause_of (payload_fault error))
 is_none raw parses.NoMemory inside some h = absurd (some refl)
 is_none raw parses.Incomplete inside some h = absurd inside
 is_none raw parses.UnknownFrameType inside some h = absurd inside
@@ -149,7 +174,8 @@ is_none raw parses.BadFrameEnd inside some h = absurd inside
 is_none raw error inside some h = record { bad = _; is_whole = h; other = λ e. absurd cc; tells = refl }
 
 -- a method or content header that was not read
-pub added_refused : (raw : Raw) (a : Store) (before after : List ℕ) (error : ParserError) → IsPayloadError error → refusing error ≢ Err parses.NoMemory → RefusesWhole error (whole raw) → after ≡ before → WritesFrame raw a a before after (Err (payload_fault error))
+pub added_refused : (raw : Raw) (a : Store) (before after : List ℕ) (error : ParserError) → IsPayloadError error → refusing error ≢ Err parses.NoMemory
+    → RefusesWhole error (whole raw) → after ≡ before → WritesFrame raw a a before after (Err (payload_fault error))
 added_refused raw a before after error inside some h same =
     let none = is_none raw error inside some h in
     subst (IsUnwritten raw a a before after) none.tells (none.is_whole, none.other, kept a before after same)
@@ -167,18 +193,22 @@ is_faulty level raw bad e other = record { judged_bad = λ n. faulty_at (is_at l
 
 -- ---- a step of a writer that writes the canonical bytes of a frame
 
-pub written_by : {S E : Type 0} {w : Manner S E} {s t : S} {raw : Raw} {a b : Store} {before after : List ℕ} (done : Unit {0}) → ((f : Frame) → w.step s f ≡ Ok (canon f, t)) → is_at w.level raw ≡ true → WritesFrame raw a b before after (Ok done) → WritesBy w s t raw a b before after finished
+-- A frame of which the canonical bytes were gathered, as a step of a writer that writes them.
+pub written_by : {S E : Type 0} {w : Manner S E} {s t : S} {raw : Raw} {a b : Store} {before after : List ℕ} (done : Unit {0})
+    → ((f : Frame) → w.step s f ≡ Ok (canon f, t)) → is_at w.level raw ≡ true
+    → WritesFrame raw a b before after (Ok done) → WritesBy w s t raw a b before after finished
 written_by done steps at h = record { bytes = canon h.0; step = record { frame = h.0; is_whole = h.1; at_level = at; steps = steps h.0 }; gathered = h.2 }
 
-unwritten_at : {S E : Type 0} (w : Manner S E) (s t : S) (raw : Raw) (a b : Store) (before after : List ℕ) (cause : Cause) → ((f : Frame) → w.step s f ≡ Ok (canon f, t)) → is_at w.level raw ≡ true → IsUnwritten raw a b before after cause → WritesBy w s s raw a b before after (stopped_by cause)
+unwritten_at : {S E : Type 0} (w : Manner S E) (s t : S) (raw : Raw) (a b : Store) (before after : List ℕ) (cause : Cause)
+    → ((f : Frame) → w.step s f ≡ Ok (canon f, t)) → is_at w.level raw ≡ true
+    → IsUnwritten raw a b before after cause → WritesBy w s s raw a b before after (stopped_by cause)
 unwritten_at w s t raw a b before after (faulty bad) steps at h = (is_faulty w.level raw bad h.0 h.1, h.2, refl)
-unwritten_at w s t raw a b before after write_failed steps at h = record { bytes = canon h.0; next = t; step = record { frame = h.0; is_whole = h.1; at_level = at; steps = steps h.0 }; failed = h.2 }
+unwritten_at w s t raw a b before after write_failed steps at h =
+    record { bytes = canon h.0; next = t; step = record { frame = h.0; is_whole = h.1; at_level = at; steps = steps h.0 }; failed = h.2 }
 unwritten_at w s t raw a b before after cause steps at h = absurd h
 
-pub unwritten_by : {S E : Type 0} (w : Manner S E) {s : S} (t : S) (raw : Raw) (a b : Store) (before after : List ℕ) (error : StreamError) → ((f : Frame) → w.step s f ≡ Ok (canon f, t)) → is_at w.level raw ≡ true → WritesFrame raw a b before after (Err error) → WritesBy w s s raw a b before after (stopped_by (cause_of error))
+-- A frame of which they were not, as the ending of such a writer.
+pub unwritten_by : {S E : Type 0} (w : Manner S E) {s : S} (t : S) (raw : Raw) (a b : Store) (before after : List ℕ) (error : StreamError)
+    → ((f : Frame) → w.step s f ≡ Ok (canon f, t)) → is_at w.level raw ≡ true
+    → WritesFrame raw a b before after (Err error) → WritesBy w s s raw a b before after (stopped_by (cause_of error))
 unwritten_by w {s = s} t raw a b before after error steps at h = unwritten_at w s t raw a b before after (cause_of error) steps at h
-
--- the same of a writer whose state stays
-pub canonical_by : {S E : Type 0} (w : Manner S E) {s : S} (raw : Raw) (a b : Store) (before after : List ℕ) (r : Result (Unit {0}) StreamError) → ((f : Frame) → w.step s f ≡ Ok (canon f, s)) → is_at w.level raw ≡ true → WritesFrame raw a b before after r → WritesBy w s s raw a b before after (ending_of (as_run r))
-canonical_by w raw a b before after (Ok done) steps at h = written_by done steps at h
-canonical_by w {s = s} raw a b before after (Err error) steps at h = unwritten_by w s raw a b before after error steps at h

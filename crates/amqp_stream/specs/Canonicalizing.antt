@@ -11,16 +11,20 @@ use Rattle.amqp_stream.specs.Transcribing.{IsSequence, Transcribes, TranscribesE
 abbrev pub canon_of : Level → ℕ → List ℕ → List ℕ
 canon_of level m bytes = canon_frames (front level (Some m) bytes)
 
--- A whole call, which writes the canonical bytes of the frames: a is the source before it and b after it, k and l the sink.
-pub record Canonicalizes (level : Level) (m turns : ℕ) (a b : Supply) (k l : Store) (result : Result (Unit {0}) StreamError) : Type 0 where
-  pub run : Transcribes canon_frames level m turns a b k l result
+-- A whole call, which writes the canonical bytes of the frames: a is the source before it and b
+-- after it, k and l the sink.
+pub record Canonicalizes (level : Level) (m budget : ℕ) (a b : Supply)
+    (k l : Store) (result : Result (Unit {0}) StreamError) : Type 0 where
+  pub run : Transcribes canon_frames level m budget a b k l result
   pub no_longer : length run.written ≤ length run.taken
 
 -- what a call returns and writes over a source that reports its bytes
-abbrev pub AnswersExactly : Level → ℕ → List ℕ → Store → Store → Result (Unit {0}) StreamError → Type 0
+abbrev pub AnswersExactly : Level → ℕ → List ℕ → Store
+    → Store → Result (Unit {0}) StreamError → Type 0
 AnswersExactly level m bytes k l result = TranscribesExactly canon_frames level m bytes k l result
 
 -- What is written for two sequences of frames is equal exactly where they encode the same frames.
 abbrev pub EqualOutputIsEqualFrames : Type 0
-EqualOutputIsEqualFrames = (level : Level) (m : ℕ) (a b : List ℕ) → IsSequence level m a → IsSequence level m b
+EqualOutputIsEqualFrames =
+    (level : Level) (m : ℕ) (a b : List ℕ) → IsSequence level m a → IsSequence level m b
     → (canon_of level m a ≡ canon_of level m b) ↔ (front level (Some m) a ≡ front level (Some m) b)

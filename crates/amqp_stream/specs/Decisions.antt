@@ -1,5 +1,6 @@
 -- What a writer decides of a frame before anything is written for it.
-use Rattle.std.specs.Prelude.{◌≡◌, ℕ, Bool, false, List, [], Option, Some, None, Result, Ok, Err, IsTrue}
+use Rattle.std.specs.Prelude.{◌≡◌, ℕ, Bool, false, List, [], Option, Some}
+use Rattle.std.specs.Prelude.{None, Result, Ok, Err, IsTrue}
 use Rattle.amqp_wire.specs.declared.judging.FrameJudgement.{FrameJudgement}
 use Rattle.amqp_wire.specs.Frames.{Raw}
 use Rattle.amqp_wire.specs.Canonical.{canon}
@@ -31,7 +32,8 @@ PutsDecided raw before after (decisions.Kept judged) = Adds before after (whole 
 PutsDecided raw before after decisions.Dropped = after ≡ before
 
 -- A frame for which a compact writer writes its canonical bytes, judged so.
-pub record IsKept {S E : Type 0} (w : Manner S E) (s t : S) (raw : Raw) (judged : FrameJudgement) : Type 0 where
+pub record IsKept {S E : Type 0} (w : Manner S E) (s t : S)
+    (raw : Raw) (judged : FrameJudgement) : Type 0 where
   pub is_judged : IsJudged raw judged
   pub step : IsStep w s t raw (canon is_judged.frame)
   pub compact : IsTrue w.compact
@@ -48,15 +50,19 @@ TakesTo w s t raw decisions.Dropped = IsDropped w s t raw
 
 -- a frame that was not: nothing more is written or pending, whatever was
 abbrev pub RefusesTo : {S E : Type 0} → Manner S E → S → S → Raw → RunError E → Type 0
-RefusesTo w s t raw error = (store : Store) (pending : List ℕ) → WritesBy w s t raw store store pending pending (error_ending error)
+RefusesTo w s t raw error =
+    (store : Store) (pending : List ℕ)
+    → WritesBy w s t raw store store pending pending (error_ending error)
 
 -- what a writer decides of a frame, or why it does not take it
-abbrev pub DecidesBy : {S E : Type 0} → Manner S E → S → S → Raw → Result Decision (RunError E) → Type 0
+abbrev pub DecidesBy : {S E : Type 0} → Manner S E → S
+    → S → Raw → Result Decision (RunError E) → Type 0
 DecidesBy w s t raw (Ok decision) = TakesTo w s t raw decision
 DecidesBy w s t raw (Err error) = RefusesTo w s t raw error
 
 -- The same of a writer that may leave a frame, and then nothing changes.
-abbrev pub PassesBy : {S E : Type 0} → Manner S E → S → S → Raw → Result (Option Decision) (RunError E) → Type 0
+abbrev pub PassesBy : {S E : Type 0} → Manner S E → S → S
+    → Raw → Result (Option Decision) (RunError E) → Type 0
 PassesBy w s t raw (Ok (Some decision)) = TakesTo w s t raw decision
 PassesBy w s t raw (Ok None) = t ≡ s
 PassesBy w s t raw (Err error) = RefusesTo w s t raw error

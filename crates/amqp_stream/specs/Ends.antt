@@ -1,5 +1,6 @@
 -- The two ends of a stream: what a source and a sink report of themselves.
-use Rattle.std.specs.Prelude.{◌≡◌, ℕ, ◌+◌, ◌-◌, ◌^◌, ◌<◌, ◌≤◌, min, max, List, [], ◌++◌, length, take, Option, Some, None, Result, Ok, Err}
+use Rattle.std.specs.Prelude.{◌≡◌, ℕ, ◌+◌, ◌-◌, ◌^◌, ◌<◌, ◌≤◌, min, max, List, [], ◌++◌, length}
+use Rattle.std.specs.Prelude.{take, Option, Some, None, Result, Ok, Err}
 
 -- the last value of a count, at which it stays
 abbrev pub last : ℕ
@@ -14,7 +15,8 @@ counted n (Some k) = Some (max k (min (k + n) last))
 abbrev pub Rises : ℕ → ℕ → Type 0
 Rises old new = old < last → old < new
 
--- A source: the bytes that are left and the number of reads so far, each where it is reported, and a count of faults.
+-- A source: the bytes that are left and the number of reads so far, each where it is reported, and
+-- a count of faults.
 pub record Supply : Type 0 where
   pub left : Option (List ℕ)
   pub reads : Option ℕ

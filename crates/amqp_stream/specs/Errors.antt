@@ -1,8 +1,12 @@
 -- The errors of streams: the faults of bytes that they report, their names and statuses.
 use Rattle.std.specs.Prelude.{ℕ, List, codes, Option, Some, None, Result, Ok, Err}
-use Rattle.amqp_types.specs.Judging.{Fault, unknown_frame_type, bad_protocol_header, too_large, bad_frame_end, unknown_class, unknown_method, short_payload, trailing_bytes, not_utf8, unknown_tag, too_deep, not_tidy}
+use Rattle.amqp_types.specs.Judging.{Fault, unknown_frame_type, bad_protocol_header, too_large}
+use Rattle.amqp_types.specs.Judging.{bad_frame_end, unknown_class, unknown_method, short_payload}
+use Rattle.amqp_types.specs.Judging.{trailing_bytes, not_utf8, unknown_tag, too_deep, not_tidy}
 use Rattle.amqp_stream.specs.declared.errors.ReadError.{ReadError}
 use Rattle.amqp_stream.specs.declared.errors.ReadError.TheVariants as reads
+use Rattle.amqp_stream.specs.declared.errors.RunError.{RunError}
+use Rattle.amqp_stream.specs.declared.errors.RunError.TheVariants as ends
 use Rattle.amqp_stream.specs.declared.errors.StreamError.{StreamError}
 use Rattle.amqp_stream.specs.declared.errors.StreamError.TheVariants as errors
 
@@ -91,6 +95,16 @@ stream_error_status errors.CutShort = 21
 stream_error_status errors.TurnsSpent = 22
 stream_error_status errors.NotTidy = 23
 
+-- the name of an error of a run, by the names of refusals
+abbrev pub run_error_name : {E : Type 0} → (E → List ℕ) → RunError E → List ℕ
+run_error_name name_of (ends.Stream error) = stream_error_name error
+run_error_name name_of (ends.Refused why) = name_of why
+
+-- the exit status of a program that ends with it, by those of refusals
+abbrev pub run_error_status : {E : Type 0} → (E → ℕ) → RunError E → ℕ
+run_error_status status_of (ends.Stream error) = stream_error_status error
+run_error_status status_of (ends.Refused why) = status_of why
+
 -- the status of a result
 abbrev pub status_of : Result (Unit {0}) StreamError → ℕ
 status_of (Ok done) = 0
@@ -100,7 +114,7 @@ status_of (Err error) = stream_error_status error
 pub data Cause : Type 0 where
   faulty : Fault → Cause
   cut_short : Cause
-  turns_spent : Cause
+  budget_spent : Cause
   read_failed : Cause
   write_failed : Cause
   out_of_memory : Cause
@@ -120,7 +134,7 @@ cause_of errors.UnknownTag = faulty unknown_tag
 cause_of errors.TooDeep = faulty too_deep
 cause_of errors.NotTidy = faulty not_tidy
 cause_of errors.CutShort = cut_short
-cause_of errors.TurnsSpent = turns_spent
+cause_of errors.TurnsSpent = budget_spent
 cause_of errors.ReadFault = read_failed
 cause_of errors.WriteFault = write_failed
 cause_of errors.NoMemory = out_of_memory

@@ -1,5 +1,7 @@
--- What a forwarder does in a call: a run with a read budget of one, over the bytes that it holds and those that its source has left.
-use Rattle.std.specs.Prelude.{◌≡◌, ℕ, ◌≤◌, List, [], ◌∷◌, ◌++◌, length, Option, Some, None, Result, Ok, Err}
+-- What a forwarder does in a call: a run with a read budget of one, over the bytes that it holds
+-- and those that its source has left.
+use Rattle.std.specs.Prelude.{◌≡◌, ℕ, ◌≤◌, List, [], ◌∷◌, ◌++◌, length}
+use Rattle.std.specs.Prelude.{Option, Some, None, Result, Ok, Err}
 use Rattle.std.specs.List.{concat}
 use Rattle.amqp_types.specs.Levels.{Level}
 use Rattle.amqp_wire.specs.Fronts.{place}
@@ -9,14 +11,15 @@ use Rattle.amqp_stream.specs.declared.errors.RunError.{RunError}
 use Rattle.amqp_stream.specs.declared.errors.RunError.TheVariants as ends
 use Rattle.amqp_stream.specs.declared.forwarder.Forwarded.{Forwarded}
 use Rattle.amqp_stream.specs.declared.forwarder.Forwarded.TheVariants as results
-use Rattle.amqp_stream.specs.Errors.{Cause, turns_spent, write_failed, cause_of}
+use Rattle.amqp_stream.specs.Errors.{Cause, budget_spent, write_failed, cause_of}
 use Rattle.amqp_stream.specs.Ends.{Supply, Store, Takes, counted}
 use Rattle.amqp_stream.specs.Canonicalizing.{Canonicalizes, canon_of}
 use Rattle.amqp_stream.specs.Steps.{Manner}
 use Rattle.amqp_stream.specs.Streaming.{Ending, finished, stopped_by, error_ending}
 use Rattle.amqp_stream.specs.Resuming.{ahead, Resumes}
 
--- A forwarder: the limit on payloads, the bytes that it holds, how many came, and the error that it returns from now on.
+-- A forwarder: the limit on payloads, the bytes that it holds, how many came, and the error that it
+-- returns from now on.
 pub record Forwarding : Type 0 where
   pub limit : ℕ
   pub held : List ℕ
@@ -25,7 +28,7 @@ pub record Forwarding : Type 0 where
 
 -- A call after which more may come ends as a run whose read budget is spent.
 abbrev pub forward_ending : {E : Type 0} → Result Forwarded (RunError E) → Ending E
-forward_ending (Ok results.More) = stopped_by turns_spent
+forward_ending (Ok results.More) = stopped_by budget_spent
 forward_ending (Ok results.Ended) = finished
 forward_ending (Err error) = error_ending error
 
@@ -46,8 +49,10 @@ fault_after (Err (ends.Stream error)) = lasting error
 fault_after (Err (ends.Refused why)) = None
 
 -- a call, by any writer
-pub record ForwardsBy {S E : Type 0} (w : Manner S E) (s t : S) (old new : Forwarding) (a b : Supply) (k l : Store) (result : Result Forwarded (RunError E)) : Type 0 where
-  pub run : Resumes w s t old.limit 1 old.held new.held old.came new.came a b k l (forward_ending result)
+pub record ForwardsBy {S E : Type 0} (w : Manner S E) (s t : S) (old new : Forwarding)
+    (a b : Supply) (k l : Store) (result : Result Forwarded (RunError E)) : Type 0 where
+  pub run : Resumes w s t old.limit 1 old.held new.held
+      old.came new.came a b k l (forward_ending result)
   pub limit : new.limit ≡ old.limit
   pub fault : new.fault ≡ fault_after result
 
@@ -59,6 +64,7 @@ forward_result (Ok results.More) = Err errors.TurnsSpent
 forward_result (Ok results.Ended) = Ok tt
 forward_result (Err error) = Err error
 
+-- the result of a call that writes canonical bytes, as one of any writer
 abbrev pub as_forward : {E : Type 0} → Result Forwarded StreamError → Result Forwarded (RunError E)
 as_forward (Ok forwarded) = Ok forwarded
 as_forward (Err error) = Err (ends.Stream error)
@@ -67,17 +73,21 @@ abbrev pub lasting_after : Result Forwarded StreamError → Option StreamError
 lasting_after (Ok forwarded) = None
 lasting_after (Err error) = lasting error
 
--- what is held after a call that ended early: what follows the frames at the front; only after a failed write it is not known
+-- what is held after a call that ended early: what follows the frames at the front; only after a
+-- failed write it is not known
 abbrev pub HeldUnless : Level → ℕ → List ℕ → List ℕ → Cause → Type 0
 HeldUnless level m bytes held write_failed = Unit {0}
 HeldUnless level m bytes held cause = held ≡ place level (Some m) bytes
 
+-- what is held after a call: what follows the frames at the front
 abbrev pub HeldAfter : Level → ℕ → List ℕ → List ℕ → Result (Unit {0}) StreamError → Type 0
 HeldAfter level m bytes held (Ok done) = held ≡ place level (Some m) bytes
 HeldAfter level m bytes held (Err error) = HeldUnless level m bytes held (cause_of error)
 
--- A call that writes the canonical bytes of the frames held and read. What is said of a run holds of it: nothing is pending after it.
-pub record Forwards (level : Level) (old new : Forwarding) (a b : Supply) (k l : Store) (result : Result Forwarded StreamError) : Type 0 where
+-- A call that writes the canonical bytes of the frames held and read. What is said of a run holds
+-- of it: nothing is pending after it.
+pub record Forwards (level : Level) (old new : Forwarding) (a b : Supply)
+    (k l : Store) (result : Result Forwarded StreamError) : Type 0 where
   pub call : Canonicalizes level old.limit 1 (ahead old.held a) b k l (forward_result result)
   pub piece : List ℕ
   pub parts : call.run.taken ≡ old.held ++ piece
@@ -95,13 +105,25 @@ pub record Fed : Type 0 where
   pub text : List ℕ
   pub held : List ℕ
 
--- What calls write one after another, each of which has one of the pieces, and what is held after them. By `Forwards` a call writes
--- the canonical bytes of what was held and came, and holds the rest.
+-- What calls write one after another, each of which has one of the pieces, and what is held
+-- after them. By `Forwards` a call writes the canonical bytes of what was held and came, and
+-- holds the rest.
 abbrev pub fed_after : Level → ℕ → Fed → List (List ℕ) → Fed
 fed_after level m done [] = done
-fed_after level m done (piece ∷ pieces) = fed_after level m (record { text = done.text ++ canon_of level m (done.held ++ piece); held = place level (Some m) (done.held ++ piece) }) pieces
+fed_after level m done (piece ∷ pieces) =
+    fed_after level m
+    (record {
+      text = done.text ++ canon_of level m (done.held ++ piece);
+      held = place level (Some m) (done.held ++ piece);
+    })
+    pieces
 
 -- Fed in pieces, whatever they are, bytes give what they give at once.
 abbrev pub PiecesAreWhole : Type 0
-PiecesAreWhole = (level : Level) (m : ℕ) (pieces : List (List ℕ)) → fed_after level m (record { text = []; held = [] }) pieces
-    ≡ record { text = canon_of level m (concat pieces); held = place level (Some m) (concat pieces) }
+PiecesAreWhole =
+    (level : Level) (m : ℕ) (pieces : List (List ℕ))
+    → fed_after level m (record { text = []; held = [] }) pieces
+    ≡ record {
+      text = canon_of level m (concat pieces);
+      held = place level (Some m) (concat pieces);
+    }

@@ -1,5 +1,7 @@
--- The stream that is generated: four frames in turn, of which the canonical encoding leaves only the second as it is.
-use Rattle.std.specs.Prelude.{◌≡◌, ℕ, zero, suc, ◌+◌, ◌%◌, ◌==◌, List, [], ◌∷◌, ◌++◌, length, Some, if◌then◌else◌}
+-- The stream that is generated: four frames in turn, of which the canonical encoding leaves only
+-- the second as it is.
+use Rattle.std.specs.Prelude.{◌≡◌, ℕ, zero, suc, ◌+◌, ◌%◌, ◌==◌, List, [], ◌∷◌}
+use Rattle.std.specs.Prelude.{◌++◌, length, Some, if◌then◌else◌}
 use Rattle.amqp_types.specs.Levels.{plain}
 use Rattle.amqp_wire.specs.Frames.{Frame}
 use Rattle.amqp_wire.specs.Spelling.{framed, SpellsFrames}
@@ -13,10 +15,12 @@ most_frames = 100000
 abbrev pub select_payload : List ℕ
 select_payload = 0 ∷ 85 ∷ 0 ∷ 10 ∷ 255 ∷ []
 
--- `queue.declare`: a reserved number that is not 0, an empty name, all bits of the flag byte set, of which five have a meaning,
--- and a table that has the key `a` twice, first false and then true, encoded as 7
+-- `queue.declare`: a reserved number that is not 0, an empty name, all bits of the flag byte set,
+-- of which five have a meaning, and a table that has the key `a` twice, first false and then
+-- true, encoded as 7
 abbrev pub declare_payload : List ℕ
-declare_payload = 0 ∷ 50 ∷ 0 ∷ 10 ∷ 0 ∷ 9 ∷ 0 ∷ 255 ∷ 0 ∷ 0 ∷ 0 ∷ 8 ∷ 1 ∷ 97 ∷ 116 ∷ 0 ∷ 1 ∷ 97 ∷ 116 ∷ 7 ∷ []
+declare_payload =
+    0 ∷ 50 ∷ 0 ∷ 10 ∷ 0 ∷ 9 ∷ 0 ∷ 255 ∷ 0 ∷ 0 ∷ 0 ∷ 8 ∷ 1 ∷ 97 ∷ 116 ∷ 0 ∷ 1 ∷ 97 ∷ 116 ∷ 7 ∷ []
 
 -- channels 1 to 1000, one after another
 abbrev pub made_channel : ℕ → ℕ

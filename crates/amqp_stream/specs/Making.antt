@@ -1,4 +1,5 @@
--- What a source that makes frames has left: the bytes between two places of one frame, and the frames from the next on.
+-- What a source that makes frames has left: the bytes between two places of one frame, and the
+-- frames from the next on.
 use Rattle.std.specs.Prelude.{◌≡◌, ℕ, ◌-◌, ◌≤◌, List, ◌++◌, length}
 use Rattle.amqp_stream.specs.declared.buffer.Span.{Span}
 use Rattle.amqp_stream.specs.Spans.{IsSpan, held_in}

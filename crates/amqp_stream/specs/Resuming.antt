@@ -1,22 +1,27 @@
--- A run that begins with bytes that are held already, and holds what follows the frames that it wrote for.
-use Rattle.std.specs.Prelude.{◌≡◌, ◌⊎◌, ℕ, ◌+◌, ◌≤◌, List, [], ◌++◌, length, None, Some, Err, IsTrue}
+-- A run that begins with bytes that are held already, and holds what follows the frames
+-- that it wrote for.
+use Rattle.std.specs.Prelude.{◌≡◌, ◌⊎◌, ℕ, ◌+◌, ◌≤◌, List, [], ◌++◌}
+use Rattle.std.specs.Prelude.{length, None, Some, Err, IsTrue}
 use Rattle.amqp_types.specs.Judging.{took}
 use Rattle.amqp_wire.specs.Frames.{Frame}
 use Rattle.amqp_wire.specs.Fronts.{place}
 use Rattle.amqp_wire.specs.Outer.{BeginsWith}
 use Rattle.amqp_wire.specs.Verdicts.{verdict}
-use Rattle.amqp_stream.specs.Errors.{turns_spent, write_failed, out_of_memory}
+use Rattle.amqp_stream.specs.Errors.{budget_spent, write_failed, out_of_memory}
 use Rattle.amqp_stream.specs.Ends.{Supply, Store, Takes, prepended, counted}
 use Rattle.amqp_stream.specs.Steps.{Manner}
 use Rattle.amqp_stream.specs.Transcribing.{IsSequence}
-use Rattle.amqp_stream.specs.Streaming.{Ending, refused_by, stopped_by, text_of, refused_of, state_of, Streams}
+use Rattle.amqp_stream.specs.Streaming.{Ending, refused_by, stopped_by, text_of}
+use Rattle.amqp_stream.specs.Streaming.{refused_of, state_of, Streams}
 
 -- a source with these bytes in front of those that it has left
 abbrev pub ahead : List ℕ → Supply → Supply
 ahead held a = record { left = prepended held a.left; reads = a.reads; faults = a.faults }
 
--- Of some bytes those in front are frames that were written for, from the writer's state s to t, and the rest is held.
-pub record Rests {S E : Type 0} (w : Manner S E) (s t : S) (m : ℕ) (bytes written held : List ℕ) : Type 0 where
+-- Of some bytes those in front are frames that were written for, from the writer's state s to t,
+-- and the rest is held.
+pub record Rests {S E : Type 0} (w : Manner S E) (s t : S)
+    (m : ℕ) (bytes written held : List ℕ) : Type 0 where
   pub used : List ℕ
   pub parts : bytes ≡ used ++ held
   pub is_sequence : IsSequence w.level m used
@@ -25,54 +30,67 @@ pub record Rests {S E : Type 0} (w : Manner S E) (s t : S) (m : ℕ) (bytes writ
   pub state_is : t ≡ state_of w s m used
 
 -- The same, and none of the held bytes are a frame.
-pub record RestsAt {S E : Type 0} (w : Manner S E) (s t : S) (m : ℕ) (bytes written held : List ℕ) : Type 0 where
+pub record RestsAt {S E : Type 0} (w : Manner S E) (s t : S)
+    (m : ℕ) (bytes written held : List ℕ) : Type 0 where
   pub rests : Rests w s t m bytes written held
   pub place_is : held ≡ place w.level (Some m) bytes
 
 -- The frame at the front of some bytes is refused in this state.
-pub record IsRefusedThere {S E : Type 0} (w : Manner S E) (t : S) (m : ℕ) (bytes : List ℕ) (why : E) : Type 0 where
+pub record IsRefusedThere {S E : Type 0} (w : Manner S E)
+    (t : S) (m : ℕ) (bytes : List ℕ) (why : E) : Type 0 where
   pub frame : Frame
   pub used : ℕ
   pub found : verdict w.level (Some m) bytes ≡ took frame used
   pub refuses : w.step t frame ≡ Err why
 
--- The refused frame is held and what follows it; or all was written for, and the end of input is refused.
-pub record RestsRefused {S E : Type 0} (w : Manner S E) (s t : S) (m : ℕ) (bytes written held : List ℕ) (why : E) : Type 0 where
+-- The refused frame is held and what follows it; or all was written for, and the end of
+-- input is refused.
+pub record RestsRefused {S E : Type 0} (w : Manner S E) (s t : S)
+    (m : ℕ) (bytes written held : List ℕ) (why : E) : Type 0 where
   pub rests : Rests w s t m bytes written held
   pub refused : IsRefusedThere w t m held why ⊎ ((held ≡ []) × (w.end t ≡ Some why))
 
 -- Of some bytes those in front are frames of which none is refused, and the rest is held.
-pub record RestsAfter {S E : Type 0} (w : Manner S E) (s : S) (m : ℕ) (bytes held : List ℕ) : Type 0 where
+pub record RestsAfter {S E : Type 0} (w : Manner S E)
+    (s : S) (m : ℕ) (bytes held : List ℕ) : Type 0 where
   pub used : List ℕ
   pub parts : bytes ≡ used ++ held
   pub is_sequence : IsSequence w.level m used
   pub none_refused : refused_of w s m used ≡ None
 
 -- The same, and the held bytes begin with a frame at which memory may run out.
-pub record RestsWanting {S E : Type 0} (w : Manner S E) (s : S) (m : ℕ) (bytes held : List ℕ) : Type 0 where
+pub record RestsWanting {S E : Type 0} (w : Manner S E)
+    (s : S) (m : ℕ) (bytes held : List ℕ) : Type 0 where
   pub rests : RestsAfter w s m bytes held
   pub wanting : BeginsWith (λ kind. IsTrue (w.wants kind)) (Some m) held
 
--- What is held after a run: what follows the frames that were written for, or after a failed write those that were taken.
-abbrev pub RestsBy : {S E : Type 0} → Manner S E → S → S → ℕ → List ℕ → List ℕ → List ℕ → Ending E → Type 0
+-- What is held after a run: what follows the frames that were written for, or after a failed write
+-- those that were taken.
+abbrev pub RestsBy : {S E : Type 0} → Manner S E → S → S
+    → ℕ → List ℕ → List ℕ → List ℕ → Ending E → Type 0
 RestsBy w s t m bytes written held (stopped_by write_failed) = RestsAfter w s m bytes held
 RestsBy w s t m bytes written held (stopped_by out_of_memory) = RestsWanting w s m bytes held
 RestsBy w s t m bytes written held (refused_by why) = RestsRefused w s t m bytes written held why
 RestsBy w s t m bytes written held ending = RestsAt w s t m bytes written held
 
--- A run over a source with the held bytes in front. The count of bytes that came stays at its last value.
-pub record Resumes {S E : Type 0} (w : Manner S E) (s t : S) (m turns : ℕ) (before after : List ℕ) (came_old came_new : ℕ) (a b : Supply) (k l : Store) (ending : Ending E) : Type 0 where
-  pub run : Streams w s t m turns (ahead before a) b k l ending
+-- A run over a source with the held bytes in front. The count of bytes that came stays at
+-- its last value.
+pub record Resumes {S E : Type 0} (w : Manner S E) (s t : S) (m budget : ℕ) (before after : List ℕ)
+    (came_old came_new : ℕ) (a b : Supply) (k l : Store) (ending : Ending E) : Type 0 where
+  pub run : Streams w s t m budget (ahead before a) b k l ending
   pub piece : List ℕ
   pub parts : run.taken ≡ before ++ piece
   pub takes : Takes a b piece run.reads
   pub counts : Some came_new ≡ counted (length piece) (Some came_old)
-  pub some : ending ≡ stopped_by turns_spent → turns ≤ length piece
+  pub some : ending ≡ stopped_by budget_spent → budget ≤ length piece
   pub rests : RestsBy w s t m run.taken run.written after ending
 
--- Two runs one after another are one run, with both read budgets, where the first has spent its own. So are any number of them.
+-- Two runs one after another are one run, with both read budgets, where the first has spent its
+-- own. So are any number of them.
 abbrev pub RunsAddUp : {S E : Type 0} → Manner S E → Type 0
-RunsAddUp {S = S} {E = E} w = (s t u : S) (m turns more : ℕ) (h0 h1 h2 : List ℕ) (c0 c1 c2 : ℕ) (a b c : Supply) (k l n : Store) (e : Ending E)
-    → Resumes w s t m turns h0 h1 c0 c1 a b k l (stopped_by turns_spent)
+RunsAddUp {S = S} {E = E} w =
+    (s t u : S) (m budget more : ℕ) (h0 h1 h2 : List ℕ)
+    (c0 c1 c2 : ℕ) (a b c : Supply) (k l n : Store) (e : Ending E)
+    → Resumes w s t m budget h0 h1 c0 c1 a b k l (stopped_by budget_spent)
     → Resumes w t u m more h1 h2 c1 c2 b c l n e
-    → Resumes w s u m (turns + more) h0 h2 c0 c2 a c k n e
+    → Resumes w s u m (budget + more) h0 h2 c0 c2 a c k n e

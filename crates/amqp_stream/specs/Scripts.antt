@@ -1,10 +1,14 @@
--- Sources and sinks in memory, and a sink that counts. Some follow a script: which calls fail, and how many bytes each call takes at most.
-use Rattle.std.specs.Prelude.{ℕ, min, max, List, length, nat_lt, if◌then◌else◌, slice_index, Some, None}
+-- Sources and sinks in memory, and a sink that counts. Some follow a script: which calls fail, and
+-- how many bytes each call takes at most.
+use Rattle.std.specs.Prelude.{ℕ, min, max, List, length, nat_lt}
+use Rattle.std.specs.Prelude.{if◌then◌else◌, slice_index, Some, None}
 use Rattle.amqp_stream.specs.Ends.{Supply, Store, Nothing, Number, Bytes}
 
--- at most so many bytes: as the script has it for the call, one at least, and after its end as many as fit
+-- at most so many bytes: as the script has it for the call, one at least, and after its
+-- end as many as fit
 abbrev pub most_of : List ℕ → ℕ → ℕ → ℕ
-most_of pieces call fit = if nat_lt call (length pieces) then min fit (max 1 (slice_index pieces call)) else fit
+most_of pieces call fit =
+    if nat_lt call (length pieces) then min fit (max 1 (slice_index pieces call)) else fit
 
 -- a source that reports the bytes that are left, counts no reads and never fails
 abbrev pub faultless : List ℕ → Supply

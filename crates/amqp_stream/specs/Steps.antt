@@ -4,9 +4,11 @@ use Rattle.amqp_types.specs.Levels.{Level}
 use Rattle.amqp_wire.specs.declared.frame_type.AMQPFrameType.{AMQPFrameType}
 use Rattle.amqp_wire.specs.Frames.{Frame}
 
--- How a writer writes. It reads frames at a level. A step gives the bytes for a frame and the next state, or why the frame is refused.
--- A stream may not end in some states, and `end` says why. Memory may run out at frames of the types in `wants`. After a frame that a
--- compact writer takes, at most as many bytes more are pending as the frame has.
+-- How a writer writes. It reads frames at a level. A step gives the bytes for a frame and the next
+-- state, or why the frame is refused.
+-- A stream may not end in some states, and `end` says why. Memory may run out at frames of the
+-- types in `wants`. After a frame that a compact writer takes, at most as many bytes more are
+-- pending as the frame has.
 pub record Manner (S E : Type 0) : Type 0 where
   pub level : Level
   pub step : S → Frame → Result (List ℕ × S) E

@@ -18,14 +18,16 @@ abbrev pub IsPrefix : List ℕ → List ℕ → Type 0
 IsPrefix piece bytes = (rest : List ℕ) × (piece ++ rest ≡ bytes)
 
 -- all of the bytes were written, or a piece of their front and then the sink failed
-pub record WritesAll (old new : Store) (bytes : List ℕ) (result : Result (Unit {0}) SinkFault) : Type 0 where
+pub record WritesAll (old new : Store) (bytes : List ℕ)
+    (result : Result (Unit {0}) SinkFault) : Type 0 where
   pub piece : List ℕ
   pub gains : Gains old new piece
   pub prefix : IsPrefix piece bytes
   pub ok : OnOk result (piece ≡ bytes)
   pub err : OnErr result (Rises old.faults new.faults)
 
--- Bytes were put after those that were pending; some of them all were written, and the rest is pending.
+-- Bytes were put after those that were pending; some of them all were written, and the
+-- rest is pending.
 pub record Gathered (old new : Store) (before after bytes : List ℕ) : Type 0 where
   pub written : List ℕ
   pub gains : Gains old new written
@@ -81,11 +83,16 @@ pub record IsFaulty (level : Level) (raw : Raw) (bad : Fault) : Type 0 where
 
 -- why the canonical bytes of a frame were not written
 abbrev pub IsUnwritten : Raw → Store → Store → List ℕ → List ℕ → Cause → Type 0
-IsUnwritten raw old new before after (faulty bad) = (whole raw ≡ Err bad) × (bad ≢ not_tidy) × Keeps old new before after
-IsUnwritten raw old new before after write_failed = (frame : Frame) × (whole raw ≡ Ok frame) × GatherFails old new before after (canon frame)
+IsUnwritten raw old new before after (faulty bad) =
+    (whole raw ≡ Err bad) × (bad ≢ not_tidy) × Keeps old new before after
+IsUnwritten raw old new before after write_failed =
+    (frame : Frame) × (whole raw ≡ Ok frame) × GatherFails old new before after (canon frame)
 IsUnwritten raw old new before after cause = ⊥
 
 -- the canonical bytes of a frame were gathered, or it is reported why not
-abbrev pub WritesFrame : Raw → Store → Store → List ℕ → List ℕ → Result (Unit {0}) StreamError → Type 0
-WritesFrame raw old new before after (Ok done) = (frame : Frame) × (whole raw ≡ Ok frame) × Gathered old new before after (canon frame)
-WritesFrame raw old new before after (Err error) = IsUnwritten raw old new before after (cause_of error)
+abbrev pub WritesFrame : Raw → Store → Store → List ℕ
+    → List ℕ → Result (Unit {0}) StreamError → Type 0
+WritesFrame raw old new before after (Ok done) =
+    (frame : Frame) × (whole raw ≡ Ok frame) × Gathered old new before after (canon frame)
+WritesFrame raw old new before after (Err error) =
+    IsUnwritten raw old new before after (cause_of error)

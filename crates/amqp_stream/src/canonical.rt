@@ -1,19 +1,12 @@
 //! Writers of canonical bytes: for whatever can be read, and for tidy frames alone.
 
 ghost use Rattle.std.specs.Prelude.{◌≡◌};
-ghost use Rattle.amqp_types.specs.Levels.{tidy};
-ghost use Rattle.amqp_wire.specs.Frames.{raw_of};
-ghost use Rattle.amqp_stream.specs.Decisions.{DecidesBy};
-ghost use Rattle.amqp_stream.specs.Manners.{canonical_at};
 ghost use Rattle.amqp_stream.specs.Streaming.{as_run};
-ghost use Rattle.amqp_stream.specs.declared.canonical.TidyCanonical.{TidyCanonical};
 
-use crate::decision::{Decision, put_decided};
+use crate::decision::Decision;
 use crate::errors::{RunError, StreamError};
-use crate::frame_writer::FrameWriter;
-use crate::output::{payload_error, write_canonical};
-use crate::output_buffer::OutputBuffer;
-use crate::sink::Sink;
+use crate::frame_decider::FrameDecider;
+use crate::output::payload_error;
 use amqp_wire::{AMQPRawFrame, judge_frame};
 use std::convert::Infallible;
 
@@ -42,7 +35,7 @@ pub fn unrefused(answer: Result<(), RunError<Infallible>>) -> Result<(), StreamE
 #[derive(Drop)]
 pub struct Canonical;
 
-impl FrameWriter for Canonical {
+impl FrameDecider for Canonical {
     ghost use Rattle.amqp_types.specs.Levels.{plain};
     ghost use Rattle.amqp_stream.specs.Manners.{canonical_at};
 
@@ -51,20 +44,11 @@ impl FrameWriter for Canonical {
     ghost manner = { canonical_at plain };
 
     #[inline(always)]
-    fn pass(&mut self, raw: AMQPRawFrame<'_>) -> Result<Option<Decision>, RunError<Infallible>> {
+    fn decide(&mut self, raw: AMQPRawFrame<'_>) -> Result<Decision, RunError<Infallible>> {
         match judge_frame(raw) {
-            Ok(judged) => Ok(Some(Decision::Kept(judged))),
+            Ok(judged) => Ok(Decision::Kept(judged)),
             Err(error) => Err(RunError::Stream(payload_error(error))),
         }
-    }
-
-    fn write_frame<K: Sink>(
-        &mut self,
-        out: &mut OutputBuffer,
-        sink: &mut K,
-        raw: AMQPRawFrame<'_>,
-    ) -> Result<(), RunError<Infallible>> {
-        as_run(write_canonical(out, sink, raw))
     }
 
     fn finish(&self) -> Result<(), Infallible> {
@@ -72,23 +56,11 @@ impl FrameWriter for Canonical {
     }
 }
 
-/// What is decided of a frame where tidy frames alone are taken.
-#[inline(always)]
-fn decide_tidy(raw: AMQPRawFrame<'_>) -> Result<Decision, RunError<Infallible>>
-    ensures { (writer : TidyCanonical) → DecidesBy (canonical_at tidy) writer writer (raw_of raw.entry) result }
-{
-    match judge_frame(raw) {
-        Ok(judged) if judged.tidy => Ok(Decision::Kept(judged)),
-        Ok(_) => Err(RunError::Stream(StreamError::NotTidy)),
-        Err(error) => Err(RunError::Stream(payload_error(error))),
-    }
-}
-
 /// Writes the canonical bytes of each frame, and takes tidy frames alone.
 #[derive(Drop)]
 pub struct TidyCanonical;
 
-impl FrameWriter for TidyCanonical {
+impl FrameDecider for TidyCanonical {
     ghost use Rattle.amqp_types.specs.Levels.{tidy};
     ghost use Rattle.amqp_stream.specs.Manners.{canonical_at};
 
@@ -97,25 +69,11 @@ impl FrameWriter for TidyCanonical {
     ghost manner = { canonical_at tidy };
 
     #[inline(always)]
-    fn pass(&mut self, raw: AMQPRawFrame<'_>) -> Result<Option<Decision>, RunError<Infallible>> {
-        match decide_tidy(raw) {
-            Ok(decision) => Ok(Some(decision)),
-            Err(error) => Err(error),
-        }
-    }
-
-    fn write_frame<K: Sink>(
-        &mut self,
-        out: &mut OutputBuffer,
-        _sink: &mut K,
-        raw: AMQPRawFrame<'_>,
-    ) -> Result<(), RunError<Infallible>> {
-        match decide_tidy(raw) {
-            Ok(decision) => {
-                put_decided(out, raw, decision);
-                Ok(())
-            }
-            Err(error) => Err(error),
+    fn decide(&mut self, raw: AMQPRawFrame<'_>) -> Result<Decision, RunError<Infallible>> {
+        match judge_frame(raw) {
+            Ok(judged) if judged.tidy => Ok(Decision::Kept(judged)),
+            Ok(_) => Err(RunError::Stream(StreamError::NotTidy)),
+            Err(error) => Err(RunError::Stream(payload_error(error))),
         }
     }
 

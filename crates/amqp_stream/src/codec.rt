@@ -5,7 +5,8 @@ ghost use Rattle.amqp_types.specs.Levels.{plain, level_of};
 ghost use Rattle.amqp_stream.specs.Runs.{CanonicalRun, WriterRun, NeverRan};
 ghost use Rattle.amqp_stream.specs.Transcribing.{NeverBegan};
 ghost use Rattle.amqp_stream.specs.Reports.{IsReportBy, IsReportAt, channel_in, unreported};
-ghost use Rattle.amqp_stream.specs.Reports.{WriterReport, NeverRanReport, CanonicalReport, NeverBeganReport};
+ghost use Rattle.amqp_stream.specs.Reports.{WriterReport, NeverRanReport};
+ghost use Rattle.amqp_stream.specs.Reports.{CanonicalReport, NeverBeganReport};
 
 use crate::canonical::{Canonical, TidyCanonical};
 use crate::engine::run_with;
@@ -73,11 +74,13 @@ impl Codec {
         writer: &mut W,
         source: &mut S,
         sink: &mut K,
-        turns: u64,
+        budget: u64,
     ) -> Result<(), RunReport<RunError<W::Refusal>>>
         ensures limit { self.new ≡ self.old }
-        ensures run { WriterRun W.manner writer.old writer.new S.supply K.store self.old turns source.old source.new sink.old sink.new (unreported result) }
-        ensures place { IfErr result (IsReportBy W.manner writer.old self.old (S.supply source.old) (S.supply source.new)) }
+        ensures run { WriterRun W.manner writer.old writer.new S.supply K.store
+            self.old budget source.old source.new sink.old sink.new (unreported result) }
+        ensures place { IfErr result
+            (IsReportBy W.manner writer.old self.old (S.supply source.old) (S.supply source.new)) }
     {
         self.reader.clear();
         let mut came = 0;
@@ -87,7 +90,7 @@ impl Codec {
             writer,
             source,
             sink,
-            turns,
+            budget,
             &mut came,
         );
         reported(&self.reader, came, ended)
@@ -99,12 +102,13 @@ impl Codec {
         writer: &mut W,
         source: &mut S,
         sink: &mut K,
-        turns: u64,
+        budget: u64,
     ) -> Result<(), RunError<W::Refusal>>
         ensures limit { self.new ≡ self.old }
-        ensures run { WriterRun W.manner writer.old writer.new S.supply K.store self.old turns source.old source.new sink.old sink.new result }
+        ensures run { WriterRun W.manner writer.old writer.new S.supply K.store
+            self.old budget source.old source.new sink.old sink.new result }
     {
-        unreported(self.run_reported(writer, source, sink, turns))
+        unreported(self.run_reported(writer, source, sink, budget))
     }
 
     /// Writes the canonical bytes of each frame that is read in a profile, to the end of input or an error, and reports
@@ -115,19 +119,21 @@ impl Codec {
         profile: Profile,
         source: &mut S,
         sink: &mut K,
-        turns: u64,
+        budget: u64,
     ) -> Result<(), RunReport<StreamError>>
         ensures limit { self.new ≡ self.old }
-        ensures run { CanonicalRun (level_of profile) S.supply K.store self.old turns source.old source.new sink.old sink.new (unreported result) }
-        ensures place { IfErr result (IsReportAt (level_of profile) self.old (S.supply source.old) (S.supply source.new)) }
+        ensures run { CanonicalRun (level_of profile) S.supply K.store self.old
+            budget source.old source.new sink.old sink.new (unreported result) }
+        ensures place { IfErr result
+            (IsReportAt (level_of profile) self.old (S.supply source.old) (S.supply source.new)) }
         ensures memory { unreported result ≢ Err StreamError.NoMemory }
     {
         match profile {
             Profile::Plain => {
-                unrefused_report(self.run_reported(&mut Canonical, source, sink, turns))
+                unrefused_report(self.run_reported(&mut Canonical, source, sink, budget))
             }
             Profile::Tidy => {
-                unrefused_report(self.run_reported(&mut TidyCanonical, source, sink, turns))
+                unrefused_report(self.run_reported(&mut TidyCanonical, source, sink, budget))
             }
         }
     }
@@ -138,13 +144,14 @@ impl Codec {
         profile: Profile,
         source: &mut S,
         sink: &mut K,
-        turns: u64,
+        budget: u64,
     ) -> Result<(), StreamError>
         ensures limit { self.new ≡ self.old }
-        ensures run { CanonicalRun (level_of profile) S.supply K.store self.old turns source.old source.new sink.old sink.new result }
+        ensures run { CanonicalRun (level_of profile) S.supply K.store
+            self.old budget source.old source.new sink.old sink.new result }
         ensures memory { result ≢ Err StreamError.NoMemory }
     {
-        unreported(self.rewrite_reported(profile, source, sink, turns))
+        unreported(self.rewrite_reported(profile, source, sink, budget))
     }
 }
 
@@ -155,15 +162,16 @@ pub fn run_stream_reported<W: FrameWriter, S: Source, K: Sink>(
     source: &mut S,
     sink: &mut K,
     max_payload: ChunkSize,
-    turns: u64,
+    budget: u64,
 ) -> Result<(), RunReport<RunError<W::Refusal>>>
-    ensures run { WriterReport W.manner writer.old writer.new S.supply K.store max_payload turns source.old source.new sink.old sink.new result
+    ensures run { WriterReport W.manner writer.old writer.new S.supply K.store
+        max_payload budget source.old source.new sink.old sink.new result
         ⊎ NeverRanReport writer.old writer.new source.old source.new sink.old sink.new result }
 {
     match Codec::open(alloc, max_payload) {
         Ok(codec) => {
             let mut codec = codec;
-            codec.run_reported(writer, source, sink, turns)
+            codec.run_reported(writer, source, sink, budget)
         }
         Err(_) => Err(RunReport::at_start(RunError::Stream(StreamError::NoMemory))),
     }
@@ -176,12 +184,13 @@ pub fn run_stream<W: FrameWriter, S: Source, K: Sink>(
     source: &mut S,
     sink: &mut K,
     max_payload: ChunkSize,
-    turns: u64,
+    budget: u64,
 ) -> Result<(), RunError<W::Refusal>>
-    ensures run { WriterRun W.manner writer.old writer.new S.supply K.store max_payload turns source.old source.new sink.old sink.new result
+    ensures run { WriterRun W.manner writer.old writer.new S.supply K.store
+        max_payload budget source.old source.new sink.old sink.new result
         ⊎ NeverRan writer.old writer.new source.old source.new sink.old sink.new result }
 {
-    unreported(run_stream_reported(alloc, writer, source, sink, max_payload, turns))
+    unreported(run_stream_reported(alloc, writer, source, sink, max_payload, budget))
 }
 
 /// Opens a codec, and canonicalizes with it what can be read, and reports where that ended.
@@ -190,16 +199,17 @@ pub fn canonicalize_reported<S: Source, K: Sink>(
     source: &mut S,
     sink: &mut K,
     max_payload: ChunkSize,
-    turns: u64,
+    budget: u64,
 ) -> Result<(), RunReport<StreamError>>
-    ensures run { CanonicalReport plain S.supply K.store max_payload turns source.old source.new sink.old sink.new result
+    ensures run { CanonicalReport plain S.supply K.store max_payload
+        budget source.old source.new sink.old sink.new result
         ⊎ NeverBeganReport source.old source.new sink.old sink.new StreamError.NoMemory result }
     ensures never_untidy { unreported result ≢ Err StreamError.NotTidy }
 {
     match Codec::open(alloc, max_payload) {
         Ok(codec) => {
             let mut codec = codec;
-            codec.rewrite_reported(Profile::Plain, source, sink, turns)
+            codec.rewrite_reported(Profile::Plain, source, sink, budget)
         }
         Err(_) => Err(RunReport::at_start(StreamError::NoMemory)),
     }
@@ -211,11 +221,12 @@ pub fn canonicalize<S: Source, K: Sink>(
     source: &mut S,
     sink: &mut K,
     max_payload: ChunkSize,
-    turns: u64,
+    budget: u64,
 ) -> Result<(), StreamError>
-    ensures run { CanonicalRun plain S.supply K.store max_payload turns source.old source.new sink.old sink.new result
+    ensures run { CanonicalRun plain S.supply K.store max_payload
+        budget source.old source.new sink.old sink.new result
         ⊎ NeverBegan source.old source.new sink.old sink.new StreamError.NoMemory result }
     ensures never_untidy { result ≢ Err StreamError.NotTidy }
 {
-    unreported(canonicalize_reported(alloc, source, sink, max_payload, turns))
+    unreported(canonicalize_reported(alloc, source, sink, max_payload, budget))
 }

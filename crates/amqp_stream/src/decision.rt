@@ -37,7 +37,8 @@ pub fn put_decided(out: &mut OutputBuffer, raw: AMQPRawFrame<'_>, decision: Deci
     requires room { length out.old.bytes + frame_length (raw_of raw) ≤ out.old.room }
     ensures room { out.new.room ≡ out.old.room }
     ensures puts { PutsDecided (raw_of raw.entry) out.old.bytes out.new.bytes decision }
-    ensures compact { length out.new.bytes ≤ length out.old.bytes + frame_length (raw_of raw.entry) }
+    ensures compact { length out.new.bytes
+        ≤ length out.old.bytes + frame_length (raw_of raw.entry) }
 {
     match decision {
         Decision::Kept(judged) => out.push_judged(raw, judged),

@@ -13,6 +13,7 @@ ghost use Rattle.amqp_stream.specs.Taking.{TakesFrame};
 use crate::decision::{Decision, put_decided, stands};
 use crate::errors::{RunError, StreamError};
 use crate::frame_writer::FrameWriter;
+use crate::kept::take_kept;
 use crate::output::{gather_stretch, stop, stop_after, write_after};
 use crate::output_buffer::OutputBuffer;
 use crate::reader::FrameReader;
@@ -37,10 +38,10 @@ fn end_of_input<W: FrameWriter>(
     }
 }
 
-/// Gathers the stretch, and then what is written for the frame after it, of which this was decided. Nothing has passed
-/// then. It is no part of the loop's code, which is for frames that stand.
+/// Takes the frame after the stretch, of which this was decided. Where it is not kept, the stretch is gathered, and then what
+/// is written for the frame; nothing has passed then. It is no part of the loop's code, which is for frames that stand.
 #[inline(never)]
-fn write_decided<W: FrameWriter, K: Sink>(
+fn take_decided<W: FrameWriter, K: Sink>(
     reader: &mut FrameReader,
     out: &mut OutputBuffer,
     writer: &mut W,
@@ -51,14 +52,24 @@ fn write_decided<W: FrameWriter, K: Sink>(
 ) -> Result<Stretch, RunError<W::Refusal>>
     requires within { stretch.len ≤ length reader.old.held }
     requires lies { Lies reader.old.limit (drop stretch.len reader.old.held) layout }
-    requires room { IsTrue W.manner.compact → length out.old.bytes + stretch.len + frame_length (laid_out layout (drop stretch.len reader.old.held)) ≤ out.old.room }
-    requires decided { (s : W) × PassesBy W.manner s writer.old (laid_out layout (drop stretch.len reader.old.held)) (Ok decision) }
+    requires room { IsTrue W.manner.compact
+        → length out.old.bytes + stretch.len
+        + frame_length (laid_out layout (drop stretch.len reader.old.held))
+        ≤ out.old.room }
+    requires decided { (s : W)
+        × PassesBy W.manner s writer.old
+        (laid_out layout (drop stretch.len reader.old.held)) (Ok decision) }
     ensures limit { reader.new.limit ≡ reader.old.limit }
     ensures room { out.new.room ≡ out.old.room }
-    ensures takes { (s : W) → PassesBy W.manner s writer.old (laid_out layout (drop stretch.len reader.old.held)) (Ok decision)
+    ensures takes { (s : W)
+        → PassesBy W.manner s writer.old
+        (laid_out layout (drop stretch.len reader.old.held)) (Ok decision)
         → TakesFrame W.manner s writer.new layout (K.store sink.old) (K.store sink.new)
         reader.old.held reader.new.held out.old.bytes out.new.bytes stretch result }
 {
+    if let Some(Decision::Kept(judged)) = decision {
+        return Ok(take_kept(reader, out, stretch, layout, judged));
+    }
     match gather_stretch(out, sink, reader.front(stretch.len), stretch.has_large()) {
         Err(_) => {
             reader.skip(stretch.len);
@@ -115,10 +126,14 @@ fn take_frame<W: FrameWriter, K: Sink>(
     requires within { stretch.len ≤ length reader.old.held }
     requires bytes { IsBytes reader.old.held }
     requires lies { Lies reader.old.limit (drop stretch.len reader.old.held) layout }
-    requires room { IsTrue W.manner.compact → length out.old.bytes + stretch.len + frame_length (laid_out layout (drop stretch.len reader.old.held)) ≤ out.old.room }
+    requires room { IsTrue W.manner.compact
+        → length out.old.bytes + stretch.len
+        + frame_length (laid_out layout (drop stretch.len reader.old.held))
+        ≤ out.old.room }
     ensures limit { reader.new.limit ≡ reader.old.limit }
     ensures room { out.new.room ≡ out.old.room }
-    ensures takes { TakesFrame W.manner writer.old writer.new layout (K.store sink.old) (K.store sink.new)
+    ensures takes { TakesFrame W.manner writer.old writer.new layout
+        (K.store sink.old) (K.store sink.new)
         reader.old.held reader.new.held out.old.bytes out.new.bytes stretch result }
 {
     let passed = writer.pass(reader.frame_after(stretch.len, layout));
@@ -139,15 +154,7 @@ fn take_frame<W: FrameWriter, K: Sink>(
             reader.skip(stretch.len);
             Err(error)
         }
-        Ok(Some(Decision::Kept(judged))) => {
-            let decision = Some(Decision::Kept(judged));
-            write_decided(reader, out, writer, sink, stretch, layout, decision)
-        }
-        Ok(Some(Decision::Dropped)) => {
-            let decision = Some(Decision::Dropped);
-            write_decided(reader, out, writer, sink, stretch, layout, decision)
-        }
-        Ok(None) => write_decided(reader, out, writer, sink, stretch, layout, None),
+        Ok(decision) => take_decided(reader, out, writer, sink, stretch, layout, decision),
     }
 }
 
@@ -161,22 +168,25 @@ pub(crate) fn run_with<W: FrameWriter, S: Source, K: Sink>(
     writer: &mut W,
     source: &mut S,
     sink: &mut K,
-    turns: u64,
+    budget: u64,
     came: &mut u64,
 ) -> Result<(), RunError<W::Refusal>>
     requires room { reader.old.limit + 8 ≤ out.old.room }
     ensures limit { reader.new.limit ≡ reader.old.limit }
     ensures room { out.new.room ≡ out.old.room }
-    ensures stream { Resumes W.manner writer.old writer.new reader.old.limit turns reader.old.held reader.new.held came.old came.new
-        (S.supply source.old) (S.supply source.new) (K.store sink.old) (K.store sink.new) (ending_of result) }
-    ensures unread { turns ≡ 0 → source.new ≡ source.old }
-    ensures spent { reader.old.held ≡ [] → turns ≡ 0 → result ≡ Err (RunError.Stream StreamError.TurnsSpent) }
-    ensures unwritten { reader.old.held ≡ [] → turns ≡ 0 → sink.new ≡ sink.old }
+    ensures stream { Resumes W.manner writer.old writer.new reader.old.limit
+        budget reader.old.held reader.new.held came.old came.new
+        (S.supply source.old) (S.supply source.new)
+        (K.store sink.old) (K.store sink.new) (ending_of result) }
+    ensures unread { budget ≡ 0 → source.new ≡ source.old }
+    ensures spent { reader.old.held ≡ [] → budget ≡ 0
+        → result ≡ Err (RunError.Stream StreamError.TurnsSpent) }
+    ensures unwritten { reader.old.held ≡ [] → budget ≡ 0 → sink.new ≡ sink.old }
 {
     // For the proof alone, from the contract: what is held are bytes, and no more than the largest frame has.
     reader.held();
     out.clear();
-    let mut left = turns;
+    let mut left = budget;
     let mut stretch = Stretch::empty();
     'frames: loop {
         match reader.buffered_after(stretch.len) {

@@ -1,5 +1,6 @@
 //! Why a stream was not read, or not canonicalized.
 
+use std::convert::Infallible;
 use std::error::Error;
 use std::fmt;
 
@@ -203,6 +204,25 @@ impl From<ReadError> for StreamError {
     }
 }
 
+/// An error that a program may end with: why a writer refuses is one.
+pub trait ProgramError: Error {
+    ghost use Rattle.std.specs.Prelude.{◌≡◌, ℕ, List};
+
+    /// The error's name.
+    ghost name_of: { Self → List ℕ };
+
+    /// The exit status of a program that ends with it.
+    ghost status_of: { Self → ℕ };
+
+    /// The error's name.
+    fn name(&self) -> &'static str
+        ensures { result.now ≡ name_of self.now };
+
+    /// The exit status of a program that ends with it.
+    fn status(&self) -> u8
+        ensures { result ≡ status_of self.now };
+}
+
 /// Why a run did not come to the end of its stream.
 #[derive(Debug, Drop)]
 pub enum RunError<R> {
@@ -212,3 +232,58 @@ pub enum RunError<R> {
     /// The writer refused a frame, or the end of input.
     Refused(R),
 }
+
+impl<R: ProgramError> RunError<R> {
+    ghost use Rattle.std.specs.Prelude.{◌≡◌};
+    ghost use Rattle.amqp_stream.specs.Errors.{run_error_name, run_error_status};
+
+    /// The name of the stream's error, or of the refusal.
+    pub fn name(&self) -> &'static str
+        ensures { result.now ≡ run_error_name R.name_of self.now }
+    {
+        match self {
+            RunError::Stream(error) => error.name(),
+            RunError::Refused(why) => why.name(),
+        }
+    }
+
+    /// The exit status of a program that ends with it.
+    pub fn status(&self) -> u8
+        ensures { result ≡ run_error_status R.status_of self.now }
+    {
+        match self {
+            RunError::Stream(error) => error.status(),
+            RunError::Refused(why) => why.status(),
+        }
+    }
+}
+
+impl<R: ProgramError> fmt::Display for RunError<R> {
+    ghost use Rattle.std.specs.Prelude.{Some};
+    ghost use Rattle.amqp_stream.specs.Errors.{run_error_name};
+
+    ghost output = { λ error. Some (run_error_name R.name_of error) };
+
+    fn fmt<W: fmt::Write>(&self, f: &mut fmt::Formatter<W>) -> fmt::Result {
+        f.write_str(self.name())
+    }
+}
+
+impl<R: ProgramError> Error for RunError<R> {}
+
+/// Of a writer that refuses nothing.
+impl fmt::Display for RunError<Infallible> {
+    ghost use Rattle.std.specs.Prelude.{Some, []};
+    ghost use Rattle.amqp_stream.specs.Errors.{run_error_name};
+
+    ghost output = { λ error. Some (run_error_name (λ never. []) error) };
+
+    fn fmt<W: fmt::Write>(&self, f: &mut fmt::Formatter<W>) -> fmt::Result {
+        match self {
+            RunError::Stream(error) => f.write_str(error.name()),
+            RunError::Refused(never) => match *never {},
+        }
+    }
+}
+
+impl Error for RunError<Infallible> {}

@@ -1,9 +1,11 @@
 //! Going on from call to call: each reads once at most, and writes for all whole frames that are then there.
 
-ghost use Rattle.std.specs.Prelude.{◌≡◌, ◌≢◌, ◌+◌, ◌-◌, ◌≤◌, [], Some, None, Ok, Err, IfOk, IfSome, length};
+ghost use Rattle.std.specs.Prelude.{◌≡◌, ◌≢◌, ◌+◌, ◌-◌, ◌≤◌, [], Some, None};
+ghost use Rattle.std.specs.Prelude.{Ok, Err, IfOk, IfSome, length};
 ghost use Rattle.amqp_types.specs.Levels.{plain};
 ghost use Rattle.amqp_stream.specs.Streaming.{ending_of};
-ghost use Rattle.amqp_stream.specs.Forwarding.{ForwardsBy, Forwards, Lasts, as_forward, forward_ending, lasting};
+ghost use Rattle.amqp_stream.specs.Forwarding.{ForwardsBy, Forwards, Lasts};
+ghost use Rattle.amqp_stream.specs.Forwarding.{as_forward, forward_ending, lasting};
 ghost use Rattle.amqp_stream.specs.declared.errors.StreamError.{StreamError};
 
 use crate::canonical::Canonical;
@@ -67,7 +69,8 @@ impl Model for Forwarder {
 
     ghost Value = { Forwarding };
 
-    ghost view = { λ f. record { limit = f.reader.limit; held = f.reader.held; came = f.came; fault = f.fault } };
+    ghost view = { λ f.
+        record { limit = f.reader.limit; held = f.reader.held; came = f.came; fault = f.fault } };
 
     ghost invariant = { λ f. (f.reader.limit + 8 ≤ f.out.room) × IfSome f.fault Lasts };
 }
@@ -75,7 +78,8 @@ impl Model for Forwarder {
 impl Forwarder {
     /// A forwarder that holds nothing, for payloads of at most so many bytes. No later call takes memory.
     pub fn open(alloc: Global, max_payload: ChunkSize) -> Result<Forwarder, NoMemory>
-        ensures { IfOk result (λ f. f ≡ record { limit = max_payload; held = []; came = 0; fault = None }) }
+        ensures { IfOk result
+            (λ f. f ≡ record { limit = max_payload; held = []; came = 0; fault = None }) }
     {
         let reader = FrameReader::open(alloc, max_payload)?;
         let out = OutputBuffer::open(alloc, max_payload as usize + 8)?;
@@ -136,16 +140,22 @@ impl Forwarder {
         source: &mut S,
         sink: &mut K,
     ) -> Result<Forwarded, RunError<W::Refusal>>
-        ensures forwards { self.old.fault ≡ None → ForwardsBy W.manner writer.old writer.new self.old self.new
-            (S.supply source.old) (S.supply source.new) (K.store sink.old) (K.store sink.new) result }
+        ensures forwards { self.old.fault ≡ None
+            → ForwardsBy W.manner writer.old writer.new self.old self.new
+            (S.supply source.old) (S.supply source.new)
+            (K.store sink.old) (K.store sink.new) result }
         ensures never_spent { result ≢ Err (RunError.Stream StreamError.TurnsSpent) }
 
         // A lasting fault is returned again, and nothing is read or written.
-        ensures again { (error : StreamError) → self.old.fault ≡ Some error → result ≡ Err (RunError.Stream error) }
+        ensures again { (error : StreamError) → self.old.fault ≡ Some error
+            → result ≡ Err (RunError.Stream error) }
         ensures same { (error : StreamError) → self.old.fault ≡ Some error → self.new ≡ self.old }
-        ensures unstepped { (error : StreamError) → self.old.fault ≡ Some error → writer.new ≡ writer.old }
-        ensures unread { (error : StreamError) → self.old.fault ≡ Some error → source.new ≡ source.old }
-        ensures unwritten { (error : StreamError) → self.old.fault ≡ Some error → sink.new ≡ sink.old }
+        ensures unstepped { (error : StreamError)
+            → self.old.fault ≡ Some error → writer.new ≡ writer.old }
+        ensures unread { (error : StreamError)
+            → self.old.fault ≡ Some error → source.new ≡ source.old }
+        ensures unwritten { (error : StreamError)
+            → self.old.fault ≡ Some error → sink.new ≡ sink.old }
     {
         if let Some(error) = self.fault {
             return Err(RunError::Stream(error));
@@ -169,14 +179,17 @@ impl Forwarder {
         sink: &mut K,
     ) -> Result<Forwarded, StreamError>
         ensures forwards { self.old.fault ≡ None → Forwards plain self.old self.new
-            (S.supply source.old) (S.supply source.new) (K.store sink.old) (K.store sink.new) result }
+            (S.supply source.old) (S.supply source.new)
+            (K.store sink.old) (K.store sink.new) result }
         ensures never_spent { result ≢ Err StreamError.TurnsSpent }
 
         // A lasting fault is returned again, and nothing is read or written.
         ensures again { (error : StreamError) → self.old.fault ≡ Some error → result ≡ Err error }
         ensures same { (error : StreamError) → self.old.fault ≡ Some error → self.new ≡ self.old }
-        ensures unread { (error : StreamError) → self.old.fault ≡ Some error → source.new ≡ source.old }
-        ensures unwritten { (error : StreamError) → self.old.fault ≡ Some error → sink.new ≡ sink.old }
+        ensures unread { (error : StreamError)
+            → self.old.fault ≡ Some error → source.new ≡ source.old }
+        ensures unwritten { (error : StreamError)
+            → self.old.fault ≡ Some error → sink.new ≡ sink.old }
     {
         unrefused(self.forward_with(&mut Canonical, source, sink))
     }

@@ -12,7 +12,9 @@ mod equality;
 mod errors;
 mod forwarder;
 mod forwarder_laws;
+mod frame_decider;
 mod frame_writer;
+mod kept;
 mod made_laws;
 mod make_source;
 mod output;
@@ -33,9 +35,10 @@ pub use decision::{Decision, put_decided};
 pub use equality::{
     equal_read_errors, equal_sink_faults, equal_source_faults, equal_stream_errors,
 };
-pub use errors::{ReadError, RunError, StreamError};
+pub use errors::{ProgramError, ReadError, RunError, StreamError};
 pub use forwarder::{Forwarded, Forwarder};
 pub use forwarder_laws::{pieces_are_whole, runs_add_up};
+pub use frame_decider::FrameDecider;
 pub use frame_writer::FrameWriter;
 pub use made_laws::made_is_a_sequence;
 pub use make_source::MakeSource;

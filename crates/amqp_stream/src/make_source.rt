@@ -1,6 +1,7 @@
 //! The stream that is generated.
 
-ghost use Rattle.std.specs.Prelude.{◌≡◌, ◌+◌, ◌^◌, ◌<◌, ◌≤◌, [], length, min, IfOk, IsOk, IsTrue, false};
+ghost use Rattle.std.specs.Prelude.{◌≡◌, ◌+◌, ◌^◌, ◌<◌, ◌≤◌, [], length};
+ghost use Rattle.std.specs.Prelude.{min, IfOk, IsOk, IsTrue, false};
 ghost use Rattle.amqp_types.specs.Writing.{Puts};
 ghost use Rattle.amqp_stream.specs.Ends.{Takes, piece_of};
 ghost use Rattle.amqp_stream.specs.Made.{made, made_frame, most_frames};
@@ -44,7 +45,8 @@ fn put_made(buf: &mut [u8], number: u32) -> usize
 fn refill(frame: &mut [u8; LONGEST], span: &mut Span, next: &mut u32, frames: u32) -> bool
     requires { IsMaking frame.old span.old next.old frames }
     ensures making { IsMaking frame.new span.new next.new frames }
-    ensures same { left_in frame.new span.new next.new frames ≡ left_in frame.old span.old next.old frames }
+    ensures same { left_in frame.new span.new next.new frames
+        ≡ left_in frame.old span.old next.old frames }
     ensures some { IsTrue result → span.new.start < span.new.end }
     ensures none { result ≡ false → left_in frame.new span.new next.new frames ≡ [] }
 {
@@ -101,7 +103,8 @@ impl Source for MakeSource {
     fn read(&mut self, buf: &mut [u8]) -> Result<usize, SourceFault>
         requires { 0 < length buf.old }
         ensures bound { IfOk result (λ n. n ≤ length buf.old) }
-        ensures takes { Takes (faultless self.old) (faultless self.new) (piece_of result buf.new) 1 }
+        ensures takes { Takes (faultless self.old)
+            (faultless self.new) (piece_of result buf.new) 1 }
         ensures end { IfOk result (λ n. n ≡ 0 → self.new ≡ []) }
 
         // No read fails, and each gives as much as fits.

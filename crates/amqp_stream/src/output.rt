@@ -4,7 +4,8 @@ ghost use Rattle.std.specs.Prelude.{◌≡◌, ◌+◌, ◌++◌, ◌^◌, ◌<�
 ghost use Rattle.amqp_wire.specs.Frames.{raw_of, IsTyped, frame_length};
 ghost use Rattle.amqp_wire.specs.Spelling.{framed};
 ghost use Rattle.amqp_wire.specs.Verdicts.{IsPayloadError, whole};
-ghost use Rattle.amqp_stream.specs.Writing.{WritesAll, WritesFrame, Gathers, stream_result, payload_fault};
+ghost use Rattle.amqp_stream.specs.Writing.{WritesAll, WritesFrame, Gathers};
+ghost use Rattle.amqp_stream.specs.Writing.{stream_result, payload_fault};
 ghost use Rattle.amqp_stream.specs.Buffers.{Adds};
 ghost use Rattle.amqp_stream.specs.Ends.{Store};
 ghost use Rattle.amqp_stream.specs.Streaming.{EndsWith};
@@ -54,7 +55,8 @@ pub fn flush<K: Sink>(out: &mut OutputBuffer, sink: &mut K) -> Result<(), SinkFa
 #[tactic(auto, using(crate::proofs::Writes::pushed, crate::proofs::Writes::written_after, crate::proofs::Writes::flush_failed))]
 pub fn gather<K: Sink>(out: &mut OutputBuffer, sink: &mut K, bytes: &[u8]) -> Result<(), SinkFault>
     ensures room { out.new.room ≡ out.old.room }
-    ensures gathers { Gathers (K.store sink.old) (K.store sink.new) out.old.bytes out.new.bytes bytes.now result }
+    ensures gathers { Gathers (K.store sink.old)
+        (K.store sink.new) out.old.bytes out.new.bytes bytes.now result }
 {
     if bytes.len() <= out.room() {
         out.push(bytes);
@@ -74,9 +76,11 @@ pub(crate) fn write_after<K: Sink>(
     bytes: &[u8],
     worth: bool,
 ) -> Result<(), SinkFault>
-    ensures written { WritesAll (K.store sink.old) (K.store sink.new) (out.old.bytes ++ bytes.now) result }
+    ensures written { WritesAll (K.store sink.old)
+        (K.store sink.new) (out.old.bytes ++ bytes.now) result }
     ensures empty { out.new ≡ record { room = out.old.room; bytes = [] } }
-    ensures nothing { out.old.bytes ≡ [] → bytes.now ≡ [] → (result ≡ Ok tt) × (sink.new ≡ sink.old) }
+    ensures nothing { out.old.bytes ≡ [] → bytes.now ≡ []
+        → (result ≡ Ok tt) × (sink.new ≡ sink.old) }
 {
     if bytes.is_empty() {
         return flush(out, sink);
@@ -101,7 +105,8 @@ pub(crate) fn gather_stretch<K: Sink>(
     worth: bool,
 ) -> Result<(), SinkFault>
     ensures room { out.new.room ≡ out.old.room }
-    ensures gathers { Gathers (K.store sink.old) (K.store sink.new) out.old.bytes out.new.bytes bytes.now result }
+    ensures gathers { Gathers (K.store sink.old)
+        (K.store sink.new) out.old.bytes out.new.bytes bytes.now result }
 {
     if bytes.is_empty() {
         return Ok(());
@@ -134,7 +139,8 @@ fn write_body<K: Sink>(
     requires few { length payload.now < 2 ^ 32 }
     requires room { length out.old.bytes + (length payload.now + 8) ≤ out.old.room }
     ensures room { out.new.room ≡ out.old.room }
-    ensures gathers { Gathers (K.store sink.old) (K.store sink.new) out.old.bytes out.new.bytes (framed body_byte channel_id payload.now) result }
+    ensures gathers { Gathers (K.store sink.old) (K.store sink.new) out.old.bytes out.new.bytes
+        (framed body_byte channel_id payload.now) result }
     ensures compact { length out.new.bytes ≤ length out.old.bytes + (length payload.now + 8) }
 {
     out.push(&frame_head(FRAME_BODY, channel_id, payload.len() as u32));
@@ -184,7 +190,8 @@ pub(crate) fn stop_after<K: Sink, R: Drop>(
     error: RunError<R>,
 ) -> RunError<R>
     ensures room { out.new.room ≡ out.old.room }
-    ensures ends { EndsWith (K.store sink.old) (K.store sink.new) (out.old.bytes ++ bytes.now) error (Err result) }
+    ensures ends { EndsWith (K.store sink.old) (K.store sink.new)
+        (out.old.bytes ++ bytes.now) error (Err result) }
 {
     match write_after(out, sink, bytes, worth) {
         Ok(()) => error,
@@ -221,8 +228,10 @@ fn write_typed(out: &mut OutputBuffer, raw: AMQPRawFrame<'_>) -> Result<(), Stre
     requires few { length raw.payload.now < 2 ^ 32 }
     requires room { length out.old.bytes + (length raw.payload.now + 8) ≤ out.old.room }
     ensures room { out.new.room ≡ out.old.room }
-    ensures writes { (store : Store) → WritesFrame (raw_of raw.entry) store store out.old.bytes out.new.bytes result }
-    ensures compact { length out.new.bytes ≤ length out.old.bytes + (length raw.entry.payload.now + 8) }
+    ensures writes { (store : Store)
+        → WritesFrame (raw_of raw.entry) store store out.old.bytes out.new.bytes result }
+    ensures compact { length out.new.bytes
+        ≤ length out.old.bytes + (length raw.entry.payload.now + 8) }
 {
     match out.push_raw(raw) {
         Err(error) => Err(payload_error(error)),
@@ -241,10 +250,12 @@ pub fn write_canonical<K: Sink>(
     requires few { length raw.payload.now < 2 ^ 32 }
     requires room { length out.old.bytes + frame_length (raw_of raw) ≤ out.old.room }
     ensures room { out.new.room ≡ out.old.room }
-    ensures writes { WritesFrame (raw_of raw.entry) (K.store sink.old) (K.store sink.new) out.old.bytes out.new.bytes result }
+    ensures writes { WritesFrame (raw_of raw.entry) (K.store sink.old)
+        (K.store sink.new) out.old.bytes out.new.bytes result }
 
     // No more bytes are pending than the frame had.
-    ensures compact { length out.new.bytes ≤ length out.old.bytes + frame_length (raw_of raw.entry) }
+    ensures compact { length out.new.bytes
+        ≤ length out.old.bytes + frame_length (raw_of raw.entry) }
 {
     match raw.frame_type {
         AMQPFrameType::ProtocolHeader => match ProtocolVersion::from_payload(raw.payload) {

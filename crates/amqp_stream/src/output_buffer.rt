@@ -1,6 +1,7 @@
 //! A buffer in which bytes are pending, to be written together.
 
-ghost use Rattle.std.specs.Prelude.{◌≡◌, ◌≢◌, ◌+◌, ◌++◌, ◌^◌, ◌<◌, ◌≤◌, ℕ, [], length, take, vec_len, vec_capacity, Ok, Err, IfOk, IfErr};
+ghost use Rattle.std.specs.Prelude.{◌≡◌, ◌≢◌, ◌+◌, ◌++◌, ◌^◌, ◌<◌, ◌≤◌, ℕ, [], length, take, drop};
+ghost use Rattle.std.specs.Prelude.{vec_len, vec_capacity, Ok, Err, IfOk, IfErr};
 ghost use Rattle.amqp_wire.specs.Frames.{raw_of, frame_length};
 ghost use Rattle.amqp_wire.specs.Verdicts.{IsPayloadError, whole};
 ghost use Rattle.amqp_wire.specs.Judgements.{IsJudged};
@@ -57,12 +58,26 @@ fn put_judged_after(
     put_judged(buf, len, scratch, frame_type, channel_id, payload, judged)
 }
 
+/// Puts bytes into the first `len` of a buffer, before those from `at` on, and returns the place after them all.
+fn put_before(buf: &mut [u8], at: usize, len: usize, bytes: &[u8]) -> usize
+    requires place { at ≤ len }
+    requires room { len + length bytes.now ≤ length buf.old }
+    ensures front { take result buf.new
+        ≡ take at (take len buf.old) ++ (bytes.now ++ drop at (take len buf.old)) }
+    ensures place { result ≡ len + length bytes.now }
+{
+    buf.copy_within(at..len, at + bytes.len());
+    put_bytes(buf, at, bytes);
+    len + bytes.len()
+}
+
 /// Makes a buffer at least so long, within what is reserved, so that this takes no memory. What is never pending is never
 /// touched.
 #[inline(always)]
 fn lengthen(buf: &mut Vec<u8>, end: usize)
     requires reserved { end ≤ vec_capacity buf.old }
-    ensures front { (len : ℕ) → len ≤ vec_len buf.old → take len buf.new.items ≡ take len buf.old.items }
+    ensures front { (len : ℕ) → len ≤ vec_len buf.old
+        → take len buf.new.items ≡ take len buf.old.items }
     ensures long { end ≤ vec_len buf.new }
     ensures within { (room : ℕ) → vec_len buf.old ≤ room → end ≤ room → vec_len buf.new ≤ room }
     ensures reserved { vec_capacity buf.old ≤ vec_capacity buf.new }
@@ -105,7 +120,8 @@ impl Model for OutputBuffer {
 
     ghost view = { λ out. record { room = out.room; bytes = take out.len out.buf.items } };
 
-    ghost invariant = { λ out. (out.len ≤ vec_len out.buf) × (vec_len out.buf ≤ out.room) × (out.room ≤ vec_capacity out.buf) };
+    ghost invariant = { λ out. (out.len ≤ vec_len out.buf)
+        × (vec_len out.buf ≤ out.room) × (out.room ≤ vec_capacity out.buf) };
 }
 
 impl OutputBuffer {
@@ -164,6 +180,18 @@ impl OutputBuffer {
         self.len = put_after(&mut self.buf, self.len, bytes);
     }
 
+    /// Puts bytes before the pending ones from a place on.
+    pub(crate) fn insert(&mut self, at: usize, bytes: &[u8])
+        requires place { at ≤ length self.old.bytes }
+        requires enough { length self.old.bytes + length bytes.now ≤ self.old.room }
+        ensures room { self.new.room ≡ self.old.room }
+        ensures inserted { self.new.bytes
+            ≡ take at self.old.bytes ++ (bytes.now ++ drop at self.old.bytes) }
+    {
+        lengthen(&mut self.buf, self.len + bytes.len());
+        self.len = put_before(&mut self.buf, at, self.len, bytes);
+    }
+
     /// Puts the canonical bytes of a borrowed frame after the pending ones.
     #[inline(always)]
     pub fn push_raw(&mut self, raw: AMQPRawFrame<'_>) -> Result<(), ParserError>
@@ -171,7 +199,8 @@ impl OutputBuffer {
         requires enough { length self.old.bytes + (length raw.payload.now + 8) ≤ self.old.room }
         ensures room { self.new.room ≡ self.old.room }
         ensures adds { Adds self.old.bytes self.new.bytes (whole (raw_of raw.entry)) result }
-        ensures compact { length self.new.bytes ≤ length self.old.bytes + (length raw.entry.payload.now + 8) }
+        ensures compact { length self.new.bytes
+            ≤ length self.old.bytes + (length raw.entry.payload.now + 8) }
         ensures inside { IfErr result IsPayloadError }
         ensures memory { result ≢ Err ParserError.NoMemory }
     {
@@ -188,7 +217,8 @@ impl OutputBuffer {
         requires enough { length self.old.bytes + frame_length (raw_of raw) ≤ self.old.room }
         ensures room { self.new.room ≡ self.old.room }
         ensures adds { Adds self.old.bytes self.new.bytes (whole (raw_of raw.entry)) (Ok tt) }
-        ensures compact { length self.new.bytes ≤ length self.old.bytes + frame_length (raw_of raw.entry) }
+        ensures compact { length self.new.bytes
+            ≤ length self.old.bytes + frame_length (raw_of raw.entry) }
     {
         if !judged.canonical {
             widen(&mut self.scratch, raw.payload.len());

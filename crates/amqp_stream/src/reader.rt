@@ -8,6 +8,7 @@ use crate::errors::ReadError;
 use crate::source::{Source, SourceFault};
 use amqp_types::{
     ChannelId, ChunkSize, FRAME_BODY, FRAME_HEADER, FRAME_HEARTBEAT, FRAME_METHOD, NoMemory,
+    put_bytes,
 };
 use amqp_wire::{AMQPRawFrame, FrameLayout, Look, look_at};
 use std::alloc::Global;
@@ -51,21 +52,26 @@ impl Model for FrameReader {
 
     ghost Value = { Holding };
 
-    ghost view = { λ reader. record { limit = reader.max_payload; held = held_in reader.buf.items reader.span } };
+    ghost view = { λ reader.
+        record { limit = reader.max_payload; held = held_in reader.buf.items reader.span } };
 
-    ghost invariant = { λ reader. IsSpan reader.span (vec_len reader.buf) × (vec_len reader.buf ≡ reader.max_payload + 8) × (reader.max_payload < 2 ^ 32) };
+    ghost invariant = { λ reader. IsSpan reader.span (vec_len reader.buf)
+        × (vec_len reader.buf ≡ reader.max_payload + 8) × (reader.max_payload < 2 ^ 32) };
 }
 
 impl FrameReader {
-    ghost use Rattle.std.specs.Prelude.{◌≡◌, ◌≢◌, ◌+◌, ◌^◌, ◌<◌, ◌≤◌, ◌↔◌, [], Some, IsTrue, IfOk, IfSome, length, take, drop};
+    ghost use Rattle.std.specs.Prelude.{◌≡◌, ◌≢◌, ◌+◌, ◌^◌, ◌<◌, ◌≤◌, ◌↔◌, [], Some, IsTrue};
+    ghost use Rattle.std.specs.Prelude.{IfOk, IfSome, length, take, drop};
     ghost use Rattle.std.specs.Borrow.{sem};
     ghost use Rattle.std.specs.Io.BufRead.{Rests};
     ghost use Rattle.amqp_types.specs.Judging.{past, IsBytes};
+    ghost use Rattle.amqp_types.specs.Writing.{written};
     ghost use Rattle.amqp_wire.specs.Frames.{raw_of};
     ghost use Rattle.amqp_wire.specs.Outer.{outer};
     ghost use Rattle.amqp_wire.specs.Looks.{laid_out};
     ghost use Rattle.amqp_stream.specs.contracts.reader.FrameReader.{the_row};
-    ghost use Rattle.amqp_stream.specs.Reading.{ReadsMore, PullsTo, Lies, LiesIn, Finds, HasNext, Returns};
+    ghost use Rattle.amqp_stream.specs.Reading.{ReadsMore, PullsTo, Lies};
+    ghost use Rattle.amqp_stream.specs.Reading.{LiesIn, Finds, HasNext, Returns};
     ghost use Rattle.amqp_stream.specs.Reports.{channel_in};
 
     /// A reader that holds nothing, for payloads of at most so many bytes.
@@ -195,12 +201,22 @@ impl FrameReader {
         self.span.start += count;
     }
 
+    /// Puts bytes in the place of held ones, after the first `passed`.
+    pub(crate) fn replace(&mut self, passed: usize, bytes: &[u8])
+        requires { passed + length bytes.now ≤ length self.old.held }
+        ensures limit { self.new.limit ≡ self.old.limit }
+        ensures held { self.new.held ≡ written self.old.held passed bytes.now }
+    {
+        put_bytes(&mut self.buf, self.span.start + passed, bytes);
+    }
+
     /// Reads once, after the held bytes, and returns how many bytes came. None is the end of input.
     pub fn fill<S: Source>(&mut self, source: &mut S) -> Result<usize, SourceFault>
         requires { outer (Some self.old.limit) self.old.held ≡ past }
         ensures limit { self.new.limit ≡ self.old.limit }
         ensures room { length self.new.held ≤ self.old.limit + 8 }
-        ensures reads { ReadsMore (S.supply source.old) (S.supply source.new) self.old.held self.new.held result }
+        ensures reads { ReadsMore (S.supply source.old)
+            (S.supply source.new) self.old.held self.new.held result }
     {
         let mut span = self.span;
         let count = read_more(source, &mut self.buf, &mut span);
@@ -213,12 +229,13 @@ impl FrameReader {
     fn pull<S: Source>(
         &mut self,
         source: &mut S,
-        turns: &mut u64,
+        budget: &mut u64,
     ) -> Result<Option<FrameLayout>, ReadError>
         ensures limit { self.new.limit ≡ self.old.limit }
-        ensures pulls { PullsTo (LiesIn self.old.limit) self.old.limit (S.supply source.old) (S.supply source.new)
-            turns.old turns.new self.old.held self.new.held result }
-        ensures unread { turns.new ≡ turns.old → source.new ≡ source.old }
+        ensures pulls { PullsTo (LiesIn self.old.limit) self.old.limit
+            (S.supply source.old) (S.supply source.new)
+            budget.old budget.new self.old.held self.new.held result }
+        ensures unread { budget.new ≡ budget.old → source.new ≡ source.old }
     {
         'reads: loop {
             match self.buffered() {
@@ -226,10 +243,10 @@ impl FrameReader {
                 Ok(Some(layout)) => return Ok(Some(layout)),
                 Ok(None) => {}
             }
-            if *turns == 0 {
+            if *budget == 0 {
                 return Err(ReadError::TurnsSpent);
             }
-            *turns -= 1;
+            *budget -= 1;
             match self.fill(source) {
                 Err(SourceFault) => return Err(ReadError::ReadFault),
                 Ok(0) if self.is_empty() => return Ok(None),
@@ -244,18 +261,21 @@ impl FrameReader {
     pub fn next<S: Source>(
         &mut self,
         source: &mut S,
-        turns: &mut u64,
+        budget: &mut u64,
     ) -> Result<Option<AMQPRawFrame<'_>>, ReadError>
         ensures few { IfOk result (λ found. IfSome found (λ raw. length raw.payload.now < 2 ^ 32)) }
-        ensures returns { Returns (S.supply source.old) (S.supply source.new) turns.old turns.new self.old result }
+        ensures returns { Returns (S.supply source.old)
+            (S.supply source.new) budget.old budget.new self.old result }
 
         // A frame or a fault that is held is returned without a read.
-        ensures decided { outer (Some self.old.limit) self.old.held ≢ past → source.new ≡ source.old }
-        ensures unread { turns.old ≡ 0 → source.new ≡ source.old }
+        ensures decided { outer (Some self.old.limit) self.old.held ≢ past
+            → source.new ≡ source.old }
+        ensures unread { budget.old ≡ 0 → source.new ≡ source.old }
         ensures* after { sem 𝓛 (Rests the_row self.entry (λ new.
-            HasNext (S.supply source.old) (S.supply source.new) turns.old turns.new self.old new result)) }
+            HasNext (S.supply source.old)
+            (S.supply source.new) budget.old budget.new self.old new result)) }
     {
-        match self.pull(source, turns) {
+        match self.pull(source, budget) {
             Err(error) => Err(error),
             Ok(None) => Ok(None),
             Ok(Some(layout)) => {

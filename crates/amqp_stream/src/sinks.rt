@@ -1,6 +1,7 @@
 //! Sinks in memory, and a writer of the system.
 
-ghost use Rattle.std.specs.Prelude.{◌≡◌, ◌+◌, ◌<◌, ◌≤◌, [], length, min, take, Contains, IfOk, IsErr, OnOk, OnErr};
+ghost use Rattle.std.specs.Prelude.{◌≡◌, ◌+◌, ◌<◌, ◌≤◌, [], length, min, take};
+ghost use Rattle.std.specs.Prelude.{Contains, IfOk, IsErr, OnOk, OnErr};
 ghost use Rattle.std.specs.Io.KnownBytes.{Appends, WriteAppends};
 ghost use Rattle.amqp_stream.specs.Ends.{Gains, Rises, last, piece_of};
 ghost use Rattle.amqp_stream.specs.Scripts.{store_of, most_of, unreported_store};
@@ -87,13 +88,25 @@ impl<'a> Model for ScriptSink<'a> {
 
     ghost Value = { ScriptedSink };
 
-    ghost view = { λ sink. record { kept = sink.kept; pieces = sink.pieces.now; failing = sink.failing.now; writes = sink.writes } };
+    ghost view = { λ sink.
+        record {
+          kept = sink.kept;
+          pieces = sink.pieces.now;
+          failing = sink.failing.now;
+          writes = sink.writes;
+        } };
 }
 
 impl<'a> ScriptSink<'a> {
     /// Nothing was taken, and no write was made. After the end of `pieces` the whole piece is taken.
     pub fn new(alloc: Global, pieces: &'a [usize], failing: &'a [u64]) -> ScriptSink<'a>
-        ensures { result ≡ record { kept = record { bytes = []; faults = 0 }; pieces = pieces.now; failing = failing.now; writes = 0 } }
+        ensures { result
+            ≡ record {
+              kept = record { bytes = []; faults = 0 };
+              pieces = pieces.now;
+              failing = failing.now;
+              writes = 0;
+            } }
     {
         ScriptSink {
             kept: VecSink::new(alloc),
@@ -124,7 +137,8 @@ impl<'a> Sink for ScriptSink<'a> {
     fn write(&mut self, piece: &[u8]) -> Result<usize, SinkFault>
         requires { 0 < length piece.now }
         ensures some { IfOk result (λ n. (0 < n) × (n ≤ length piece.now)) }
-        ensures gains { Gains (store_of self.old.kept) (store_of self.new.kept) (piece_of result piece.now) }
+        ensures gains { Gains (store_of self.old.kept)
+            (store_of self.new.kept) (piece_of result piece.now) }
         ensures fault { OnErr result (Rises self.old.kept.faults self.new.kept.faults) }
         ensures most { self.new.kept.faults ≤ last }
         ensures faultless { OnOk result (self.new.kept.faults ≡ self.old.kept.faults) }
@@ -134,8 +148,10 @@ impl<'a> Sink for ScriptSink<'a> {
 
         // A listed call fails. Any other that does not run out of memory takes as the script has it.
         ensures listed { Contains self.old.failing self.old.writes → IsErr result }
-        ensures count { IfOk result (λ n. n ≡ most_of self.old.pieces self.old.writes (length piece.now)) }
-        ensures script { (self.new.pieces ≡ self.old.pieces) × (self.new.failing ≡ self.old.failing) }
+        ensures count { IfOk result
+            (λ n. n ≡ most_of self.old.pieces self.old.writes (length piece.now)) }
+        ensures script { (self.new.pieces ≡ self.old.pieces)
+            × (self.new.failing ≡ self.old.failing) }
     {
         let call = self.writes;
         self.writes = self.writes.saturating_add(1);
@@ -201,13 +217,15 @@ impl<W: Write> Sink for StdSink<W> {
     fn write(&mut self, piece: &[u8]) -> Result<usize, SinkFault>
         requires { 0 < length piece.now }
         ensures some { IfOk result (λ n. (0 < n) × (n ≤ length piece.now)) }
-        ensures gains { Gains (unreported_store self.old.faults) (unreported_store self.new.faults) (piece_of result piece.now) }
+        ensures gains { Gains (unreported_store self.old.faults)
+            (unreported_store self.new.faults) (piece_of result piece.now) }
         ensures fault { OnErr result (Rises self.old.faults self.new.faults) }
         ensures most { self.new.faults ≤ last }
         ensures faultless { OnOk result (self.new.faults ≡ self.old.faults) }
 
         // Where the writer reports its bytes, those that were taken stand after the others.
-        ensures bytes { IfOk result (λ n. Appends (W.contents self.old.writer) (W.contents self.new.writer) (take n piece.now)) }
+        ensures bytes { IfOk result (λ n.
+            Appends (W.contents self.old.writer) (W.contents self.new.writer) (take n piece.now)) }
     {
         match write_again(&mut self.writer, piece) {
             Ok(count) if count > 0 => match self.writer.flush() {

@@ -1,6 +1,7 @@
 //! Sources in memory, and a reader of the system.
 
-ghost use Rattle.std.specs.Prelude.{◌≡◌, ◌≢◌, ◌<◌, ◌≤◌, [], length, min, Contains, IfOk, IsErr, OnOk, OnErr, None, Some};
+ghost use Rattle.std.specs.Prelude.{◌≡◌, ◌≢◌, ◌<◌, ◌≤◌, [], length, min, Contains, IfOk};
+ghost use Rattle.std.specs.Prelude.{IsErr, OnOk, OnErr, None, Some};
 ghost use Rattle.amqp_stream.specs.Ends.{Takes, Rises, IsEmpty, last, piece_of};
 ghost use Rattle.std.specs.Io.KnownBytes.{ReadConsumes};
 ghost use Rattle.amqp_stream.specs.Scripts.{supply_of, faultless, most_of, unreported_supply};
@@ -38,9 +39,11 @@ impl<'a> Source for SliceSource<'a> {
     fn read(&mut self, buf: &mut [u8]) -> Result<usize, SourceFault>
         requires { 0 < length buf.old }
         ensures bound { IfOk result (λ n. n ≤ length buf.old) }
-        ensures takes { Takes (faultless self.old) (faultless self.new) (piece_of result buf.new) 1 }
+        ensures takes { Takes (faultless self.old)
+            (faultless self.new) (piece_of result buf.new) 1 }
         ensures end { IfOk result (λ n. n ≡ 0 → IsEmpty (faultless self.new).left) }
-        ensures fault { OnErr result (Rises (faultless self.old).faults (faultless self.new).faults) }
+        ensures fault { OnErr result
+            (Rises (faultless self.old).faults (faultless self.new).faults) }
         ensures most { (faultless self.new).faults ≤ last }
 
         // As many bytes as fit are given.
@@ -70,14 +73,28 @@ impl<'a> Model for PieceSource<'a> {
 
     ghost Value = { ScriptedSource };
 
-    ghost view = { λ source. record { left = source.bytes.now; pieces = source.pieces.now; failing = source.failing.now; reads = source.reads; faults = source.faults } };
+    ghost view = { λ source.
+        record {
+          left = source.bytes.now;
+          pieces = source.pieces.now;
+          failing = source.failing.now;
+          reads = source.reads;
+          faults = source.faults;
+        } };
 }
 
 impl<'a> PieceSource<'a> {
     /// All of the bytes are left, and no read was made. After the end of `pieces` as much is given as
     /// fits.
     pub fn new(bytes: &'a [u8], pieces: &'a [usize], failing: &'a [u64]) -> PieceSource<'a>
-        ensures { result ≡ record { left = bytes.now; pieces = pieces.now; failing = failing.now; reads = 0; faults = 0 } }
+        ensures { result
+            ≡ record {
+              left = bytes.now;
+              pieces = pieces.now;
+              failing = failing.now;
+              reads = 0;
+              faults = 0;
+            } }
     {
         PieceSource {
             bytes,
@@ -106,7 +123,8 @@ impl<'a> Source for PieceSource<'a> {
     fn read(&mut self, buf: &mut [u8]) -> Result<usize, SourceFault>
         requires { 0 < length buf.old }
         ensures bound { IfOk result (λ n. n ≤ length buf.old) }
-        ensures takes { Takes (supply_of self.old) (supply_of self.new) (piece_of result buf.new) 1 }
+        ensures takes { Takes (supply_of self.old)
+            (supply_of self.new) (piece_of result buf.new) 1 }
         ensures end { IfOk result (λ n. n ≡ 0 → IsEmpty (supply_of self.new).left) }
         ensures fault { OnErr result (Rises self.old.faults self.new.faults) }
         ensures most { self.new.faults ≤ last }
@@ -115,8 +133,11 @@ impl<'a> Source for PieceSource<'a> {
         // A listed call fails, and no other. Any other gives as the script has it.
         ensures listed { Contains self.old.failing self.old.reads → IsErr result }
         ensures only_listed { OnErr result (Contains self.old.failing self.old.reads) }
-        ensures count { IfOk result (λ n. n ≡ min (length self.old.left) (most_of self.old.pieces self.old.reads (length buf.old))) }
-        ensures script { (self.new.pieces ≡ self.old.pieces) × (self.new.failing ≡ self.old.failing) }
+        ensures count { IfOk result (λ n. n
+            ≡ min (length self.old.left)
+            (most_of self.old.pieces self.old.reads (length buf.old))) }
+        ensures script { (self.new.pieces ≡ self.old.pieces)
+            × (self.new.failing ≡ self.old.failing) }
     {
         let call = self.reads;
         self.reads = self.reads.saturating_add(1);
@@ -185,13 +206,15 @@ impl<R: Read> Source for StdSource<R> {
     fn read(&mut self, buf: &mut [u8]) -> Result<usize, SourceFault>
         requires { 0 < length buf.old }
         ensures bound { IfOk result (λ n. n ≤ length buf.old) }
-        ensures takes { Takes (unreported_supply self.old.faults) (unreported_supply self.new.faults) (piece_of result buf.new) 1 }
+        ensures takes { Takes (unreported_supply self.old.faults)
+            (unreported_supply self.new.faults) (piece_of result buf.new) 1 }
         ensures fault { OnErr result (Rises self.old.faults self.new.faults) }
         ensures most { self.new.faults ≤ last }
         ensures faultless { OnOk result (self.new.faults ≡ self.old.faults) }
 
         // Where the reader reports its bytes, the next of them are given, and after a fault none is lost.
-        ensures bytes { ReadConsumes (R.remaining self.old.reader) (R.remaining self.new.reader) result buf.new }
+        ensures bytes { ReadConsumes (R.remaining self.old.reader)
+            (R.remaining self.new.reader) result buf.new }
     {
         match read_again(&mut self.reader, buf) {
             Ok(count) => Ok(count),

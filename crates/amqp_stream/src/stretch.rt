@@ -1,11 +1,11 @@
-//! Frames that are written from where they lie.
+//! Frames that are written from where they lie: those that came in their canonical bytes, and those that were put into their places.
 
 ghost use Rattle.std.specs.Prelude.{◌≡◌, ◌+◌, ◌^◌, ◌<◌};
 
 use crate::output::SMALL_BODY;
 use amqp_wire::FrameLayout;
 
-/// Frames at the front of what a reader holds that are written as they stand.
+/// Frames at the front of what a reader holds that stand: their canonical bytes lie there, as they came or put there since.
 #[derive(Clone, Copy)]
 pub(crate) struct Stretch {
     /// How many bytes they have.
@@ -34,6 +34,12 @@ impl Stretch {
             len: self.len + layout.frame_len,
             longest: self.longest.max(layout.payload_len),
         }
+    }
+
+    /// Whether a frame after them that is written anew is put into its place, so that it stands. A long one after fewer bytes is
+    /// not: then it costs less to copy them.
+    pub(crate) fn goes_on_with(self, frame_len: usize) -> bool {
+        frame_len <= SMALL_BODY || frame_len <= self.len
     }
 
     /// Whether one of them has a large body. Only then they are worth a write of their own.

@@ -22,7 +22,8 @@ held_payload (Proto major minor revision) held deep long = refl
 held_payload (Meth channel m) held deep long =
     let fields = held_fields m held.1 in
     payload_held m fields.slots fields.known fields.held deep (either (any_long m.items) (is_long_for (payload_bytes m)) long).0
-held_payload (Head channel header) held deep long = header_held header held.1 deep (either (any_long_option header.options) (is_long_for (content_header_bytes header)) long).0
+held_payload (Head channel header) held deep long =
+    header_held header held.1 deep (either (any_long_option header.options) (is_long_for (content_header_bytes header)) long).0
 held_payload (Body channel content) held deep long = refl
 held_payload Beat held deep long = refl
 held_payload (BadBeat channel) held deep long = refl
@@ -33,7 +34,9 @@ is_sized true long bytes h = absurd cc
 is_sized false true bytes h = absurd cc
 is_sized false false bytes h = (refl, refl)
 
-pub typed_in : (f : Frame) (outline : FrameOutline) (payload : List ℕ) → IsFrameHeld f → IsOk (size_of f) → outline ≡ outline_of f → payload ≡ payload_of f → IsIn outline payload f
+-- A frame that a program holds, and that has a size, is encoded strictly by its outline and its canonical payload.
+pub typed_in : (f : Frame) (outline : FrameOutline) (payload : List ℕ) → IsFrameHeld f
+    → IsOk (size_of f) → outline ≡ outline_of f → payload ≡ payload_of f → IsIn outline payload f
 unfolding size_of
 typed_in f outline payload held size is same =
     let ok = is_sized (is_deep f) (is_long f) (canon f) size in

@@ -1,6 +1,8 @@
 -- The methods of the class queue, and the items of their fields.
--- The fields stand in their order on the wire; a reserved one is decoded and dropped, is written as the value named, and gives no item.
--- Flags beside each other share one byte, the first in its lowest bit (AMQP 0-9-1, section 4.2.5.2).
+-- The fields stand in their order on the wire; a reserved one is decoded and dropped, is written as
+-- the value named, and gives no item.
+-- Flags beside each other share one byte, the first in its lowest bit (AMQP 0-9-1,
+-- section 4.2.5.2).
 use Rattle.std.specs.Prelude.{[], ◌∷◌}
 use Rattle.amqp_types.specs.Slots.{number_item, flag_item, text_item, entries_item}
 use Rattle.amqp_types.specs.Methods.{Method, method}
@@ -17,17 +19,26 @@ use Rattle.amqp_topology.specs.declared.queue.binding.UnbindOk.{UnbindOk}
 use Rattle.amqp_topology.specs.declared.queue.AMQPMethod.{AMQPMethod}
 use Rattle.amqp_topology.specs.declared.queue.AMQPMethod.TheVariants as variant
 
--- queue.declare (class 50, method 10): reserved (2 bytes, 0), queue, passive, durable, exclusive, auto_delete, nowait, arguments
+-- queue.declare (class 50, method 10): reserved (2 bytes, 0), queue, passive, durable, exclusive,
+-- auto_delete, nowait, arguments
 abbrev pub declare_method : Declare → Method
-declare_method m = method 50 10 (text_item m.queue ∷ flag_item m.passive ∷ flag_item m.durable ∷ flag_item m.exclusive ∷ flag_item m.auto_delete ∷ flag_item m.nowait ∷ entries_item m.arguments ∷ [])
+declare_method m =
+    method 50 10 (text_item m.queue ∷ flag_item m.passive
+    ∷ flag_item m.durable ∷ flag_item m.exclusive ∷ flag_item m.auto_delete
+    ∷ flag_item m.nowait ∷ entries_item m.arguments ∷ [])
 
 -- queue.declare-ok (class 50, method 11): queue, message_count, consumer_count
 abbrev pub declare_ok_method : DeclareOk → Method
-declare_ok_method m = method 50 11 (text_item m.queue ∷ number_item m.message_count ∷ number_item m.consumer_count ∷ [])
+declare_ok_method m =
+    method 50 11
+    (text_item m.queue ∷ number_item m.message_count ∷ number_item m.consumer_count ∷ [])
 
--- queue.bind (class 50, method 20): reserved (2 bytes, 0), queue, exchange, routing_key, nowait, arguments
+-- queue.bind (class 50, method 20): reserved (2 bytes, 0), queue, exchange, routing_key,
+-- nowait, arguments
 abbrev pub bind_method : Bind → Method
-bind_method m = method 50 20 (text_item m.queue ∷ text_item m.exchange ∷ text_item m.routing_key ∷ flag_item m.nowait ∷ entries_item m.arguments ∷ [])
+bind_method m =
+    method 50 20 (text_item m.queue ∷ text_item m.exchange
+    ∷ text_item m.routing_key ∷ flag_item m.nowait ∷ entries_item m.arguments ∷ [])
 
 -- queue.bind-ok (class 50, method 21): no fields
 abbrev pub bind_ok_method : BindOk → Method
@@ -43,22 +54,27 @@ purge_ok_method m = method 50 31 (number_item m.message_count ∷ [])
 
 -- queue.delete (class 50, method 40): reserved (2 bytes, 0), queue, if_unused, if_empty, nowait
 abbrev pub delete_method : Delete → Method
-delete_method m = method 50 40 (text_item m.queue ∷ flag_item m.if_unused ∷ flag_item m.if_empty ∷ flag_item m.nowait ∷ [])
+delete_method m =
+    method 50 40
+    (text_item m.queue ∷ flag_item m.if_unused ∷ flag_item m.if_empty ∷ flag_item m.nowait ∷ [])
 
 -- queue.delete-ok (class 50, method 41): message_count
 abbrev pub delete_ok_method : DeleteOk → Method
 delete_ok_method m = method 50 41 (number_item m.message_count ∷ [])
 
--- queue.unbind (class 50, method 50): reserved (2 bytes, 0), queue, exchange, routing_key, arguments
+-- queue.unbind (class 50, method 50): reserved (2 bytes, 0), queue, exchange,
+-- routing_key, arguments
 abbrev pub unbind_method : Unbind → Method
-unbind_method m = method 50 50 (text_item m.queue ∷ text_item m.exchange ∷ text_item m.routing_key ∷ entries_item m.arguments ∷ [])
+unbind_method m =
+    method 50 50 (text_item m.queue ∷ text_item m.exchange
+    ∷ text_item m.routing_key ∷ entries_item m.arguments ∷ [])
 
 -- queue.unbind-ok (class 50, method 51): no fields
 abbrev pub unbind_ok_method : UnbindOk → Method
 unbind_ok_method m = method 50 51 ([])
 
--- the row of class 50 that each variant is, by its method id: Declare 10, DeclareOk 11, Bind 20, BindOk 21, Purge 30, PurgeOk 31, Delete 40,
--- DeleteOk 41, Unbind 50, UnbindOk 51
+-- the row of class 50 that each variant is, by its method id: Declare 10, DeclareOk 11, Bind 20,
+-- BindOk 21, Purge 30, PurgeOk 31, Delete 40, DeleteOk 41, Unbind 50, UnbindOk 51
 abbrev pub method_of : AMQPMethod → Method
 method_of (variant.Declare m) = declare_method m
 method_of (variant.DeclareOk m) = declare_ok_method m

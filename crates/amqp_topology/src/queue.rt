@@ -7,7 +7,8 @@ mod declaring;
 ghost use Rattle.std.specs.Prelude.{◌≡◌, IfOk};
 ghost use Rattle.amqp_types.specs.Calls.{Parses, Measures, HasRoom};
 ghost use Rattle.amqp_types.specs.Writing.{Puts, Appends};
-ghost use Rattle.amqp_types.specs.Methods.{judge_method, judge_in_class, payload_bytes, payload_size};
+ghost use Rattle.amqp_types.specs.Methods.{judge_method, judge_in_class};
+ghost use Rattle.amqp_types.specs.Methods.{payload_bytes, payload_size};
 ghost use Rattle.amqp_laws.specs.HeldMethods.{IsHeldMethod};
 ghost use Rattle.amqp_topology.specs.Queue.{method_of};
 
@@ -165,7 +166,8 @@ pub fn size_queue(method: &AMQPMethod) -> Result<u64, GenError>
 
 /// Puts the class id, the method id and the fields at a place of a slice, and returns the place after.
 pub fn put_queue(buf: &mut [u8], at: usize, method: &AMQPMethod) -> usize
-    requires { HasRoom buf.old at (payload_size (method_of method.now)) (payload_bytes (method_of method.now)) }
+    requires { HasRoom buf.old at (payload_size (method_of method.now))
+        (payload_bytes (method_of method.now)) }
     ensures { Puts buf.old buf.new at (payload_bytes (method_of method.now)) result }
 {
     with_fields!(method, put_fields(buf, at))
@@ -173,7 +175,8 @@ pub fn put_queue(buf: &mut [u8], at: usize, method: &AMQPMethod) -> usize
 
 /// Appends the class id, the method id and the fields to a vector.
 pub fn gen_queue(_alloc: Global, out: &mut Vec<u8>, method: &AMQPMethod) -> Result<(), GenError>
-    ensures { Appends out.old.items out.new.items (payload_size (method_of method.now)) (payload_bytes (method_of method.now)) result }
+    ensures { Appends out.old.items out.new.items (payload_size (method_of method.now))
+        (payload_bytes (method_of method.now)) result }
 {
     with_fields!(method, gen_fields(out))
 }

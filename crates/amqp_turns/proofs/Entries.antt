@@ -19,6 +19,7 @@ use Rattle.amqp_turns.specs.Stands.{kept_at, OthersStay}
 at_itself : (k : ℕ) → is_at (nat_cmp k) k ≡ true
 at_itself k = grind (arith, common_steps)
 
+-- The search for a channel does not stop at the entry of another one.
 pub at_other : (k q : ℕ) → q ≢ k → is_at (nat_cmp q) k ≡ false
 at_other k q ne = grind (arith, common_steps)
 
@@ -42,40 +43,55 @@ all_below k n (m ∷ ks) e all = (below k n m e all.0, all_below k n ks e all.1)
 module _ {T : Type 0} where
   -- ---- what is kept, once an entry is put in
 
+  -- Of the channel of an entry that is put in, its value is kept.
   pub kept-insert_same : (es : List (ℕ × T)) (k : ℕ) (v : T) → kept_at (insert_entry nat_cmp es k v) k ≡ Some v
   kept-insert_same [] k v = ap (λ b. cond b (Some v) None) (at_itself k)
   kept-insert_same (e ∷ es) k v = by_order (nat_cmp k e.0) refl (kept-insert_same es k v)
     where
-      by_order : (r : Ordering) → nat_cmp k e.0 ≡ r → kept_at (insert_entry nat_cmp es k v) k ≡ Some v → kept_at (match_ordering r ((k, v) ∷ e ∷ es) ((e.0, v) ∷ es) (e ∷ insert_entry nat_cmp es k v)) k ≡ Some v
+      by_order : (r : Ordering) → nat_cmp k e.0 ≡ r → kept_at (insert_entry nat_cmp es k v) k ≡ Some v
+          → kept_at (match_ordering r ((k, v) ∷ e ∷ es) ((e.0, v) ∷ es) (e ∷ insert_entry nat_cmp es k v)) k ≡ Some v
       by_order Less h rest = ap (λ b. cond b (Some v) (kept_at (e ∷ es) k)) (at_itself k)
       by_order Equal h rest = ap (λ r. cond (is_eq r) (Some v) (kept_at es k)) h
       by_order Greater h rest = ap (λ r. cond (is_eq r) (Some e.1) (kept_at (insert_entry nat_cmp es k v) k)) h ∙ rest
 
+  -- Putting in an entry leaves what is kept of other channels.
   pub kept-insert_other : (es : List (ℕ × T)) (k : ℕ) (v : T) (q : ℕ) → q ≢ k → kept_at (insert_entry nat_cmp es k v) q ≡ kept_at es q
   kept-insert_other [] k v q ne = ap (λ b. cond b (Some v) None) (at_other k q ne)
   kept-insert_other (e ∷ es) k v q ne = by_order (nat_cmp k e.0) refl (kept-insert_other es k v q ne)
     where
-      by_order : (r : Ordering) → nat_cmp k e.0 ≡ r → kept_at (insert_entry nat_cmp es k v) q ≡ kept_at es q → kept_at (match_ordering r ((k, v) ∷ e ∷ es) ((e.0, v) ∷ es) (e ∷ insert_entry nat_cmp es k v)) q ≡ kept_at (e ∷ es) q
+      by_order : (r : Ordering) → nat_cmp k e.0 ≡ r → kept_at (insert_entry nat_cmp es k v) q ≡ kept_at es q
+          → kept_at (match_ordering r ((k, v) ∷ e ∷ es) ((e.0, v) ∷ es) (e ∷ insert_entry nat_cmp es k v)) q ≡ kept_at (e ∷ es) q
       by_order Less h rest = ap (λ b. cond b (Some v) (kept_at (e ∷ es) q)) (at_other k q ne)
-      by_order Equal h rest = ap (λ b. cond b (Some v) (kept_at es q)) (apart_at k e.0 q ne h) ∙ sym (ap (λ b. cond b (Some e.1) (kept_at es q)) (apart_at k e.0 q ne h))
+      by_order Equal h rest =
+          ap (λ b. cond b (Some v) (kept_at es q)) (apart_at k e.0 q ne h) ∙ sym (ap (λ b. cond b (Some e.1) (kept_at es q)) (apart_at k e.0 q ne h))
       by_order Greater h rest = ap (λ o. cond (is_at (nat_cmp q) e.0) (Some e.1) o) rest
 
   -- ---- the same where a value is changed in its place
 
+  -- Setting the value of an entry that was just put in is putting it in with that value.
   pub set-insert_same : (es : List (ℕ × T)) (k : ℕ) (v w : T) → set_value (is_at (nat_cmp k)) (insert_entry nat_cmp es k v) w ≡ insert_entry nat_cmp es k w
   set-insert_same [] k v w = ap (λ b. cond b ((k, w) ∷ []) ((k, v) ∷ [])) (at_itself k)
   set-insert_same (e ∷ es) k v w = by_order (nat_cmp k e.0) refl (set-insert_same es k v w)
     where
-      by_order : (r : Ordering) → nat_cmp k e.0 ≡ r → set_value (is_at (nat_cmp k)) (insert_entry nat_cmp es k v) w ≡ insert_entry nat_cmp es k w → set_value (is_at (nat_cmp k)) (match_ordering r ((k, v) ∷ e ∷ es) ((e.0, v) ∷ es) (e ∷ insert_entry nat_cmp es k v)) w ≡ match_ordering r ((k, w) ∷ e ∷ es) ((e.0, w) ∷ es) (e ∷ insert_entry nat_cmp es k w)
+      by_order : (r : Ordering) → nat_cmp k e.0 ≡ r → set_value (is_at (nat_cmp k)) (insert_entry nat_cmp es k v) w ≡ insert_entry nat_cmp es k w
+          → set_value (is_at (nat_cmp k)) (match_ordering r ((k, v) ∷ e ∷ es) ((e.0, v) ∷ es) (e ∷ insert_entry nat_cmp es k v)) w
+          ≡ match_ordering r ((k, w) ∷ e ∷ es) ((e.0, w) ∷ es) (e ∷ insert_entry nat_cmp es k w)
       by_order Less h rest = ap (λ b. cond b ((k, w) ∷ e ∷ es) ((k, v) ∷ set_value (is_at (nat_cmp k)) (e ∷ es) w)) (at_itself k)
       by_order Equal h rest = ap (λ r. cond (is_eq r) ((e.0, w) ∷ es) ((e.0, v) ∷ set_value (is_at (nat_cmp k)) es w)) h
-      by_order Greater h rest = ap (λ r. cond (is_eq r) ((e.0, w) ∷ insert_entry nat_cmp es k v) (e ∷ set_value (is_at (nat_cmp k)) (insert_entry nat_cmp es k v) w)) h ∙ ap (λ xs. e ∷ xs) rest
+      by_order Greater h rest =
+          ap (λ r. cond (is_eq r) ((e.0, w) ∷ insert_entry nat_cmp es k v) (e ∷ set_value (is_at (nat_cmp k)) (insert_entry nat_cmp es k v) w)) h
+          ∙ ap (λ xs. e ∷ xs) rest
 
-  pub set-insert_other : (es : List (ℕ × T)) (k q : ℕ) (v w : T) → q ≢ k → set_value (is_at (nat_cmp q)) (insert_entry nat_cmp es k v) w ≡ insert_entry nat_cmp (set_value (is_at (nat_cmp q)) es w) k v
+  -- Setting the value of one channel and putting in the entry of another one may be done in either order.
+  pub set-insert_other : (es : List (ℕ × T)) (k q : ℕ) (v w : T) → q ≢ k
+      → set_value (is_at (nat_cmp q)) (insert_entry nat_cmp es k v) w ≡ insert_entry nat_cmp (set_value (is_at (nat_cmp q)) es w) k v
   set-insert_other [] k q v w ne = ap (λ b. cond b ((k, w) ∷ []) ((k, v) ∷ [])) (at_other k q ne)
   set-insert_other (e ∷ es) k q v w ne = by_order (nat_cmp k e.0) refl (is_at (nat_cmp q) e.0) refl (set-insert_other es k q v w ne)
     where
-      by_order : (r : Ordering) → nat_cmp k e.0 ≡ r → (b : Bool) → is_at (nat_cmp q) e.0 ≡ b → set_value (is_at (nat_cmp q)) (insert_entry nat_cmp es k v) w ≡ insert_entry nat_cmp (set_value (is_at (nat_cmp q)) es w) k v → set_value (is_at (nat_cmp q)) (match_ordering r ((k, v) ∷ e ∷ es) ((e.0, v) ∷ es) (e ∷ insert_entry nat_cmp es k v)) w ≡ insert_entry nat_cmp (cond b ((e.0, w) ∷ es) (e ∷ set_value (is_at (nat_cmp q)) es w)) k v
+      by_order : (r : Ordering) → nat_cmp k e.0 ≡ r → (b : Bool) → is_at (nat_cmp q) e.0 ≡ b
+          → set_value (is_at (nat_cmp q)) (insert_entry nat_cmp es k v) w ≡ insert_entry nat_cmp (set_value (is_at (nat_cmp q)) es w) k v
+          → set_value (is_at (nat_cmp q)) (match_ordering r ((k, v) ∷ e ∷ es) ((e.0, v) ∷ es) (e ∷ insert_entry nat_cmp es k v)) w
+          ≡ insert_entry nat_cmp (cond b ((e.0, w) ∷ es) (e ∷ set_value (is_at (nat_cmp q)) es w)) k v
       by_order Less h true t rest = rw (at_other k q ne, t, h) refl
       by_order Less h false t rest = rw (at_other k q ne, t, h) refl
       by_order Equal h true t rest = let no : true ≡ false = sym t ∙ apart_at k e.0 q ne h in absurd cc
@@ -83,34 +99,43 @@ module _ {T : Type 0} where
       by_order Greater h true t rest = rw (t, h) refl
       by_order Greater h false t rest = rw (t, h) (ap (λ xs. e ∷ xs) rest)
 
+  -- Of a channel that has an entry, the value that is set is kept.
   pub kept-set_same : (es : List (ℕ × T)) (k : ℕ) (v w : T) → kept_at es k ≡ Some v → kept_at (set_value (is_at (nat_cmp k)) es w) k ≡ Some w
   kept-set_same [] k v w found = absurd cc
   kept-set_same (e ∷ es) k v w found = by_test (is_at (nat_cmp k) e.0) refl found (kept-set_same es k v w)
     where
-      by_test : (b : Bool) → is_at (nat_cmp k) e.0 ≡ b → cond b (Some e.1) (kept_at es k) ≡ Some v → (kept_at es k ≡ Some v → kept_at (set_value (is_at (nat_cmp k)) es w) k ≡ Some w) → kept_at (cond b ((e.0, w) ∷ es) (e ∷ set_value (is_at (nat_cmp k)) es w)) k ≡ Some w
+      by_test : (b : Bool) → is_at (nat_cmp k) e.0 ≡ b → cond b (Some e.1) (kept_at es k) ≡ Some v
+          → (kept_at es k ≡ Some v → kept_at (set_value (is_at (nat_cmp k)) es w) k ≡ Some w)
+          → kept_at (cond b ((e.0, w) ∷ es) (e ∷ set_value (is_at (nat_cmp k)) es w)) k ≡ Some w
       by_test true t h rest = ap (λ b. cond b (Some w) (kept_at es k)) t
       by_test false t h rest = ap (λ b. cond b (Some e.1) (kept_at (set_value (is_at (nat_cmp k)) es w) k)) t ∙ rest h
 
+  -- Setting the value of a channel leaves what is kept of others.
   pub kept-set_other : (es : List (ℕ × T)) (k : ℕ) (w : T) → OthersStay k es (set_value (is_at (nat_cmp k)) es w)
   kept-set_other [] k w = λ q ne. refl
   kept-set_other (e ∷ es) k w = λ q ne. by_order q ne (nat_cmp k e.0) refl (kept-set_other es k w q ne)
     where
-      by_order : (q : ℕ) → q ≢ k → (r : Ordering) → nat_cmp k e.0 ≡ r → kept_at (set_value (is_at (nat_cmp k)) es w) q ≡ kept_at es q → kept_at (cond (is_eq r) ((e.0, w) ∷ es) (e ∷ set_value (is_at (nat_cmp k)) es w)) q ≡ kept_at (e ∷ es) q
+      by_order : (q : ℕ) → q ≢ k → (r : Ordering) → nat_cmp k e.0 ≡ r → kept_at (set_value (is_at (nat_cmp k)) es w) q ≡ kept_at es q
+          → kept_at (cond (is_eq r) ((e.0, w) ∷ es) (e ∷ set_value (is_at (nat_cmp k)) es w)) q ≡ kept_at (e ∷ es) q
       by_order q ne Less h rest = ap (λ o. cond (is_at (nat_cmp q) e.0) (Some e.1) o) rest
-      by_order q ne Equal h rest = ap (λ b. cond b (Some w) (kept_at es q)) (apart_at k e.0 q ne h) ∙ sym (ap (λ b. cond b (Some e.1) (kept_at es q)) (apart_at k e.0 q ne h))
+      by_order q ne Equal h rest =
+          ap (λ b. cond b (Some w) (kept_at es q)) (apart_at k e.0 q ne h) ∙ sym (ap (λ b. cond b (Some e.1) (kept_at es q)) (apart_at k e.0 q ne h))
       by_order q ne Greater h rest = ap (λ o. cond (is_at (nat_cmp q) e.0) (Some e.1) o) rest
 
+  -- Setting values adds no entry for a channel that has none.
   pub kept-set_none : (test : ℕ → Bool) (es : List (ℕ × T)) (w : T) (q : ℕ) → kept_at es q ≡ None → kept_at (set_value test es w) q ≡ None
   kept-set_none test [] w q none = none
   kept-set_none test (e ∷ es) w q none = by_tests (test e.0) (is_at (nat_cmp q) e.0) refl none (kept-set_none test es w q)
     where
-      by_tests : (a b : Bool) → is_at (nat_cmp q) e.0 ≡ b → cond b (Some e.1) (kept_at es q) ≡ None → (kept_at es q ≡ None → kept_at (set_value test es w) q ≡ None) → kept_at (cond a ((e.0, w) ∷ es) (e ∷ set_value test es w)) q ≡ None
+      by_tests : (a b : Bool) → is_at (nat_cmp q) e.0 ≡ b → cond b (Some e.1) (kept_at es q) ≡ None
+          → (kept_at es q ≡ None → kept_at (set_value test es w) q ≡ None) → kept_at (cond a ((e.0, w) ∷ es) (e ∷ set_value test es w)) q ≡ None
       by_tests a true t n rest = absurd cc
       by_tests true false t n rest = ap (λ b. cond b (Some w) (kept_at es q)) t ∙ n
       by_tests false false t n rest = ap (λ b. cond b (Some e.1) (kept_at (set_value test es w) q)) t ∙ rest n
 
   -- ---- how many there are, and their order
 
+  -- Entries of which one was put in are not empty.
   pub some_inserted : (es : List (ℕ × T)) (k : ℕ) (v : T) → eqb (length (insert_entry nat_cmp es k v)) 0 ≡ false
   some_inserted [] k v = refl
   some_inserted (e ∷ es) k v = by_order (nat_cmp k e.0)
@@ -120,27 +145,33 @@ module _ {T : Type 0} where
       by_order Equal = ne_eqb _ 0 (λ h. absurd (omega (arith, h)))
       by_order Greater = ne_eqb _ 0 (λ h. absurd (omega (arith, h)))
 
-  all_insert : (P : ℕ → Type 0) (es : List (ℕ × T)) (k : ℕ) (v : T) → AllByRecursion P (keys_of es) → P k → AllByRecursion P (keys_of (insert_entry nat_cmp es k v))
+  all_insert : (P : ℕ → Type 0) (es : List (ℕ × T)) (k : ℕ) (v : T) → AllByRecursion P (keys_of es)
+      → P k → AllByRecursion P (keys_of (insert_entry nat_cmp es k v))
   all_insert P [] k v all here = (here, tt)
   all_insert P (e ∷ es) k v all here = by_order (nat_cmp k e.0) (all_insert P es k v all.1 here)
     where
-      by_order : (r : Ordering) → AllByRecursion P (keys_of (insert_entry nat_cmp es k v)) → AllByRecursion P (keys_of (match_ordering r ((k, v) ∷ e ∷ es) ((e.0, v) ∷ es) (e ∷ insert_entry nat_cmp es k v)))
+      by_order : (r : Ordering) → AllByRecursion P (keys_of (insert_entry nat_cmp es k v))
+          → AllByRecursion P (keys_of (match_ordering r ((k, v) ∷ e ∷ es) ((e.0, v) ∷ es) (e ∷ insert_entry nat_cmp es k v)))
       by_order Less rest = (here, all)
       by_order Equal rest = all
       by_order Greater rest = (all.0, rest)
 
-  pub sorted-insert : (es : List (ℕ × T)) (k : ℕ) (v : T) → IsStrictlySortedBy nat_cmp (keys_of es) → IsStrictlySortedBy nat_cmp (keys_of (insert_entry nat_cmp es k v))
+  -- Entries that are sorted by channel, each once, stay so when one is put in.
+  pub sorted-insert : (es : List (ℕ × T)) (k : ℕ) (v : T) → IsStrictlySortedBy nat_cmp (keys_of es)
+      → IsStrictlySortedBy nat_cmp (keys_of (insert_entry nat_cmp es k v))
   unfolding IsStrictlySortedBy
   sorted-insert [] k v sorted = (tt, tt)
   sorted-insert (e ∷ es) k v sorted = by_order (nat_cmp k e.0) refl (sorted-insert es k v sorted.1)
     where
-      by_order : (r : Ordering) → nat_cmp k e.0 ≡ r → IsStrictlySortedBy nat_cmp (keys_of (insert_entry nat_cmp es k v)) → IsStrictlySortedBy nat_cmp (keys_of (match_ordering r ((k, v) ∷ e ∷ es) ((e.0, v) ∷ es) (e ∷ insert_entry nat_cmp es k v)))
+      by_order : (r : Ordering) → nat_cmp k e.0 ≡ r → IsStrictlySortedBy nat_cmp (keys_of (insert_entry nat_cmp es k v))
+          → IsStrictlySortedBy nat_cmp (keys_of (match_ordering r ((k, v) ∷ e ∷ es) ((e.0, v) ∷ es) (e ∷ insert_entry nat_cmp es k v)))
       by_order Less h rest = ((h, all_below k e.0 (keys_of es) h sorted.0), sorted)
       by_order Equal h rest = sorted
       by_order Greater h rest = (all_insert (λ n. nat_cmp e.0 n ≡ Less) es k v sorted.0 (above k e.0 h), rest)
 
   -- where the channel has no entry yet, one more value is counted
-  pub count-insert : (test : T → Bool) (es : List (ℕ × T)) (k : ℕ) (v : T) → IsStrictlySortedBy nat_cmp (keys_of es) → kept_at es k ≡ None → count_by test (values_of (insert_entry nat_cmp es k v)) ≡ count_by test (values_of es) + cond (test v) 1 0
+  pub count-insert : (test : T → Bool) (es : List (ℕ × T)) (k : ℕ) (v : T) → IsStrictlySortedBy nat_cmp (keys_of es)
+      → kept_at es k ≡ None → count_by test (values_of (insert_entry nat_cmp es k v)) ≡ count_by test (values_of es) + cond (test v) 1 0
   count-insert test es k v sorted none =
       let weigh : T → ℕ = λ x. cond (test x) 1 0 in
       let had = ap (λ (o : Option T). sum_by weigh (values_of (insert_entry nat_cmp es k v)) + unwrap_or (option_map weigh o) 0) none in

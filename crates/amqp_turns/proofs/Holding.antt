@@ -4,7 +4,8 @@ use Rattle.std.specs.Prelude.{option_map}
 use Rattle.std.proofs.lemmas.Bool.{eq-eqb, ne_eqb}
 use Rattle.std.proofs.lemmas.List.{length-map}
 use Rattle.std.specs.FinMap as finite
-use Rattle.std.specs.FinMap.{get-insert, get-remove, get-from_entries, get-entries, get-empty, len-entries, len-empty, empty_of_len, same_map, nat_cmp-IsAntisymmetric, find}
+use Rattle.std.specs.FinMap.{get-insert, get-remove, get-from_entries, get-entries, get-empty, len-entries, len-empty, empty_of_len, same_map}
+use Rattle.std.specs.FinMap.{nat_cmp-IsAntisymmetric, find}
 use Rattle.std.specs.Cmp.{nat_cmp_total}
 use Rattle.std.specs.Map.{set_value}
 use Rattle.std.specs.Ordering.{nat_cmp, eq_by_cmp}
@@ -18,11 +19,14 @@ use Rattle.amqp_turns.proofs.Entries.{kept-set_same, kept-set_other}
 pub at_itself : (k : ℕ) → eq_by_cmp nat_cmp k k ≡ true
 at_itself k = grind (arith, common_steps)
 
+-- Different channels compare as different.
 pub at_other : (q k : ℕ) → q ≢ k → eq_by_cmp nat_cmp q k ≡ false
 at_other q k ne = grind (arith, common_steps)
 
 module _ {K : Type 0} where
-  pub get-set_at : (holding : ByChannel K) (channel : ℕ) (held : Option K) (q : ℕ) → finite.get (set_at holding channel held) q ≡ cond (eq_by_cmp nat_cmp q channel) held (finite.get holding q)
+  -- After a channel is set, what was set is kept of it, and of others what was.
+  pub get-set_at : (holding : ByChannel K) (channel : ℕ) (held : Option K) (q : ℕ)
+      → finite.get (set_at holding channel held) q ≡ cond (eq_by_cmp nat_cmp q channel) held (finite.get holding q)
   get-set_at holding channel None q = get-remove nat_cmp_total holding channel q
   get-set_at holding channel (Some held) q = get-insert nat_cmp_total holding channel held q
 
@@ -31,14 +35,16 @@ module _ {K : Type 0} where
 
   -- what is kept of a channel is set again
   pub set_at-same : (holding : ByChannel K) (channel : ℕ) → holding ≡ set_at holding channel (finite.get holding channel)
-  set_at-same holding channel = same_holding holding _ (λ q. sym (get-set_at holding channel (finite.get holding channel) q ∙ stays q (eq_by_cmp nat_cmp q channel) refl))
+  set_at-same holding channel =
+      same_holding holding _ (λ q. sym (get-set_at holding channel (finite.get holding channel) q ∙ stays q (eq_by_cmp nat_cmp q channel) refl))
     where
       stays : (q : ℕ) (b : Bool) → eq_by_cmp nat_cmp q channel ≡ b → cond b (finite.get holding channel) (finite.get holding q) ≡ finite.get holding q
       stays q true e = let same : channel ≡ q = grind (arith, common_steps) in ap (finite.get holding) same
       stays q false e = refl
 
   -- what was set for the first time is taken back
-  pub set_back : (holding : ByChannel K) (channel : ℕ) (held : K) → finite.get holding channel ≡ None → finite.remove (finite.insert holding channel held) channel ≡ holding
+  pub set_back : (holding : ByChannel K) (channel : ℕ) (held : K) → finite.get holding channel ≡ None
+      → finite.remove (finite.insert holding channel held) channel ≡ holding
   set_back holding channel held none = same_holding _ holding (λ q.
       get-set_at (finite.insert holding channel held) channel None q ∙ by_test q (eq_by_cmp nat_cmp q channel) refl)
     where
@@ -54,6 +60,7 @@ module _ {K : Type 0} where
   some_in [] some = absurd (some refl)
   some_in (e ∷ es) some = (e.0, e.1, ap (λ b. cond b (Some e.1) (find nat_cmp e.0 es)) (at_itself e.0))
 
+  -- Where something is kept, there is a channel of which it is.
   pub some_held : (m : ByChannel K) → finite.len m ≢ 0 → (k : ℕ) × (y : K) × (finite.get m k ≡ Some y)
   some_held m some =
       let found = some_in (finite.entries m) (λ e. some (len-entries m ∙ e)) in
@@ -61,6 +68,7 @@ module _ {K : Type 0} where
 
   -- ---- by entries
 
+  -- what is kept of channels, by their entries
   abbrev pub holding_of : List (ℕ × K) → ByChannel K
   holding_of es = finite.from_entries es
 
@@ -72,10 +80,13 @@ module _ {K : Type 0} where
       by_test true rest = refl
       by_test false rest = rest
 
+  -- What is kept of a channel by entries is the value of its entry.
   pub get-holding : (es : List (ℕ × K)) (q : ℕ) → finite.get (holding_of es) q ≡ kept_at es q
   get-holding es q = get-from_entries nat_cmp_total es q ∙ find_kept es q
 
-  pub holding_updated : (es new : List (ℕ × K)) (channel : ℕ) (held : Option K) → kept_at new channel ≡ held → OthersStay channel es new → holding_of new ≡ set_at (holding_of es) channel held
+  -- Entries with a new value for one channel, and those that were for others, are what was kept with this channel set.
+  pub holding_updated : (es new : List (ℕ × K)) (channel : ℕ) (held : Option K) → kept_at new channel ≡ held
+      → OthersStay channel es new → holding_of new ≡ set_at (holding_of es) channel held
   holding_updated es new channel held here stay = same_holding _ _ (λ q.
       get-holding new q ∙ by_test q (eq_by_cmp nat_cmp q channel) refl ∙ sym (get-set_at (holding_of es) channel held q))
     where
@@ -85,9 +96,13 @@ module _ {K : Type 0} where
           let apart : q ≢ channel = λ same. let t = ap (λ k. eq_by_cmp nat_cmp k channel) same ∙ at_itself channel in let no : true ≡ false = sym t ∙ e in cc in
           stay q apart ∙ sym (get-holding es q)
 
+  -- There are no entries exactly where nothing is kept of any channel.
   pub holding_empty : (es : List (ℕ × K)) → eqb (length es) 0 ≡ eqb (finite.len (holding_of es)) 0
   holding_empty [] = sym (eq-eqb _ 0 (len-empty nat_cmp K))
-  holding_empty (e ∷ es) = ne_eqb (length (e ∷ es)) 0 (λ h. absurd (omega (arith, h))) ∙ sym (ne_eqb _ 0 (λ none. some_kept (sym (none_held (holding_of (e ∷ es)) none e.0) ∙ get-holding (e ∷ es) e.0 ∙ ap (λ b. cond b (Some e.1) (kept_at es e.0)) (at_itself e.0))))
+  holding_empty (e ∷ es) =
+      ne_eqb (length (e ∷ es)) 0 (λ h. absurd (omega (arith, h)))
+      ∙ sym (ne_eqb _ 0 (λ none.
+      some_kept (sym (none_held (holding_of (e ∷ es)) none e.0) ∙ get-holding (e ∷ es) e.0 ∙ ap (λ b. cond b (Some e.1) (kept_at es e.0)) (at_itself e.0))))
     where
       some_kept : None ≡ Some e.1 → ⊥
       some_kept e = cc
@@ -95,6 +110,7 @@ module _ {K : Type 0} where
 -- ---- by entries whose values are seen through a function
 
 module _ {X K : Type 0} (f : X → K) where
+  -- an entry with its value seen through a function
   abbrev pub entry_of : ℕ × X → ℕ × K
   entry_of e = (e.0, f e.1)
 
@@ -105,22 +121,29 @@ module _ {X K : Type 0} (f : X → K) where
   kept-map [] q = refl
   kept-map (e ∷ es) q = by_test (is_at (nat_cmp q) e.0) (kept-map es q)
     where
-      by_test : (b : Bool) → kept_at (map entry_of es) q ≡ option_map f (kept_at es q) → cond b (Some (f e.1)) (kept_at (map entry_of es) q) ≡ option_map f (cond b (Some e.1) (kept_at es q))
+      by_test : (b : Bool) → kept_at (map entry_of es) q ≡ option_map f (kept_at es q)
+          → cond b (Some (f e.1)) (kept_at (map entry_of es) q) ≡ option_map f (cond b (Some e.1) (kept_at es q))
       by_test true rest = refl
       by_test false rest = rest
 
   pub get-seen : (es : List (ℕ × X)) (q : ℕ) → finite.get (seen_of es) q ≡ option_map f (kept_at es q)
   get-seen es q = get-holding (map entry_of es) q ∙ kept-map es q
 
-  pub seen_updated : (es new : List (ℕ × X)) (channel : ℕ) (w : Option X) → kept_at new channel ≡ w → OthersStay channel es new → seen_of new ≡ set_at (seen_of es) channel (option_map f w)
-  seen_updated es new channel w here stay = holding_updated (map entry_of es) (map entry_of new) channel (option_map f w) (kept-map new channel ∙ ap (option_map f) here) (λ q apart. kept-map new q ∙ ap (option_map f) (stay q apart) ∙ sym (kept-map es q))
+  pub seen_updated : (es new : List (ℕ × X)) (channel : ℕ) (w : Option X) → kept_at new channel ≡ w
+      → OthersStay channel es new → seen_of new ≡ set_at (seen_of es) channel (option_map f w)
+  seen_updated es new channel w here stay =
+      holding_updated (map entry_of es) (map entry_of new) channel (option_map f w) (kept-map new channel ∙ ap (option_map f) here)
+      (λ q apart. kept-map new q ∙ ap (option_map f) (stay q apart) ∙ sym (kept-map es q))
 
-  pub seen_written : (es new : List (ℕ × X)) (channel : ℕ) (v w : X) → kept_at es channel ≡ Some v → new ≡ set_value (is_at (nat_cmp channel)) es w → seen_of new ≡ set_at (seen_of es) channel (Some (f w))
+  pub seen_written : (es new : List (ℕ × X)) (channel : ℕ) (v w : X) → kept_at es channel ≡ Some v
+      → new ≡ set_value (is_at (nat_cmp channel)) es w → seen_of new ≡ set_at (seen_of es) channel (Some (f w))
   seen_written es new channel v w found is =
-      ap seen_of is ∙ seen_updated es (set_value (is_at (nat_cmp channel)) es w) channel (Some w) (kept-set_same es channel v w found) (kept-set_other es channel w)
+      ap seen_of is
+      ∙ seen_updated es (set_value (is_at (nat_cmp channel)) es w) channel (Some w) (kept-set_same es channel v w found) (kept-set_other es channel w)
 
   -- where what is kept stays, nothing is changed
-  pub seen_unwritten : (es new : List (ℕ × X)) (channel : ℕ) (v w : X) → kept_at es channel ≡ Some v → f w ≡ f v → new ≡ set_value (is_at (nat_cmp channel)) es w → seen_of new ≡ seen_of es
+  pub seen_unwritten : (es new : List (ℕ × X)) (channel : ℕ) (v w : X) → kept_at es channel ≡ Some v
+      → f w ≡ f v → new ≡ set_value (is_at (nat_cmp channel)) es w → seen_of new ≡ seen_of es
   seen_unwritten es new channel v w found same is =
       let was : finite.get (seen_of es) channel ≡ Some (f v) = get-seen es channel ∙ ap (option_map f) found in
       seen_written es new channel v w found is ∙ ap (set_at (seen_of es) channel) (ap (λ k. Some k) same ∙ sym was) ∙ sym (set_at-same (seen_of es) channel)

@@ -18,9 +18,11 @@ use Rattle.amqp_turns.proofs.Whole.{done_in-append}
 
 -- ---- all frames of a channel
 
+-- a frame of this channel's content
 abbrev pub IsOn : ℕ → Frame → Type 0
 IsOn channel frame = is_of_channel outline_of channel frame ≡ true
 
+-- A frame of a channel's content has the id of the channel.
 pub channel_is : (channel : ℕ) (frame : Frame) → IsOn channel frame → channel_id_of frame ≡ channel
 channel_is channel (Meth other m) h = eqb-true other channel h
 channel_is channel (Head other header) h = eqb-true other channel h
@@ -29,11 +31,13 @@ channel_is channel (Proto major minor revision) h = absurd cc
 channel_is channel Beat h = absurd cc
 channel_is channel (BadBeat other) h = absurd cc
 
+-- The frames of a channel's content are all of this channel.
 pub all_on : (channel : ℕ) (frames : List Frame) → AllByRecursion (IsOn channel) (of_channel outline_of channel frames)
 all_on channel [] = tt
 all_on channel (frame ∷ frames) = by_test (is_of_channel outline_of channel frame) refl (all_on channel frames)
   where
-    by_test : (test : Bool) → is_of_channel outline_of channel frame ≡ test → AllByRecursion (IsOn channel) (of_channel outline_of channel frames) → AllByRecursion (IsOn channel) (of_channel outline_of channel (frame ∷ frames))
+    by_test : (test : Bool) → is_of_channel outline_of channel frame ≡ test → AllByRecursion (IsOn channel) (of_channel outline_of channel frames)
+        → AllByRecursion (IsOn channel) (of_channel outline_of channel (frame ∷ frames))
     by_test true e rest =
         let has : frame ∷ of_channel outline_of channel frames ≡ of_channel outline_of channel (frame ∷ frames) = rw e refl in
         subst (AllByRecursion (IsOn channel)) has (e, rest)
@@ -41,27 +45,35 @@ all_on channel (frame ∷ frames) = by_test (is_of_channel outline_of channel fr
         let has : of_channel outline_of channel frames ≡ of_channel outline_of channel (frame ∷ frames) = rw e refl in
         subst (AllByRecursion (IsOn channel)) has rest
 
+-- What holds of all of two lists holds of all of the first one.
 pub all_front : {X : Type 0} (P : X → Type 0) (xs ys : List X) → AllByRecursion P (xs ++ ys) → AllByRecursion P xs
 all_front P [] ys h = tt
 all_front P (x ∷ xs) ys h = (h.0, all_front P xs ys h.1)
 
+-- What holds of all of two lists holds of all of the second one.
 pub all_back : {X : Type 0} (P : X → Type 0) (xs ys : List X) → AllByRecursion P (xs ++ ys) → AllByRecursion P ys
 all_back P [] ys h = h
 all_back P (x ∷ xs) ys h = all_back P xs ys h.1
 
 -- ---- the first frames of a message
 
+-- A method that begins a message, where none has begun, leaves a message with this opening.
 pub opened : (opening : Frame) → IsOpening (outline_of opening) → (step outline_of greatest (At Nothing) opening).1 ≡ At (Opened opening)
 opened opening h = ap (λ (p : Answer Frame × State Frame). p.1) (opening_step outline_of greatest opening (outline_of opening) refl h)
 
-pub headed_by : (opening header : Frame) → IsBasicHeader (outline_of header) → size_in (outline_of header) ≤ greatest → 0 < size_in (outline_of header) → (step outline_of greatest (At (Opened opening)) header).1 ≡ At (Headed opening header [])
-headed_by opening header basic fits some = ap (λ (p : Answer Frame × State Frame). p.1) (header_step outline_of greatest opening header (outline_of header) refl basic fits some)
+-- After an opening, a content header of the class basic with a size above zero leaves a message with both.
+pub headed_by : (opening header : Frame) → IsBasicHeader (outline_of header) → size_in (outline_of header) ≤ greatest
+    → 0 < size_in (outline_of header) → (step outline_of greatest (At (Opened opening)) header).1 ≡ At (Headed opening header [])
+headed_by opening header basic fits some =
+    ap (λ (p : Answer Frame × State Frame). p.1) (header_step outline_of greatest opening header (outline_of header) refl basic fits some)
 
 -- ---- the messages that answers complete
 
+-- the messages that outcomes complete
 abbrev pub done_by : List (Answer Frame) → List Content
 done_by answers = done_in (map answer_outcome answers)
 
+-- The messages that outcomes complete one after the other are those of the first, and then those of the others.
 pub done_by_append : (xs ys : List (Answer Frame)) → done_by (xs ++ ys) ≡ done_by xs ++ done_by ys
 done_by_append xs ys = ap done_in (map-append answer_outcome xs ys) ∙ done_in-append (map answer_outcome xs) (map answer_outcome ys)
 
@@ -74,13 +86,18 @@ held_begun Nothing = refl
 held_begun (Opened opening) = refl
 held_begun (Headed opening header bodies) = held_bodies opening header [] bodies
 
-pub full_done : (opening header : Frame) (bodies : List Frame) (last : Frame) → done_by (finished_answers (Full opening header bodies last)) ≡ content_with (Headed opening header bodies) last ∷ []
-full_done opening header bodies last = done_by_append (begun_answers (Headed opening header bodies)) (Ends (Headed opening header bodies) last ∷ []) ∙ ap (λ cs. cs ++ content_with (Headed opening header bodies) last ∷ []) (held_begun (Headed opening header bodies))
+-- The frames of a message with a body complete just this message.
+pub full_done : (opening header : Frame) (bodies : List Frame) (last : Frame)
+    → done_by (finished_answers (Full opening header bodies last)) ≡ content_with (Headed opening header bodies) last ∷ []
+full_done opening header bodies last =
+    done_by_append (begun_answers (Headed opening header bodies)) (Ends (Headed opening header bodies) last ∷ [])
+    ∙ ap (λ cs. cs ++ content_with (Headed opening header bodies) last ∷ []) (held_begun (Headed opening header bodies))
 
 -- the messages of finished units
 abbrev pub done_of : List (Finished Frame) → List Content
 done_of units = done_by (flat_map finished_answers units)
 
+-- The frames of a channel in turn complete the messages of their finished units.
 pub turn_done : (xs : List Frame) → (h : IsInTurn outline_of greatest xs) → done_by (run_answers outline_of greatest (At Nothing) xs) ≡ done_of h.units
 turn_done xs h =
     ap done_by (ap (run_answers outline_of greatest (At Nothing)) h.are ∙ (turn_runs outline_of greatest h.units h.begun h.finished h.is_begun).answers_are)

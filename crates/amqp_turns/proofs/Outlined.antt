@@ -40,11 +40,15 @@ module _ {X : Type 0} (outline : X → FrameOutline) (max : ℕ) where
   same_fault (Opened opening) x = refl
   same_fault (Headed opening header bodies) x = refl
 
-  same_within : (begun : Begun X) (x : X) (ends : Bool) → cond ends (Ends (outlined_begun outline begun) (outline x), At Nothing) (Within (outlined_begun outline begun) (outline x), At (begun_with (outlined_begun outline begun) (outline x))) ≡ outlined_step (cond ends (Ends begun x, At Nothing) (Within begun x, At (begun_with begun x)))
+  same_within : (begun : Begun X) (x : X) (ends : Bool)
+      → cond ends (Ends (outlined_begun outline begun) (outline x), At Nothing)
+      (Within (outlined_begun outline begun) (outline x), At (begun_with (outlined_begun outline begun) (outline x)))
+      ≡ outlined_step (cond ends (Ends begun x, At Nothing) (Within begun x, At (begun_with begun x)))
   same_within begun x true = refl
   same_within begun x false = ap (λ b. (Within (outlined_begun outline begun) (outline x), At b)) (sym (same_with begun x))
 
-  same_marked : (begun : Begun X) (x : X) (mark : Mark) → step_marked itself (outlined_begun outline begun) (outline x) mark ≡ outlined_step (step_marked outline begun x mark)
+  same_marked : (begun : Begun X) (x : X) (mark : Mark)
+      → step_marked itself (outlined_begun outline begun) (outline x) mark ≡ outlined_step (step_marked outline begun x mark)
   same_marked begun x marks.Passed = refl
   same_marked begun x marks.Opening = same_within begun x false
   same_marked begun x marks.Header = same_within begun x (eqb 0 (size_in (outline x)))
@@ -57,19 +61,30 @@ module _ {X : Type 0} (outline : X → FrameOutline) (max : ℕ) where
       mark : Mark
       mark = mark_after max (begun_progress outline begun) (outline x)
 
-      by_test : (content : Bool) → cond content (step_marked itself (outlined_begun outline begun) (outline x) (mark_after max (begun_progress itself (outlined_begun outline begun)) (outline x))) (Wrong (fault_after (outlined_begun outline begun) (outline x)), Lost) ≡ outlined_step (cond content (step_marked outline begun x mark) (Wrong (fault_after begun (outline x)), Lost))
-      by_test true = ap (λ progress. step_marked itself (outlined_begun outline begun) (outline x) (mark_after max progress (outline x))) (same_progress begun) ∙ same_marked begun x mark
+      by_test : (content : Bool)
+          → cond content
+          (step_marked itself (outlined_begun outline begun) (outline x) (mark_after max (begun_progress itself (outlined_begun outline begun)) (outline x)))
+          (Wrong (fault_after (outlined_begun outline begun) (outline x)), Lost)
+          ≡ outlined_step (cond content (step_marked outline begun x mark) (Wrong (fault_after begun (outline x)), Lost))
+      by_test true =
+          ap (λ progress. step_marked itself (outlined_begun outline begun) (outline x) (mark_after max progress (outline x))) (same_progress begun)
+          ∙ same_marked begun x mark
       by_test false = ap (λ fault. (Wrong fault, Lost)) (same_fault begun x)
   same_step Lost x = refl
 
-  same_run : (state : State X) (xs : List X) → run_answers itself max (outlined_state state) (map outline xs) ≡ map (outlined outline) (run_answers outline max state xs)
+  same_run : (state : State X) (xs : List X)
+      → run_answers itself max (outlined_state state) (map outline xs) ≡ map (outlined outline) (run_answers outline max state xs)
   same_run state [] = refl
   same_run state (x ∷ xs) =
       let one = same_step state x in
-      ap₂ (λ r s. r ∷ run_answers itself max s (map outline xs)) (ap (λ (p : Answer FrameOutline × State FrameOutline). p.0) one) (ap (λ (p : Answer FrameOutline × State FrameOutline). p.1) one)
+      ap₂ (λ r s. r ∷ run_answers itself max s (map outline xs)) (ap (λ (p : Answer FrameOutline × State FrameOutline). p.0) one)
+      (ap (λ (p : Answer FrameOutline × State FrameOutline). p.1) one)
       ∙ ap (λ rs. outlined outline (step outline max state x).0 ∷ rs) (same_run (step outline max state x).1 xs)
 
-pub answers_outlined : {X : Type 0} (outline : X → FrameOutline) (max : ℕ) (xs : List X) (answers : List (Answer X)) → Answers outline max xs answers → Answers itself max (map outline xs) (map (outlined outline) answers)
+-- The outcomes of frames, with outlines in the place of the frames, are the outcomes of their outlines.
+pub answers_outlined : {X : Type 0} (outline : X → FrameOutline) (max : ℕ) (xs : List X) (answers : List (Answer X))
+    → Answers outline max xs answers → Answers itself max (map outline xs) (map (outlined outline) answers)
 answers_outlined outline max xs answers h =
-    let are : run_answers itself max (At Nothing) (map outline xs) ≡ map (outlined outline) answers = same_run outline max (At Nothing) xs ∙ ap (map (outlined outline)) (sym (answers_run outline max xs answers h)) in
+    let are : run_answers itself max (At Nothing) (map outline xs) ≡ map (outlined outline) answers =
+    same_run outline max (At Nothing) xs ∙ ap (map (outlined outline)) (sym (answers_run outline max xs answers h)) in
     subst (λ rs. Answers itself max (map outline xs) rs) are (run_is_answers itself max (map outline xs))

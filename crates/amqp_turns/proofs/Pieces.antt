@@ -1,14 +1,17 @@
 -- Pieces of bytes: one by one, joined again, none of them empty, and cut off again after more bytes.
-use Rattle.std.proofs.Common.{◌≡◌, ℕ, ◌+◌, ◌-◌, ◌*◌, ◌/◌, ◌%◌, ◌<◌, ◌≤◌, min, ap₂, zero, suc, Bool, true, false, List, [], ◌∷◌, ◌++◌, Some, length, map, take, drop, refl, sym, ap, ◌∙◌, arith}
+use Rattle.std.proofs.Common.{◌≡◌, ℕ, ◌+◌, ◌-◌, ◌*◌, ◌/◌, ◌%◌, ◌<◌, ◌≤◌, min, ap₂, zero, suc, Bool, true, false, List, [], ◌∷◌, ◌++◌, Some, length, map, take}
+use Rattle.std.proofs.Common.{drop, refl, sym, ap, ◌∙◌, arith}
 use Rattle.std.specs.Prelude.{slice_get}
 use Rattle.std.proofs.Math.Seq.{take-add}
-use Rattle.std.proofs.lemmas.List.{append-nil, append_assoc, drop-drop, drop_all, drop-append-le, take-append-le, length-append, length-drop, length-take, take_all, take_min, drop_min, nil_from_length}
+use Rattle.std.proofs.lemmas.List.{append-nil, append_assoc, drop-drop, drop_all, drop-append-le, take-append-le, length-append, length-drop, length-take}
+use Rattle.std.proofs.lemmas.List.{take_all, take_min, drop_min, nil_from_length}
 use Rattle.std.proofs.lemmas.Nat.{div-add-mod'}
 use Rattle.std.specs.List.{flat_map, AllByRecursion}
 use Rattle.amqp_turns.specs.Splits.{chunks, cut_count, pieces, pieces_given, whole_pieces, left_over}
 
 -- ---- chunks
 
+-- The first n chunks of some bytes are n, even where no bytes are left for them.
 pub length-chunks : (m n : ℕ) (bytes : List ℕ) → length (chunks m n bytes) ≡ n
 length-chunks m zero bytes = refl
 length-chunks m (suc n) bytes = ap suc (length-chunks m n (drop m bytes))
@@ -16,6 +19,7 @@ length-chunks m (suc n) bytes = ap suc (length-chunks m n (drop m bytes))
 drop_more : (m k : ℕ) (bytes : List ℕ) → drop (k * m) (drop m bytes) ≡ drop (suc k * m) bytes
 drop_more m k bytes = let place : m + k * m ≡ suc k * m = omega arith in drop-drop (k * m) m bytes ∙ ap (λ n. drop n bytes) place
 
+-- Chunk k has the bytes from k times the size of a chunk on, up to this size.
 pub chunk_at : (m n k : ℕ) (bytes : List ℕ) → k < n → slice_get (chunks m n bytes) k ≡ Some (take m (drop (k * m) bytes))
 chunk_at m zero k bytes h = absurd (omega arith)
 chunk_at m (suc n) zero bytes h = let start : 0 ≡ zero * m = omega arith in ap (λ p. Some (take m (drop p bytes))) start
@@ -35,7 +39,8 @@ chunks-front : (m a : ℕ) (xs ys : List ℕ) → a * m ≤ length xs → chunks
 chunks-front m zero xs ys h = refl
 chunks-front m (suc a) xs ys h =
     let fits : m ≤ length xs = omega arith in
-    ap₂ (λ p ps. p ∷ ps) (take-append-le m xs ys fits) (ap (chunks m a) (drop-append-le m xs ys fits) ∙ chunks-front m a (drop m xs) ys (omega (arith, length-drop m xs)))
+    ap₂ (λ p ps. p ∷ ps) (take-append-le m xs ys fits)
+    (ap (chunks m a) (drop-append-le m xs ys fits) ∙ chunks-front m a (drop m xs) ys (omega (arith, length-drop m xs)))
 
 pub flat-chunks : (m n : ℕ) (bytes : List ℕ) → flat_map (λ part. part) (chunks m n bytes) ≡ take (n * m) bytes
 flat-chunks m zero bytes = let start : 0 ≡ zero * m = omega arith in ap (λ p. take p bytes) start
@@ -109,8 +114,10 @@ pub given-nothing : (m : ℕ) (ends : Bool) (bytes : List ℕ) → 1 ≤ m → l
 given-nothing m ends bytes h none = ap (λ n. chunks m n bytes) (ap (cut_count m ends) none ∙ count-none m ends h)
 
 -- one piece of the whole size
-pub given-more : (m : ℕ) (ends : Bool) (bytes : List ℕ) → 1 ≤ m → m ≤ length bytes → pieces_given m ends bytes ≡ take m bytes ∷ pieces_given m ends (drop m bytes)
-given-more m ends bytes h fits = ap (λ n. chunks m n bytes) (count-more m ends (length bytes) h fits ∙ ap (λ n. suc (cut_count m ends n)) (sym (length-drop m bytes)))
+pub given-more : (m : ℕ) (ends : Bool) (bytes : List ℕ) → 1 ≤ m → m ≤ length bytes
+    → pieces_given m ends bytes ≡ take m bytes ∷ pieces_given m ends (drop m bytes)
+given-more m ends bytes h fits =
+    ap (λ n. chunks m n bytes) (count-more m ends (length bytes) h fits ∙ ap (λ n. suc (cut_count m ends n)) (sym (length-drop m bytes)))
 
 pub pieces-none : (m : ℕ) → 1 ≤ m → pieces m [] ≡ []
 pieces-none m h = given-nothing m true [] h refl
@@ -129,19 +136,23 @@ one-whole m bytes h full =
     let none : length (drop m bytes) ≡ 0 = omega (arith, full, length-drop m bytes) in
     given-more m false bytes h (omega arith) ∙ ap₂ (λ p ps. p ∷ ps) (take_all m bytes (omega arith)) (given-nothing m false (drop m bytes) h none)
 
+-- Nothing is left over of one piece of the whole size.
 pub left-none : (m : ℕ) (bytes : List ℕ) → 1 ≤ m → length bytes ≡ m → left_over m bytes ≡ []
 left-none m bytes h full =
     let once : (length bytes / m) * m ≡ suc ((length bytes - m) / m) * m = ap (λ k. k * m) (whole_count (length bytes) m h (omega arith)) in
     drop_all ((length bytes / m) * m) bytes (omega (arith, full, once))
 
+-- Fewer bytes than the size of a piece make no whole piece.
 pub whole-none : (m : ℕ) (bytes : List ℕ) → length bytes < m → whole_pieces m bytes ≡ []
 whole-none m bytes less = ap (λ n. chunks m n bytes) (no_whole (length bytes) m less)
 
+-- Fewer bytes than the size of a piece are all left over.
 pub left-all : (m : ℕ) (bytes : List ℕ) → length bytes < m → left_over m bytes ≡ bytes
 left-all m bytes less =
     let none : (length bytes / m) * m ≡ 0 = ap (λ n. n * m) (no_whole (length bytes) m less) ∙ omega arith in
     ap (λ n. drop n bytes) none
 
+-- What is left over is shorter than a piece.
 pub left_short : (m : ℕ) (bytes : List ℕ) → 1 ≤ m → length (left_over m bytes) < m
 left_short m bytes h = omega (arith, whole_next m (length bytes) h, length-drop ((length bytes / m) * m) bytes)
 
@@ -152,6 +163,7 @@ pub record ArePieces (bytes : List ℕ) (parts : List (List ℕ)) : Type 0 where
   pub joined : flat_map (λ part. part) parts ≡ bytes
   pub some : AllByRecursion (λ part. 1 ≤ length part) parts
 
+-- The pieces of a body are not empty, and join to the body.
 pub pieces_are : (m : ℕ) (bytes : List ℕ) → 1 ≤ m → ArePieces bytes (pieces m bytes)
 pieces_are m bytes h =
     let n = cut_count m true (length bytes) in
@@ -170,7 +182,8 @@ rest_of : (m : ℕ) (before content : List ℕ) → 1 ≤ m → left_over m befo
 rest_of m before content h = sym (drop-append-le ((length before / m) * m) before content (whole_fits m (length before) h))
 
 -- how many are cut off what is left over and more bytes
-count_of_rest : (m : ℕ) (ends : Bool) (before content : List ℕ) → 1 ≤ m → cut_count m ends (length (before ++ content)) ≡ length before / m + cut_count m ends (length (left_over m before ++ content))
+count_of_rest : (m : ℕ) (ends : Bool) (before content : List ℕ) → 1 ≤ m
+    → cut_count m ends (length (before ++ content)) ≡ length before / m + cut_count m ends (length (left_over m before ++ content))
 count_of_rest m ends before content h =
     let a = length before / m in
     let all = before ++ content in
@@ -179,14 +192,16 @@ count_of_rest m ends before content h =
     count-after m ends a (length all) h (omega (arith, fits, length-append before content)) ∙ ap (λ n. a + cut_count m ends n) (sym rest)
 
 -- Pieces are cut off some bytes, and then off what is left over with more bytes: the pieces of all these bytes.
-pub given_after : (m : ℕ) (ends : Bool) (before content : List ℕ) → 1 ≤ m → whole_pieces m before ++ pieces_given m ends (left_over m before ++ content) ≡ pieces_given m ends (before ++ content)
+pub given_after : (m : ℕ) (ends : Bool) (before content : List ℕ) → 1 ≤ m
+    → whole_pieces m before ++ pieces_given m ends (left_over m before ++ content) ≡ pieces_given m ends (before ++ content)
 given_after m ends before content h =
     let a = length before / m in
     let b = cut_count m ends (length (left_over m before ++ content)) in
     let all = before ++ content in
     sym (ap (λ n. chunks m n all) (count_of_rest m ends before content h)
     ∙ chunks-later m a b all
-    ∙ ap₂ (λ (ps qs : List (List ℕ)). ps ++ qs) (chunks-front m a before content (whole_fits m (length before) h)) (ap (chunks m b) (sym (rest_of m before content h))))
+    ∙ ap₂ (λ (ps qs : List (List ℕ)). ps ++ qs) (chunks-front m a before content (whole_fits m (length before) h))
+    (ap (chunks m b) (sym (rest_of m before content h))))
 
 -- what is left over then
 pub left-more : (m : ℕ) (before content : List ℕ) → 1 ≤ m → left_over m (left_over m before ++ content) ≡ left_over m (before ++ content)
@@ -198,7 +213,8 @@ left-more m before content h =
     ap (drop (b * m)) (rest_of m before content h) ∙ drop-drop (b * m) (a * m) all ∙ ap (λ n. drop n all) place
 
 -- the last bytes of two parts, where they are as many as are left over
-pub left_is : (m count : ℕ) (front back : List ℕ) → count ≡ (length front + length back) % m → drop ((length front + length back) - count) (front ++ back) ≡ left_over m (front ++ back)
+pub left_is : (m count : ℕ) (front back : List ℕ) → count ≡ (length front + length back) % m
+    → drop ((length front + length back) - count) (front ++ back) ≡ left_over m (front ++ back)
 left_is m count front back e =
     let all = front ++ back in
     let total : length front + length back ≡ length all = sym (length-append front back) in
@@ -215,13 +231,15 @@ short_take xs m =
     let same : min (length xs) m ≡ min m (length xs) = omega arith in
     ap (λ k. take k xs) same ∙ take_min m xs
 
+-- Dropping bytes, but no more than there are, drops the same.
 pub short_drop : (xs : List ℕ) (m : ℕ) → drop (min (length xs) m) xs ≡ drop m xs
 short_drop xs m =
     let same : min (length xs) m ≡ min m (length xs) = omega arith in
     ap (λ k. drop k xs) same ∙ drop_min m xs
 
 -- one piece more is taken off
-pub pieces-taken : {A : Type 0} (f : List ℕ → A) (m n : ℕ) (done : List A) (rest piece left : List ℕ) → 1 ≤ m → 1 ≤ length rest → n ≡ min (length rest) m → piece ≡ take n rest → left ≡ drop n rest → (done ++ f piece ∷ []) ++ map f (pieces m left) ≡ done ++ map f (pieces m rest)
+pub pieces-taken : {A : Type 0} (f : List ℕ → A) (m n : ℕ) (done : List A) (rest piece left : List ℕ) → 1 ≤ m → 1 ≤ length rest → n ≡ min (length rest) m
+    → piece ≡ take n rest → left ≡ drop n rest → (done ++ f piece ∷ []) ++ map f (pieces m left) ≡ done ++ map f (pieces m rest)
 pieces-taken f m n done rest piece left h some is piece_is left_is =
     let first : piece ≡ take m rest = piece_is ∙ ap (λ k. take k rest) is ∙ short_take rest m in
     let second : left ≡ drop m rest = left_is ∙ ap (λ k. drop k rest) is ∙ short_drop rest m in
@@ -230,5 +248,6 @@ pieces-taken f m n done rest piece left h some is piece_is left_is =
     ∙ ap (λ ps. done ++ map f ps) (sym (pieces-more m rest h some))
 
 -- nothing is left
-pub pieces-over : {A : Type 0} (f : List ℕ → A) (m : ℕ) (done all : List A) (rest : List ℕ) → 1 ≤ m → length rest ≡ 0 → done ++ map f (pieces m rest) ≡ all → done ≡ all
+pub pieces-over : {A : Type 0} (f : List ℕ → A) (m : ℕ) (done all : List A) (rest : List ℕ)
+    → 1 ≤ m → length rest ≡ 0 → done ++ map f (pieces m rest) ≡ all → done ≡ all
 pieces-over f m done all rest h none is = sym (ap (λ ps. done ++ map f ps) (given-nothing m true rest h none) ∙ append-nil done) ∙ is

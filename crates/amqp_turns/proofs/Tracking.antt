@@ -18,22 +18,34 @@ module _ {X : Type 0} (outline : X → FrameOutline) (max : ℕ) where
     pub mark_is : mark_of outline (step outline max state x).0 ≡ mark_after max (progress_of outline state) (outline x)
     pub progress_is : progress_of outline (step outline max state x).1 ≡ progress_after max (progress_of outline state) (outline x)
 
-  marked_method : (x : X) (channel class id : ℕ) (opens : Bool) → outline x ≡ outlines.Method channel class id → is_opening_id class id ≡ opens → IsStepMarked (At Nothing) x
+  marked_method : (x : X) (channel class id : ℕ) (opens : Bool) → outline x ≡ outlines.Method channel class id
+      → is_opening_id class id ≡ opens → IsStepMarked (At Nothing) x
   marked_method x channel class id true e opens = record { mark_is = rw e (rw opens (rw e refl)); progress_is = rw e (rw opens refl) }
   marked_method x channel class id false e opens = record { mark_is = rw e (rw opens refl); progress_is = rw e (rw opens refl) }
 
-  marked_header : (opening x : X) (channel class size : ℕ) (basic fits none : Bool) → outline x ≡ outlines.Header channel class size → eqb class 60 ≡ basic → leb size max ≡ fits → eqb 0 size ≡ none → IsStepMarked (At (Opened opening)) x
+  marked_header : (opening x : X) (channel class size : ℕ) (basic fits none : Bool) → outline x ≡ outlines.Header channel class size
+      → eqb class 60 ≡ basic → leb size max ≡ fits → eqb 0 size ≡ none → IsStepMarked (At (Opened opening)) x
   marked_header opening x channel class size false fits none e basic fit done = record { mark_is = rw e (rw basic refl); progress_is = rw e (rw basic refl) }
-  marked_header opening x channel class size true false none e basic fit done = record { mark_is = rw e (rw basic (rw fit refl)); progress_is = rw e (rw basic (rw fit refl)) }
-  marked_header opening x channel class size true true true e basic fit done = record { mark_is = rw e (rw basic (rw fit (rw e (rw done (rw e refl))))); progress_is = rw e (rw basic (rw fit (rw e (rw done refl)))) }
-  marked_header opening x channel class size true true false e basic fit done = record { mark_is = rw e (rw basic (rw fit (rw e (rw done (rw e refl))))); progress_is = rw e (rw basic (rw fit (rw e (rw done (rw e refl))))) }
+  marked_header opening x channel class size true false none e basic fit done =
+      record { mark_is = rw e (rw basic (rw fit refl)); progress_is = rw e (rw basic (rw fit refl)) }
+  marked_header opening x channel class size true true true e basic fit done =
+      record { mark_is = rw e (rw basic (rw fit (rw e (rw done (rw e refl))))); progress_is = rw e (rw basic (rw fit (rw e (rw done refl)))) }
+  marked_header opening x channel class size true true false e basic fit done =
+      record { mark_is = rw e (rw basic (rw fit (rw e (rw done (rw e refl))))); progress_is = rw e (rw basic (rw fit (rw e (rw done (rw e refl))))) }
 
-  marked_body : (opening header : X) (bodies : List X) (x : X) (channel count : ℕ) (fits all : Bool) → outline x ≡ outlines.Body channel count → leb (bytes_in outline bodies + count) (size_in (outline header)) ≡ fits → eqb (bytes_in outline bodies + count) (size_in (outline header)) ≡ all → IsStepMarked (At (Headed opening header bodies)) x
+  marked_body : (opening header : X) (bodies : List X) (x : X) (channel count : ℕ) (fits all : Bool)
+      → outline x ≡ outlines.Body channel count → leb (bytes_in outline bodies + count) (size_in (outline header)) ≡ fits
+      → eqb (bytes_in outline bodies + count) (size_in (outline header)) ≡ all → IsStepMarked (At (Headed opening header bodies)) x
   marked_body opening header bodies x channel count false all e fit done = record { mark_is = rw e (rw fit refl); progress_is = rw e (rw fit refl) }
-  marked_body opening header bodies x channel count true true e fit done = record { mark_is = rw e (rw fit (rw done (rw e refl))); progress_is = rw e (rw fit (rw done refl)) }
+  marked_body opening header bodies x channel count true true e fit done =
+      record { mark_is = rw e (rw fit (rw done (rw e refl))); progress_is = rw e (rw fit (rw done refl)) }
   marked_body opening header bodies x channel count true false e fit done =
-      let seen : bytes_in outline (bodies ++ x ∷ []) ≡ bytes_in outline bodies + count = bytes_in-push outline bodies x ∙ ap (λ o. bytes_in outline bodies + count_in o) e in
-      record { mark_is = rw e (rw fit (rw done (rw e refl))); progress_is = rw e (rw fit (rw done (ap (λ n. Some (kept.Headed (size_in (outline header)) n)) seen))) }
+      let seen : bytes_in outline (bodies ++ x ∷ []) ≡ bytes_in outline bodies + count =
+      bytes_in-push outline bodies x ∙ ap (λ o. bytes_in outline bodies + count_in o) e in
+      record {
+        mark_is = rw e (rw fit (rw done (rw e refl)));
+        progress_is = rw e (rw fit (rw done (ap (λ n. Some (kept.Headed (size_in (outline header)) n)) seen)));
+      }
 
   marked_at : (begun : Begun X) (x : X) (o : FrameOutline) → outline x ≡ o → is_content o ≡ true → IsStepMarked (At begun) x
   marked_at Nothing x (outlines.Method channel class id) e h = marked_method x channel class id (is_opening_id class id) e refl
@@ -42,14 +54,16 @@ module _ {X : Type 0} (outline : X → FrameOutline) (max : ℕ) where
   marked_at Nothing x outlines.ProtocolHeader e h = absurd cc
   marked_at Nothing x (outlines.Heartbeat channel) e h = absurd cc
   marked_at (Opened opening) x (outlines.Method channel class id) e h = record { mark_is = rw e refl; progress_is = rw e refl }
-  marked_at (Opened opening) x (outlines.Header channel class size) e h = marked_header opening x channel class size (eqb class 60) (leb size max) (eqb 0 size) e refl refl refl
+  marked_at (Opened opening) x (outlines.Header channel class size) e h =
+      marked_header opening x channel class size (eqb class 60) (leb size max) (eqb 0 size) e refl refl refl
   marked_at (Opened opening) x (outlines.Body channel count) e h = record { mark_is = rw e refl; progress_is = rw e refl }
   marked_at (Opened opening) x outlines.ProtocolHeader e h = absurd cc
   marked_at (Opened opening) x (outlines.Heartbeat channel) e h = absurd cc
   marked_at (Headed opening header bodies) x (outlines.Method channel class id) e h = record { mark_is = rw e refl; progress_is = rw e refl }
   marked_at (Headed opening header bodies) x (outlines.Header channel class size) e h = record { mark_is = rw e refl; progress_is = rw e refl }
   marked_at (Headed opening header bodies) x (outlines.Body channel count) e h =
-      marked_body opening header bodies x channel count (leb (bytes_in outline bodies + count) (size_in (outline header))) (eqb (bytes_in outline bodies + count) (size_in (outline header))) e refl refl
+      marked_body opening header bodies x channel count (leb (bytes_in outline bodies + count) (size_in (outline header)))
+      (eqb (bytes_in outline bodies + count) (size_in (outline header))) e refl refl
   marked_at (Headed opening header bodies) x outlines.ProtocolHeader e h = absurd cc
   marked_at (Headed opening header bodies) x (outlines.Heartbeat channel) e h = absurd cc
 
@@ -65,7 +79,8 @@ module _ {X : Type 0} (outline : X → FrameOutline) (max : ℕ) where
   step_marked_is Lost x h = marked_lost x (outline x) refl h
 
 -- a tracker that marks and keeps so keeps its promise
-pub tracks_step : (max : ℕ) (before after : Option Progress) (outline : FrameOutline) (mark : Mark) → is_content outline ≡ true → mark ≡ mark_after max before outline → after ≡ progress_marked before outline mark → Tracks max before after outline mark
+pub tracks_step : (max : ℕ) (before after : Option Progress) (outline : FrameOutline) (mark : Mark) → is_content outline ≡ true
+    → mark ≡ mark_after max before outline → after ≡ progress_marked before outline mark → Tracks max before after outline mark
 tracks_step max before after outline mark content is kept = record {
   marked = λ outlines h.
       let step = step_marked_is itself max h.state outline content in

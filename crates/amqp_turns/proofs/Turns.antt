@@ -13,14 +13,22 @@ use Rattle.amqp_turns.specs.InTurn.{greatest, AreInTurn, state_on}
 
 -- ---- what has come on a channel
 
-pub state_on-own : (earlier : List Frame) (frame : Frame) → is_content (outline_of frame) ≡ true → state_on (earlier ++ frame ∷ []) (channel_id_of frame) ≡ (step outline_of greatest (state_on earlier (channel_id_of frame)) frame).1
+-- One more frame of content is one step of its channel.
+pub state_on-own : (earlier : List Frame) (frame : Frame) → is_content (outline_of frame) ≡ true
+    → state_on (earlier ++ frame ∷ []) (channel_id_of frame) ≡ (step outline_of greatest (state_on earlier (channel_id_of frame)) frame).1
 state_on-own earlier frame h =
-    ap (run_state outline_of greatest (At Nothing)) (of_channel-in (channel_id_of frame) earlier frame (of_own frame h)) ∙ run_state-append outline_of greatest (At Nothing) (of_channel outline_of (channel_id_of frame) earlier) (frame ∷ [])
+    ap (run_state outline_of greatest (At Nothing)) (of_channel-in (channel_id_of frame) earlier frame (of_own frame h))
+    ∙ run_state-append outline_of greatest (At Nothing) (of_channel outline_of (channel_id_of frame) earlier) (frame ∷ [])
 
-pub state_on-other : (earlier : List Frame) (frame : Frame) (channel : ℕ) → channel ≢ channel_id_of frame → state_on (earlier ++ frame ∷ []) channel ≡ state_on earlier channel
-state_on-other earlier frame channel apart = ap (run_state outline_of greatest (At Nothing)) (of_channel-out channel earlier frame (of_other channel frame apart))
+-- One more frame leaves what has come on other channels.
+pub state_on-other : (earlier : List Frame) (frame : Frame) (channel : ℕ)
+    → channel ≢ channel_id_of frame → state_on (earlier ++ frame ∷ []) channel ≡ state_on earlier channel
+state_on-other earlier frame channel apart =
+    ap (run_state outline_of greatest (At Nothing)) (of_channel-out channel earlier frame (of_other channel frame apart))
 
-pub state_on-outside : (earlier : List Frame) (frame : Frame) (channel : ℕ) → is_content (outline_of frame) ≡ false → state_on (earlier ++ frame ∷ []) channel ≡ state_on earlier channel
+-- One more frame that is no content leaves what has come on each channel.
+pub state_on-outside : (earlier : List Frame) (frame : Frame) (channel : ℕ)
+    → is_content (outline_of frame) ≡ false → state_on (earlier ++ frame ∷ []) channel ≡ state_on earlier channel
 state_on-outside earlier frame channel h = ap (run_state outline_of greatest (At Nothing)) (of_channel-out channel earlier frame (of_none channel frame h))
 
 -- a state in turn is what has begun
@@ -29,10 +37,12 @@ pub record IsAt (now : State Frame) : Type 0 where
   pub is : now ≡ At begun
   pub is_begun : IsBegun outline_of greatest begun
 
-at_reading : (begun : Begun Frame) (rest : List Frame) (now : State Frame) → IsBegun outline_of greatest begun → now ≡ state_after begun rest → now ≢ Lost → IsAt now
+at_reading : (begun : Begun Frame) (rest : List Frame) (now : State Frame)
+    → IsBegun outline_of greatest begun → now ≡ state_after begun rest → now ≢ Lost → IsAt now
 at_reading begun [] now h e turn = record { begun = begun; is = e; is_begun = h }
 at_reading begun (frame ∷ rest) now h e turn = absurd (turn e)
 
+-- A channel that no fault has come on is at a begun unit, or between units.
 pub begun_on : (frames : List Frame) (channel : ℕ) → state_on frames channel ≢ Lost → IsAt (state_on frames channel)
 begun_on frames channel turn =
     let stands = run_stands outline_of greatest (of_channel outline_of channel frames) in
@@ -40,7 +50,8 @@ begun_on frames channel turn =
 
 -- ---- in turn
 
-turn_at : (max : ℕ) (xs : List Frame) (reading : Reading outline_of max xs) (rest : List Frame) → reading.rest ≡ rest → state_after reading.begun rest ≢ Lost → IsInTurn outline_of max xs
+turn_at : (max : ℕ) (xs : List Frame) (reading : Reading outline_of max xs) (rest : List Frame)
+    → reading.rest ≡ rest → state_after reading.begun rest ≢ Lost → IsInTurn outline_of max xs
 turn_at max xs reading [] e turn = record {
   units = reading.units;
   begun = reading.begun;
@@ -50,22 +61,26 @@ turn_at max xs reading [] e turn = record {
 }
 turn_at max xs reading (frame ∷ rest) e turn = absurd (turn refl)
 
+-- Frames by which no channel has a fault are in turn.
 pub are_in_turn : (frames : List Frame) → ((channel : ℕ) → state_on frames channel ≢ Lost) → AreInTurn frames
 are_in_turn frames turn channel =
     let xs = of_channel outline_of channel frames in
     let stands = run_stands outline_of greatest xs in
     turn_at greatest xs stands.reading stands.reading.rest refl (λ lost. turn channel (stands.is ∙ lost))
 
+-- After frames in turn no channel has a fault.
 pub none_lost : (frames : List Frame) (channel : ℕ) → AreInTurn frames → state_on frames channel ≢ Lost
 none_lost frames channel turn lost =
     let h = turn channel in
-    let at : state_on frames channel ≡ At h.begun = ap (run_state outline_of greatest (At Nothing)) h.are ∙ (turn_runs outline_of greatest h.units h.begun h.finished h.is_begun).state_is in
+    let at : state_on frames channel ≡ At h.begun =
+    ap (run_state outline_of greatest (At Nothing)) h.are ∙ (turn_runs outline_of greatest h.units h.begun h.finished h.is_begun).state_is in
     absurd cc
 
 lost_stays : (frames : List Frame) → run_state outline_of greatest Lost frames ≡ Lost
 lost_stays [] = refl
 lost_stays (frame ∷ frames) = lost_stays frames
 
+-- A channel that has a fault has it after more frames too.
 pub lost_later : (front back : List Frame) (channel : ℕ) → state_on front channel ≡ Lost → state_on (front ++ back) channel ≡ Lost
 lost_later front back channel lost =
     ap (run_state outline_of greatest (At Nothing)) (filter-append (is_of_channel outline_of channel) front back)
@@ -74,7 +89,8 @@ lost_later front back channel lost =
     ∙ lost_stays (of_channel outline_of channel back)
 
 -- a prefix ends before a frame, or has it
-pub before_or_with : (front : List Frame) (next : Frame) (more other back : List Frame) → front ++ next ∷ more ≡ other ++ back → (length other ≤ length front) ⊎ ((middle : List Frame) × (other ≡ (front ++ next ∷ []) ++ middle))
+pub before_or_with : (front : List Frame) (next : Frame) (more other back : List Frame) → front ++ next ∷ more ≡ other ++ back
+    → (length other ≤ length front) ⊎ ((middle : List Frame) × (other ≡ (front ++ next ∷ []) ++ middle))
 before_or_with front next more [] back e = inl (omega arith)
 before_or_with [] next more (f ∷ fs) back e = inr (fs, cc)
 before_or_with (g ∷ gs) next more (f ∷ fs) back e =
@@ -82,6 +98,7 @@ before_or_with (g ∷ gs) next more (f ∷ fs) back e =
     let heads : g ≡ f = cc in
     on heads (before_or_with gs next more fs back tails)
   where
-    on : g ≡ f → (length fs ≤ length gs) ⊎ ((middle : List Frame) × (fs ≡ (gs ++ next ∷ []) ++ middle)) → (length (f ∷ fs) ≤ length (g ∷ gs)) ⊎ ((middle : List Frame) × (f ∷ fs ≡ ((g ∷ gs) ++ next ∷ []) ++ middle))
+    on : g ≡ f → (length fs ≤ length gs) ⊎ ((middle : List Frame) × (fs ≡ (gs ++ next ∷ []) ++ middle))
+        → (length (f ∷ fs) ≤ length (g ∷ gs)) ⊎ ((middle : List Frame) × (f ∷ fs ≡ ((g ∷ gs) ++ next ∷ []) ++ middle))
     on same (inl short) = inl (omega arith)
     on same (inr found) = inr (found.0, cc)

@@ -17,4 +17,6 @@ module _ (T : RattleType) where
 
   -- the channel has the last value written through r, and at `None` all stays as it is
   abbrev pub lends_value : MutBor (List (ℕ × T.Denot)) → ℕ → Option (MutBor T.Denot) → Fml
-  lends_value s channel r = LendsSo (channels.the_row T) T s r (λ n w. n ≡ set_value (is_at (nat_cmp channel)) s.now w) (λ n. n ≡ s.now)
+  lends_value s channel r =
+      LendsSo (channels.the_row T) T s r
+      (λ n w. n ≡ set_value (is_at (nat_cmp channel)) s.now w) (λ n. n ≡ s.now)

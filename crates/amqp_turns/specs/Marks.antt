@@ -1,5 +1,6 @@
 -- What a tracker marks frames with, and what it keeps of a channel.
-use Rattle.std.specs.Prelude.{◌≡◌, ℕ, ◌+◌, List, Option, Some, None, ◌++◌, [], ◌∷◌, Bool, true, false}
+use Rattle.std.specs.Prelude.{◌≡◌, ℕ, ◌+◌, List, Option, Some, None}
+use Rattle.std.specs.Prelude.{◌++◌, [], ◌∷◌, Bool, true, false}
 use Rattle.amqp_wire.specs.declared.outline.FrameOutline.{FrameOutline}
 use Rattle.amqp_wire.specs.declared.outline.FrameOutline.TheVariants as outlines
 use Rattle.amqp_wire.specs.Outlines.{outline_channel}
@@ -15,11 +16,13 @@ use Rattle.amqp_turns.specs.Stands.{State, At, Lost, Stands, kept_at}
 abbrev pub itself : FrameOutline → FrameOutline
 itself outline = outline
 
--- of a begun unit: whether its content header has come, and then the size in it and how many body bytes have
+-- of a begun unit: whether its content header has come, and then the size in it and how many
+-- body bytes have
 abbrev pub begun_progress : {X : Type 0} → (X → FrameOutline) → Begun X → Option Progress
 begun_progress outline Nothing = None
 begun_progress outline (Opened opening) = Some kept.Opened
-begun_progress outline (Headed opening header bodies) = Some (kept.Headed (size_in (outline header)) (bytes_in outline bodies))
+begun_progress outline (Headed opening header bodies) =
+    Some (kept.Headed (size_in (outline header)) (bytes_in outline bodies))
 
 -- the same of a state; that a fault has come is kept too
 abbrev pub progress_of : {X : Type 0} → (X → FrameOutline) → State X → Option Progress
@@ -38,7 +41,8 @@ begun_size outline Nothing = 0
 begun_size outline (Opened opening) = 0
 begun_size outline (Headed opening header bodies) = size_in (outline header)
 
--- a frame of a message by its kind, and a body with the number of body bytes before and after it and the size of all
+-- a frame of a message by its kind, and a body with the number of body bytes before and after it
+-- and the size of all
 abbrev pub mark_in : ℕ → ℕ → FrameOutline → Mark
 mark_in before size (outlines.Method channel class id) = marks.Opening
 mark_in before size (outlines.Header channel class n) = marks.Header
@@ -49,17 +53,21 @@ mark_in before size (outlines.Heartbeat channel) = marks.Passed
 -- the mark of a frame by its outcome
 abbrev pub mark_of : {X : Type 0} → (X → FrameOutline) → Answer X → Mark
 mark_of outline (Alone x) = marks.Passed
-mark_of outline (Within begun x) = mark_in (begun_bytes outline begun) (begun_size outline begun) (outline x)
-mark_of outline (Ends begun x) = mark_in (begun_bytes outline begun) (begun_size outline begun) (outline x)
+mark_of outline (Within begun x) =
+    mark_in (begun_bytes outline begun) (begun_size outline begun) (outline x)
+mark_of outline (Ends begun x) =
+    mark_in (begun_bytes outline begun) (begun_size outline begun) (outline x)
 mark_of outline (Wrong fault) = marks.Fault fault
 
--- a tracker as callers see it: the greatest size of a body, and what is kept of each channel of which something is
+-- a tracker as callers see it: the greatest size of a body, and what is kept of each channel of
+-- which something is
 pub record Tracked : Type 0 where
   pub max_body : ℕ
   pub channels : List (ℕ × Progress)
 
 -- what a tracker keeps of a channel stands for these outlines
-pub record TrackerStands (max : ℕ) (outlines : List FrameOutline) (progress : Option Progress) : Type 0 where
+pub record TrackerStands (max : ℕ) (outlines : List FrameOutline)
+    (progress : Option Progress) : Type 0 where
   pub state : State FrameOutline
   pub stands : Stands itself max outlines state
   pub is : progress ≡ progress_of itself state
@@ -71,13 +79,18 @@ pub record IsMarked (max : ℕ) (outlines : List FrameOutline) (mark : Mark) : T
   pub is : mark ≡ mark_of itself answer
 
 -- what a tracker keeps of a channel whose frames these are, and the mark of one more frame
-pub record Tracks (max : ℕ) (before after : Option Progress) (outline : FrameOutline) (mark : Mark) : Type 0 where
-  pub marked : (outlines : List FrameOutline) → TrackerStands max outlines before → IsMarked max (outlines ++ outline ∷ []) mark
-  pub stands : (outlines : List FrameOutline) → TrackerStands max outlines before → TrackerStands max (outlines ++ outline ∷ []) after
+pub record Tracks (max : ℕ) (before after : Option Progress)
+    (outline : FrameOutline) (mark : Mark) : Type 0 where
+  pub marked : (outlines : List FrameOutline) → TrackerStands max outlines before
+      → IsMarked max (outlines ++ outline ∷ []) mark
+  pub stands : (outlines : List FrameOutline) → TrackerStands max outlines before
+      → TrackerStands max (outlines ++ outline ∷ []) after
 
 -- the same of the channel of an outline
 abbrev pub TracksIn : Tracked → Tracked → FrameOutline → Mark → Type 0
-TracksIn old new outline mark = Tracks old.max_body (kept_at old.channels (outline_channel outline)) (kept_at new.channels (outline_channel outline)) outline mark
+TracksIn old new outline mark =
+    Tracks old.max_body (kept_at old.channels (outline_channel outline))
+    (kept_at new.channels (outline_channel outline)) outline mark
 
 -- a begun unit, and not a fault
 abbrev pub is_begun : Progress → Bool

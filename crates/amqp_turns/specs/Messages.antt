@@ -7,7 +7,8 @@ use Rattle.amqp_types.specs.ContentHeaders.{ContentHeader}
 use Rattle.amqp_wire.specs.Frames.{Frame, Proto, Meth, Head, Body, Beat, BadBeat, channel_id_of}
 use Rattle.amqp_turns.specs.Units.{Begun, Nothing, Opened, Headed}
 
--- what a message says, in the words of its frames: its channel, its opening, the properties in its content header, and its body
+-- what a message says, in the words of its frames: its channel, its opening, the properties in its
+-- content header, and its body
 pub record Content : Type 0 where
   pub channel : ℕ
   pub opening : Method
@@ -53,8 +54,14 @@ joined frames = flat_map bytes_of frames
 
 -- the message that a frame ends, by what had begun before it
 abbrev pub content_with : Begun Frame → Frame → Content
-content_with Nothing frame = record { channel = channel_id_of frame; opening = method_in frame; properties = []; body = [] }
-content_with (Opened opening) frame = record { channel = channel_id_of frame; opening = method_in opening; properties = (header_in frame).options; body = [] }
+content_with Nothing frame =
+    record { channel = channel_id_of frame; opening = method_in frame; properties = []; body = [] }
+content_with (Opened opening) frame = record {
+  channel = channel_id_of frame;
+  opening = method_in opening;
+  properties = (header_in frame).options;
+  body = [];
+}
 content_with (Headed opening header bodies) frame = record {
   channel = channel_id_of frame;
   opening = method_in opening;

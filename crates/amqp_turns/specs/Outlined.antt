@@ -10,7 +10,8 @@ module _ {X : Type 0} (outline : X → FrameOutline) where
   abbrev pub outlined_begun : Begun X → Begun FrameOutline
   outlined_begun Nothing = Nothing
   outlined_begun (Opened opening) = Opened (outline opening)
-  outlined_begun (Headed opening header bodies) = Headed (outline opening) (outline header) (map outline bodies)
+  outlined_begun (Headed opening header bodies) =
+      Headed (outline opening) (outline header) (map outline bodies)
 
   -- an outcome with the outlines in the place of the frames
   abbrev pub outlined : Answer X → Answer FrameOutline

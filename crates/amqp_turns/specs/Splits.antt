@@ -1,5 +1,6 @@
 -- A body, cut into pieces.
-use Rattle.std.specs.Prelude.{ℕ, zero, suc, ◌+◌, ◌-◌, ◌*◌, ◌/◌, Bool, true, false, List, [], ◌∷◌, map, take, drop, length}
+use Rattle.std.specs.Prelude.{ℕ, zero, suc, ◌+◌, ◌-◌, ◌*◌, ◌/◌, Bool, true, false, List}
+use Rattle.std.specs.Prelude.{[], ◌∷◌, map, take, drop, length}
 use Rattle.amqp_wire.specs.Frames.{Frame, Body}
 
 -- the first n chunks of some bytes: m bytes each, or as many as are left
@@ -7,7 +8,8 @@ abbrev pub chunks : ℕ → ℕ → List ℕ → List (List ℕ)
 chunks m zero bytes = []
 chunks m (suc n) bytes = take m bytes ∷ chunks m n (drop m bytes)
 
--- How many pieces of m bytes are cut off n bytes: at the end of a body all, of which the last may be shorter, and else those of the whole size.
+-- How many pieces of m bytes are cut off n bytes: at the end of a body all, of which the last may
+-- be shorter, and else those of the whole size.
 abbrev pub cut_count : ℕ → Bool → ℕ → ℕ
 cut_count m true n = (n + (m - 1)) / m
 cut_count m false n = n / m

@@ -16,8 +16,10 @@ abbrev pub state_after : {X : Type 0} → Begun X → List X → State X
 state_after begun [] = At begun
 state_after begun (x ∷ xs) = Lost
 
--- the state that stands for frames of one channel: the begun unit at the end of their longest prefix in turn, or a fault where more follows it
-pub record Stands {X : Type 0} (outline : X → FrameOutline) (max : ℕ) (xs : List X) (state : State X) : Type 0 where
+-- the state that stands for frames of one channel: the begun unit at the end of their longest
+-- prefix in turn, or a fault where more follows it
+pub record Stands {X : Type 0} (outline : X → FrameOutline)
+    (max : ℕ) (xs : List X) (state : State X) : Type 0 where
   pub reading : Reading outline max xs
   pub is : state ≡ state_after reading.begun reading.rest
 
@@ -27,4 +29,5 @@ kept_at entries channel = lookup (is_at (nat_cmp channel)) entries
 
 -- of all channels but one is kept what was
 abbrev pub OthersStay : {K : Type 0} → ℕ → List (ℕ × K) → List (ℕ × K) → Type 0
-OthersStay channel before after = (other : ℕ) → other ≢ channel → kept_at after other ≡ kept_at before other
+OthersStay channel before after =
+    (other : ℕ) → other ≢ channel → kept_at after other ≡ kept_at before other

@@ -1,5 +1,7 @@
--- The units of a channel's content (AMQP 0-9-1, section 4.2.6): methods that stand alone, and messages, each an opening, a content header and bodies.
-use Rattle.std.specs.Prelude.{◌≡◌, ℕ, ◌+◌, ◌<◌, ◌≤◌, ◌==◌, ◌&&◌, ◌||◌, Bool, true, false, IsTrue, List, [], ◌∷◌, ◌++◌, length}
+-- The units of a channel's content (AMQP 0-9-1, section 4.2.6): methods that stand alone, and
+-- messages, each an opening, a content header and bodies.
+use Rattle.std.specs.Prelude.{◌≡◌, ℕ, ◌+◌, ◌<◌, ◌≤◌, ◌==◌, ◌&&◌, ◌||◌, Bool, true, false}
+use Rattle.std.specs.Prelude.{IsTrue, List, [], ◌∷◌, ◌++◌, length}
 use Rattle.std.specs.List.{AllByRecursion, flat_map, filter}
 use Rattle.amqp_wire.specs.declared.outline.FrameOutline.{FrameOutline}
 use Rattle.amqp_wire.specs.declared.outline.FrameOutline.TheVariants as outlines
@@ -15,7 +17,8 @@ is_content (outlines.Header channel class size) = true
 is_content (outlines.Body channel count) = true
 is_content (outlines.Heartbeat channel) = false
 
--- basic Publish, Return, Deliver and GetOk (class 60, methods 40, 50, 60 and 71): a content header has to follow them
+-- basic Publish, Return, Deliver and GetOk (class 60, methods 40, 50, 60 and 71): a content header
+-- has to follow them
 abbrev pub is_opening_id : ℕ → ℕ → Bool
 is_opening_id class id = (class == 60) && ((id == 40) || ((id == 50) || ((id == 60) || (id == 71))))
 
@@ -111,20 +114,25 @@ module _ {X : Type 0} (outline : X → FrameOutline) where
   bytes_in [] = 0
   bytes_in (x ∷ xs) = count_in (outline x) + bytes_in xs
 
-  -- What has begun: nothing; an opening; or an opening, a content header of the class basic and of a size up to the greatest, and bodies
-  -- of fewer bytes than that.
+  -- What has begun: nothing; an opening; or an opening, a content header of the class basic and of
+  -- a size up to the greatest, and bodies of fewer bytes than that.
   abbrev pub IsBegun : ℕ → Begun X → Type 0
   IsBegun max Nothing = Unit {0}
   IsBegun max (Opened opening) = IsOpening (outline opening)
   IsBegun max (Headed opening header bodies) =
-      IsOpening (outline opening) × IsBasicHeader (outline header) × (size_in (outline header) ≤ max) × AllByRecursion (λ x. IsBody (outline x)) bodies × (bytes_in bodies < size_in (outline header))
+      IsOpening (outline opening) × IsBasicHeader (outline header)
+      × (size_in (outline header) ≤ max) × AllByRecursion (λ x. IsBody (outline x)) bodies
+      × (bytes_in bodies < size_in (outline header))
 
-  -- What is finished: a method that opens no message; or a message, whose bodies add up to its size, and all but the last to less.
+  -- What is finished: a method that opens no message; or a message, whose bodies add up to its
+  -- size, and all but the last to less.
   abbrev pub IsFinished : ℕ → Finished X → Type 0
   IsFinished max (Lone method) = IsOtherMethod (outline method)
-  IsFinished max (Empty opening header) = IsOpening (outline opening) × IsBasicHeader (outline header) × (size_in (outline header) ≡ 0)
+  IsFinished max (Empty opening header) =
+      IsOpening (outline opening) × IsBasicHeader (outline header) × (size_in (outline header) ≡ 0)
   IsFinished max (Full opening header bodies last) =
-      IsBegun max (Headed opening header bodies) × IsBody (outline last) × (bytes_in bodies + count_in (outline last) ≡ size_in (outline header))
+      IsBegun max (Headed opening header bodies) × IsBody (outline last)
+      × (bytes_in bodies + count_in (outline last) ≡ size_in (outline header))
 
   -- frames that are finished units and at most one begun unit
   pub record IsInTurn (max : ℕ) (xs : List X) : Type 0 where
@@ -142,4 +150,5 @@ module _ {X : Type 0} (outline : X → FrameOutline) where
     pub finished : AllByRecursion (IsFinished max) units
     pub is_begun : IsBegun max begun
     pub are : xs ≡ frames_in units begun ++ rest
-    pub longest : (front back : List X) → xs ≡ front ++ back → IsInTurn max front → length front ≤ length (frames_in units begun)
+    pub longest : (front back : List X) → xs ≡ front ++ back
+        → IsInTurn max front → length front ≤ length (frames_in units begun)

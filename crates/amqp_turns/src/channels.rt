@@ -1,6 +1,7 @@
 //! A value for each channel that has one, by a map with the entry used last apart.
 
-ghost use Rattle.std.specs.Prelude.{◌≡◌, ◌≢◌, ◌==◌, ℕ, [], Some, None, OnOk, OnErr, false, length, count_by, Bool};
+ghost use Rattle.std.specs.Prelude.{◌≡◌, ◌≢◌, ◌==◌, ℕ, [], Some, None, OnOk, OnErr};
+ghost use Rattle.std.specs.Prelude.{false, length, count_by, Bool};
 ghost use Rattle.std.specs.Fn.{FnReturnsAt};
 ghost use Rattle.std.specs.Option.{option_copied, option_copied_mut, option_map};
 ghost use Rattle.std.specs.Borrow.{sem};
@@ -123,10 +124,14 @@ fn insert_beside<T: Drop>(
     value: T,
 ) -> Result<(), NoMemory>
     requires other { is_of last.old channel_id ≡ false }
-    ensures kept { OnOk result (kept_at (with_last last.new others.new.entries) channel_id ≡ Some value) }
-    ensures others { OthersStay channel_id (with_last last.old others.old.entries) (with_last last.new others.new.entries) }
-    ensures absent { OnErr result (kept_at (with_last last.old others.old.entries) channel_id ≡ None) }
-    ensures err { OnErr result (with_last last.new others.new.entries ≡ with_last last.old others.old.entries) }
+    ensures kept { OnOk result
+        (kept_at (with_last last.new others.new.entries) channel_id ≡ Some value) }
+    ensures others { OthersStay channel_id (with_last last.old others.old.entries)
+        (with_last last.new others.new.entries) }
+    ensures absent { OnErr result
+        (kept_at (with_last last.old others.old.entries) channel_id ≡ None) }
+    ensures err { OnErr result
+        (with_last last.new others.new.entries ≡ with_last last.old others.old.entries) }
     ensures apart { IsApart last.old others.old.entries → IsApart last.new others.new.entries }
 {
     match others.get_mut(&channel_id) {
@@ -185,7 +190,10 @@ impl<T: Drop> Channels<T> {
     /// The number of channels whose value passes a test.
     pub fn count<F: Fn(&T) -> bool>(&self, test: F) -> usize
         requires { F.IsAlwaysCallable test }
-        ensures number { (passes : T → Bool) → ((value : T) (answer : Bool) → FnReturnsAt F.Fn test value answer → answer ≡ passes value) → result ≡ count_by passes (values_of self.now) }
+        ensures number { (passes : T → Bool)
+            → ((value : T) (answer : Bool)
+            → FnReturnsAt F.Fn test value answer → answer ≡ passes value)
+            → result ≡ count_by passes (values_of self.now) }
         ensures each_once { IsStrictlySortedBy nat_cmp (keys_of self.now) }
     {
         let mut count = match &self.last {

@@ -1,7 +1,8 @@
 //! How far the message of a channel has come.
 
 ghost use Rattle.std.specs.Prelude.{◌≡◌, IsTrue};
-ghost use Rattle.amqp_turns.specs.Steps.{mark_after, header_mark, body_mark, method_mark, headed_progress, progress_marked, progress_after};
+ghost use Rattle.amqp_turns.specs.Steps.{mark_after, header_mark, body_mark, method_mark};
+ghost use Rattle.amqp_turns.specs.Steps.{headed_progress, progress_marked, progress_after};
 ghost use Rattle.amqp_turns.specs.Marks.{Tracks, is_begun};
 ghost use Rattle.amqp_turns.specs.Units.{is_content, is_opening_id, size_in};
 
@@ -166,7 +167,8 @@ pub fn step(
 ) -> (Mark, Option<Progress>)
     ensures mark { result.0 ≡ mark_after max_body progress outline }
     ensures progress { result.1 ≡ progress_after max_body progress outline }
-    ensures tracks { IsTrue (is_content outline) → Tracks max_body progress result.1 outline result.0 }
+    ensures tracks { IsTrue (is_content outline)
+        → Tracks max_body progress result.1 outline result.0 }
 {
     let mark = mark(max_body, progress, outline);
     (mark, progress_after_mark(progress, outline, mark))

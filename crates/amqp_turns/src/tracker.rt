@@ -1,6 +1,7 @@
 //! Marks on frames of many channels, by numbers alone: no body is kept.
 
-ghost use Rattle.std.specs.Prelude.{◌≡◌, ℕ, [], None, Ok, IfOk, OnOk, OnErr, IsTrue, count_by, false};
+ghost use Rattle.std.specs.Prelude.{◌≡◌, ℕ, [], None, Ok, IfOk, OnOk};
+ghost use Rattle.std.specs.Prelude.{OnErr, IsTrue, count_by, false};
 ghost use Rattle.std.specs.Ordering.{nat_cmp};
 ghost use Rattle.std.specs.Map.{keys_of, values_of};
 ghost use Rattle.std.specs.List.Sorted.{IsStrictlySortedBy};
@@ -38,7 +39,8 @@ impl Tracker {
     pub fn open(alloc: Global, max_body: u64) -> Tracker
         ensures max_body { result.max_body ≡ max_body }
         ensures channels { result.channels ≡ [] }
-        ensures stands { (channel : ℕ) → TrackerStands max_body [] (kept_at result.channels channel) }
+        ensures stands { (channel : ℕ)
+            → TrackerStands max_body [] (kept_at result.channels channel) }
     {
         Tracker {
             max_body,
@@ -73,8 +75,10 @@ impl Tracker {
     /// Marks a frame by its outline, and goes on to the channel's state after it. Memory may run out only where nothing
     /// is kept of the channel, and all channels are as before.
     pub fn track_outline(&mut self, outline: FrameOutline) -> Result<Mark, NoMemory>
-        ensures outside { is_content outline ≡ false → (result ≡ Ok Mark.Passed) × (self.new ≡ self.old) }
-        ensures tracks { IsTrue (is_content outline) → IfOk result (TracksIn self.old self.new outline) }
+        ensures outside { is_content outline ≡ false
+            → (result ≡ Ok Mark.Passed) × (self.new ≡ self.old) }
+        ensures tracks { IsTrue (is_content outline)
+            → IfOk result (TracksIn self.old self.new outline) }
         ensures others { OthersStay (outline_channel outline) self.old.channels self.new.channels }
         ensures max_body { self.new.max_body ≡ self.old.max_body }
         ensures absent { OnErr result (kept_at self.old.channels (outline_channel outline) ≡ None) }
@@ -92,11 +96,15 @@ impl Tracker {
     /// run out only where nothing is kept of its channel, and all channels are as before.
     pub fn track<F: HasOutline>(&mut self, frame: F) -> Result<Mark, NoMemory>
         requires { F.is_whole frame }
-        ensures outside { is_content (F.meaning frame) ≡ false → (result ≡ Ok Mark.Passed) × (self.new ≡ self.old) }
-        ensures tracks { IsTrue (is_content (F.meaning frame)) → IfOk result (TracksIn self.old self.new (F.meaning frame)) }
-        ensures others { OthersStay (outline_channel (F.meaning frame)) self.old.channels self.new.channels }
+        ensures outside { is_content (F.meaning frame) ≡ false
+            → (result ≡ Ok Mark.Passed) × (self.new ≡ self.old) }
+        ensures tracks { IsTrue (is_content (F.meaning frame))
+            → IfOk result (TracksIn self.old self.new (F.meaning frame)) }
+        ensures others { OthersStay (outline_channel (F.meaning frame))
+            self.old.channels self.new.channels }
         ensures max_body { self.new.max_body ≡ self.old.max_body }
-        ensures absent { OnErr result (kept_at self.old.channels (outline_channel (F.meaning frame)) ≡ None) }
+        ensures absent { OnErr result
+            (kept_at self.old.channels (outline_channel (F.meaning frame)) ≡ None) }
         ensures err { OnErr result (self.new ≡ self.old) }
     {
         self.track_outline(frame.to_outline())

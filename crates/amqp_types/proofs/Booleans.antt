@@ -13,7 +13,8 @@ boolean_of b false e = elim (cases_eq b 0) [
   | inr other ↦ absurd (let h = rw (ne_eqb b 0 other) at e in cc)
 ]
 
-boolean_spelled : (bytes : List ℕ) (x : Bool) (n : ℕ) → IsBytes bytes → judge_boolean bytes ≡ took x n → SpellsBoolean plain (take n bytes) x × (n ≤ length bytes)
+boolean_spelled : (bytes : List ℕ) (x : Bool) (n : ℕ) → IsBytes bytes
+    → judge_boolean bytes ≡ took x n → SpellsBoolean plain (take n bytes) x × (n ≤ length bytes)
 boolean_spelled [] x n fits e = absurd cc
 boolean_spelled (b ∷ bytes) x n fits e =
     let one : 1 ≡ n = cc in
@@ -40,6 +41,7 @@ tidy_is_plain : (bytes : List ℕ) (b : Bool) → SpellsBoolean tidy bytes b →
 tidy_is_plain bytes true h = h
 tidy_is_plain bytes false h = h
 
+-- Decoding truth values is exact, the canonical byte is the one strict encoding and a shortest one, and each level is within the one before.
 pub boolean_laws : BooleansSpell
 boolean_laws = record {
   exact = record { spelled = boolean_spelled; taken = boolean_taken };

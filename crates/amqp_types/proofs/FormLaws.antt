@@ -1,5 +1,6 @@
 -- The laws of numbers, strings and flags.
-use Rattle.std.proofs.Common.{◌≡◌, ℕ, zero, suc, ℤ, ◌+◌, ◌*◌, ◌/◌, ◌%◌, ◌^◌, ◌<◌, ◌≤◌, eqb, Bool, true, false, List, [], ◌∷◌, ◌++◌, length, refl, sym, ap, ap₂, subst, ◌∙◌, arith, inl, inr}
+use Rattle.std.proofs.Common.{◌≡◌, ℕ, zero, suc, ℤ, ◌+◌, ◌*◌, ◌/◌, ◌%◌, ◌^◌, ◌<◌, ◌≤◌, eqb, Bool, true, false, List, [], ◌∷◌, ◌++◌, length, refl, sym, ap}
+use Rattle.std.proofs.Common.{ap₂, subst, ◌∙◌, arith, inl, inr}
 use Rattle.std.proofs.lemmas.Bool.{cases_eq, eq-eqb, ne_eqb}
 use Rattle.std.proofs.lemmas.Int.{of_z-to_z}
 use Rattle.std.proofs.lemmas.Nat.Bits.{bit_at-suc, bit_at_lowest}
@@ -18,19 +19,23 @@ use Rattle.amqp_types.proofs.Sequences.{map_spelled, map_taken}
 use Rattle.amqp_types.proofs.Texts.{signed_exact, short_string_exact, long_string_exact}
 
 -- each level is plain
-module _ {A : Type 0} (Spells : Level → List ℕ → A → Type 0) (strict_is_tidy : (bytes : List ℕ) (x : A) → Spells strict bytes x → Spells tidy bytes x) (tidy_is_plain : (bytes : List ℕ) (x : A) → Spells tidy bytes x → Spells plain bytes x) where
+module _ {A : Type 0} (Spells : Level → List ℕ → A → Type 0) (strict_is_tidy : (bytes : List ℕ) (x : A) → Spells strict bytes x → Spells tidy bytes x)
+    (tidy_is_plain : (bytes : List ℕ) (x : A) → Spells tidy bytes x → Spells plain bytes x) where
+  -- What is encoded at any level is encoded at plain.
   pub is_plain : (level : Level) (bytes : List ℕ) (x : A) → Spells level bytes x → Spells plain bytes x
   is_plain plain bytes x h = h
   is_plain tidy bytes x h = tidy_is_plain bytes x h
   is_plain strict bytes x h = tidy_is_plain bytes x (strict_is_tidy bytes x h)
 
 -- no bytes encode two, where decoding is exact and each level is plain
-pub one_at_each : {A : Type 0} (judge : Judge A) (Spells : Level → List ℕ → A → Type 0) → IsExact judge (Spells plain) → ((level : Level) (bytes : List ℕ) (x : A) → Spells level bytes x → Spells plain bytes x)
+pub one_at_each : {A : Type 0} (judge : Judge A) (Spells : Level → List ℕ → A → Type 0) → IsExact judge (Spells plain)
+    → ((level : Level) (bytes : List ℕ) (x : A) → Spells level bytes x → Spells plain bytes x)
     → (level : Level) (bytes : List ℕ) (x y : A) → Spells level bytes x → Spells level bytes y → x ≡ y
 one_at_each judge Spells exact into level bytes x y p q = one_meaning judge (Spells plain) exact bytes x y (into level bytes x p) (into level bytes y q)
 
 -- a form with one encoding, which is the same at each level
-pub once_lawful : {A : Type 0} (judge : Judge A) (Spells : List ℕ → A → Type 0) (canonical : A → List ℕ) → IsExact judge Spells → ((bytes : List ℕ) (x : A) → Spells bytes x → bytes ≡ canonical x) → IsLawful judge (λ level. Spells) canonical
+pub once_lawful : {A : Type 0} (judge : Judge A) (Spells : List ℕ → A → Type 0) (canonical : A → List ℕ) → IsExact judge Spells
+    → ((bytes : List ℕ) (x : A) → Spells bytes x → bytes ≡ canonical x) → IsLawful judge (λ level. Spells) canonical
 once_lawful {A} judge Spells canonical exact only = record {
   exact = exact;
   strict_is_tidy = λ bytes x h. h;
@@ -41,6 +46,7 @@ once_lawful {A} judge Spells canonical exact only = record {
   shortest = λ bytes x h. omega (arith, ap length (only bytes x h));
 }
 
+-- The laws of a form of bytes hold of unsigned numbers of each width, which are encoded alike at all levels.
 pub numbers_lawful : NumbersAreLawful
 numbers_lawful width = once_lawful (judge_number width) (SpellsNumber width) (number_bytes width) (number_exact width) (λ bytes n h. h.bytes_are)
 
@@ -50,15 +56,20 @@ signed_back bytes2 n h = of_z-to_z w16 n h
 signed_back bytes4 n h = of_z-to_z w32 n h
 signed_back bytes8 n h = of_z-to_z w64 n h
 
+-- The only encoding of a signed number is its canonical bytes.
 pub signed_only : (width : NumberWidth) (bytes : List ℕ) (n : ℤ) → SpellsSigned width bytes n → bytes ≡ signed_bytes width n
-signed_only width bytes n h = h.spelled.bytes_are ∙ ap (number_bytes width) (sym (ap (cast_unsigned (width_of width)) h.means ∙ signed_back width h.bits h.spelled.fits))
+signed_only width bytes n h =
+    h.spelled.bytes_are ∙ ap (number_bytes width) (sym (ap (cast_unsigned (width_of width)) h.means ∙ signed_back width h.bits h.spelled.fits))
 
+-- The laws of a form of bytes hold of signed numbers of each width, which are encoded alike at all levels.
 pub signed_lawful : SignedNumbersAreLawful
 signed_lawful width = once_lawful _ (SpellsSigned width) (signed_bytes width) (signed_exact width) (signed_only width)
 
+-- The laws of a form of bytes hold of short strings, which are encoded alike at all levels.
 pub short_strings_lawful : ShortStringsAreLawful
 short_strings_lawful = once_lawful _ SpellsShortString short_string_bytes short_string_exact (λ bytes text h. h.bytes_are)
 
+-- The laws of a form of bytes hold of long strings, which are encoded alike at all levels.
 pub long_strings_lawful : LongStringsAreLawful
 long_strings_lawful = once_lawful _ SpellsLongString with_length long_string_exact (λ bytes content h. h.bytes_are)
 
@@ -85,11 +96,13 @@ pub flags_byte_within : (count byte : ℕ) → flags_byte (flags_from count 0 by
 flags_byte_within zero byte = omega arith
 flags_byte_within (suc count) byte = omega (arith, more count byte, flags_byte_within count (byte / 2))
 
+-- The byte of n flags is below 2^n.
 pub flags_byte_below : (flags : List Bool) → flags_byte flags < 2 ^ length flags
 flags_byte_below [] = omega arith
 flags_byte_below (true ∷ flags) = let two : 2 ^ suc (length flags) ≡ 2 * 2 ^ length flags = grind arith in omega (arith, flags_byte_below flags, two)
 flags_byte_below (false ∷ flags) = let two : 2 ^ suc (length flags) ≡ 2 * 2 ^ length flags = grind arith in omega (arith, flags_byte_below flags, two)
 
+-- A byte below 2^n is the byte of its n lowest flags.
 pub flags_byte_back : (count byte : ℕ) → byte < 2 ^ count → flags_byte (flags_from count 0 byte) ≡ byte
 flags_byte_back zero byte below = omega arith
 flags_byte_back (suc count) byte below =
@@ -104,6 +117,7 @@ half : (flag : Bool) (n : ℕ) → (bit_of flag + 2 * n) / 2 ≡ n
 half true n = omega arith
 half false n = omega arith
 
+-- The flags of a byte that was made of flags are those flags.
 pub flags_back : (flags : List Bool) → flags_from (length flags) 0 (flags_byte flags) ≡ flags
 flags_back [] = refl
 flags_back (flag ∷ flags) =
@@ -119,13 +133,16 @@ flags_spelled count bytes byte h = record {
   unused = tt;
 }
 
-flags_taken : (count : ℕ) (bytes rest : List ℕ) (flags : List Bool) → SpellsFlags plain count bytes flags → judge_flags count (bytes ++ rest) ≡ took flags (length bytes)
+flags_taken : (count : ℕ) (bytes rest : List ℕ) (flags : List Bool)
+    → SpellsFlags plain count bytes flags → judge_flags count (bytes ++ rest) ≡ took flags (length bytes)
 unfolding judge_flags
 flags_taken count bytes rest flags h =
     let one : h.byte ≡ h.byte % 256 = omega (arith, h.fits) in
     let spelled : SpellsNumber bytes1 bytes h.byte = record { fits = h.fits; bytes_are = h.bytes_are ∙ ap (λ (n : ℕ). n ∷ []) one } in
-    map_taken (flags_from count 0) (judge_number bytes1) (SpellsNumber bytes1) (number_exact bytes1) bytes rest h.byte spelled ∙ ap (λ (fs : List Bool). took fs (length bytes)) (sym h.flags_are)
+    map_taken (flags_from count 0) (judge_number bytes1) (SpellsNumber bytes1) (number_exact bytes1) bytes rest h.byte spelled
+    ∙ ap (λ (fs : List Bool). took fs (length bytes)) (sym h.flags_are)
 
+-- Decoding flags takes exactly what encodes them.
 pub flags_exact : (count : ℕ) → IsExact (judge_flags count) (SpellsFlags plain count)
 unfolding judge_flags
 flags_exact count = record {
@@ -150,12 +167,15 @@ flags_canonical count bytes flags h =
       unused = let P : ℕ → Type 0 = λ n. flags_byte flags < 2 ^ n in subst P len (flags_byte_below flags);
     }
 
+-- The laws of a form of bytes hold of a number of flags in one byte.
 pub flags_lawful : FlagsAreLawful
 flags_lawful count = record {
   exact = flags_exact count;
   strict_is_tidy = flags_strict_is_tidy count;
   tidy_is_plain = flags_tidy_is_plain count;
-  one_meaning = one_at_each (judge_flags count) (λ level. SpellsFlags level count) (flags_exact count) (is_plain (λ level. SpellsFlags level count) (flags_strict_is_tidy count) (flags_tidy_is_plain count));
+  one_meaning =
+      one_at_each (judge_flags count) (λ level. SpellsFlags level count) (flags_exact count)
+      (is_plain (λ level. SpellsFlags level count) (flags_strict_is_tidy count) (flags_tidy_is_plain count));
   strict_is_canonical = λ bytes flags h. h.bytes_are ∙ ap (λ (n : ℕ). n ∷ []) (sym (ap flags_byte h.flags_are ∙ flags_byte_back count h.byte h.unused));
   canonical_is_strict = flags_canonical count;
   shortest = λ bytes flags h. omega (arith, ap length h.bytes_are);

@@ -5,6 +5,7 @@ use Rattle.amqp_types.specs.Answers.{Refuses}
 use Rattle.amqp_types.specs.declared.errors.ParserError.{ParserError}
 use Rattle.amqp_types.specs.declared.errors.ParserError.TheVariants as errors
 
+-- What a decoding step refuses, the steps after it refuse with the same error.
 pub refuses_next : {A B : Type 0} (error : ParserError) (j : Judged A) (f : A × ℕ → Judged B) → Refuses error j → Refuses error (j >>= f)
 refuses_next errors.Incomplete j f h = ap (λ x. x >>= f) h
 refuses_next errors.UnknownFrameType j f h = ap (λ x. x >>= f) h

@@ -8,13 +8,15 @@ use Rattle.amqp_types.specs.FormLaws.{IsLawful}
 use Rattle.amqp_types.proofs.FormLaws.{is_plain, one_at_each}
 use Rattle.amqp_types.proofs.Sequences.{map_spelled, map_taken, both_exact}
 
-map_exact : {A B : Type 0} (make : A → B) (judge : Judge A) (Spells : List ℕ → A → Type 0) → IsExact judge Spells → IsExact (judge_map make judge) (SpellsMapped Spells make)
+map_exact : {A B : Type 0} (make : A → B) (judge : Judge A) (Spells : List ℕ → A → Type 0)
+    → IsExact judge Spells → IsExact (judge_map make judge) (SpellsMapped Spells make)
 map_exact make judge Spells exact = record {
   spelled = map_spelled make judge Spells (SpellsMapped Spells make) exact (λ bytes x h. record { thing = x; spelled = h; made = refl });
   taken = λ bytes rest y h. map_taken make judge Spells exact bytes rest h.thing h.spelled ∙ ap (λ z. took z (length bytes)) (sym h.made);
 }
 
-module _ {A B : Type 0} (make : A → B) (judge : Judge A) (Spells : Level → List ℕ → A → Type 0) (short : A → List ℕ) (canonical : B → List ℕ) (law : IsLawful judge Spells short) (same : (x : A) → canonical (make x) ≡ short x) where
+module _ {A B : Type 0} (make : A → B) (judge : Judge A) (Spells : Level → List ℕ → A → Type 0) (short : A → List ℕ)
+    (canonical : B → List ℕ) (law : IsLawful judge Spells short) (same : (x : A) → canonical (make x) ≡ short x) where
   abbrev Mapped : Level → List ℕ → B → Type 0
   Mapped level = SpellsMapped (Spells level) make
 
@@ -30,6 +32,7 @@ module _ {A B : Type 0} (make : A → B) (judge : Judge A) (Spells : Level → L
   bytes_of : (y : B) (x : A) → y ≡ make x → canonical y ≡ short x
   bytes_of y x made = ap canonical made ∙ same x
 
+  -- What is made of a value whose form is lawful has a lawful form, encoded as that value.
   pub mapped_lawful : IsLawful (judge_map make judge) Mapped canonical
   mapped_lawful = record {
     exact = mapped_exact;
@@ -43,8 +46,10 @@ module _ {A B : Type 0} (make : A → B) (judge : Judge A) (Spells : Level → L
     shortest = λ bytes y h. omega (arith, law.shortest bytes h.thing h.spelled, ap length (bytes_of y h.thing h.made));
   }
 
-module _ {A B C : Type 0} (first : Judge A) (second : Judge B) (join : A → B → C) (First : Level → List ℕ → A → Type 0) (Second : Level → List ℕ → B → Type 0) (short : A → List ℕ) (long : B → List ℕ) (canonical : C → List ℕ)
-    (first_law : IsLawful first First short) (second_law : IsLawful second Second long) (same : (bytes : List ℕ) (x : A) (y : B) → First plain bytes x → canonical (join x y) ≡ short x ++ long y) where
+module _ {A B C : Type 0} (first : Judge A) (second : Judge B) (join : A → B → C) (First : Level → List ℕ → A → Type 0)
+    (Second : Level → List ℕ → B → Type 0) (short : A → List ℕ) (long : B → List ℕ) (canonical : C → List ℕ)
+    (first_law : IsLawful first First short) (second_law : IsLawful second Second long)
+    (same : (bytes : List ℕ) (x : A) (y : B) → First plain bytes x → canonical (join x y) ≡ short x ++ long y) where
   abbrev Both : Level → List ℕ → C → Type 0
   Both level = SpellsBoth (First level) (Second level) join
 
@@ -95,9 +100,18 @@ module _ {A B C : Type 0} (first : Judge A) (second : Judge B) (join : A → B �
 
   both_shortest : (bytes : List ℕ) (z : C) → Both plain bytes z → length (canonical z) ≤ length bytes
   both_shortest bytes z h =
-      let whole : length (canonical z) ≡ length (short h.one) + length (long h.two) = ap length (ap canonical h.joined ∙ same h.front h.one h.two h.first_is) ∙ length-append (short h.one) (long h.two) in
-      omega (arith, whole, ap length h.bytes_are, length-append h.front h.behind, first_law.shortest h.front h.one h.first_is, second_law.shortest h.behind h.two h.second_is)
+      let whole : length (canonical z) ≡ length (short h.one) + length (long h.two) =
+      ap length (ap canonical h.joined ∙ same h.front h.one h.two h.first_is) ∙ length-append (short h.one) (long h.two) in
+      omega (
+        arith,
+        whole,
+        ap length h.bytes_are,
+        length-append h.front h.behind,
+        first_law.shortest h.front h.one h.first_is,
+        second_law.shortest h.behind h.two h.second_is,
+      )
 
+  -- Two lawful forms one after the other, whose values are joined, are lawful.
   pub both_lawful : IsLawful (judge_both first second join) Both canonical
   both_lawful = record {
     exact = lawful_exact;

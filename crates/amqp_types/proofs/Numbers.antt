@@ -47,6 +47,7 @@ wide bytes8 = record {
   below = λ bytes fits. omega (arith, fits 0, fits 1, fits 2, fits 3, fits 4, fits 5, fits 6, fits 7);
 }
 
+-- A number of a width is encoded in as many bytes as the width has.
 pub number_bytes-length : (width : NumberWidth) (n : ℕ) → length (number_bytes width n) ≡ byte_count width
 number_bytes-length width n = let w = wide width in w.len n
 
@@ -55,14 +56,16 @@ guarded : {A : Type 0} (short : Bool) (x y : A) (n k : ℕ) → cond short past 
 guarded true x y n k e = absurd cc
 guarded false x y n k e = (refl, cc, cc)
 
-number_spelled : (width : NumberWidth) (bytes : List ℕ) (x n : ℕ) → IsBytes bytes → judge_number width bytes ≡ took x n → SpellsNumber width (take n bytes) x × (n ≤ length bytes)
+number_spelled : (width : NumberWidth) (bytes : List ℕ) (x n : ℕ) → IsBytes bytes
+    → judge_number width bytes ≡ took x n → SpellsNumber width (take n bytes) x × (n ≤ length bytes)
 number_spelled width bytes x n fits h =
     let w = wide width in
     let front = take (byte_count width) bytes in
     let g = guarded (ltb (length bytes) (byte_count width)) (from_be_bytes (width_of width) front) x (byte_count width) n h in
     let long : byte_count width ≤ length bytes = ltb-false _ _ g.0 in
     let ok = IsBytes-take (byte_count width) bytes fits in
-    let front_is : front ≡ number_bytes width x = sym (ap (number_bytes width) (sym g.1) ∙ w.back front (omega (arith, length-take (byte_count width) bytes)) ok) in (
+    let front_is : front ≡ number_bytes width x =
+    sym (ap (number_bytes width) (sym g.1) ∙ w.back front (omega (arith, length-take (byte_count width) bytes)) ok) in (
       record {
         fits = subst (λ (k : ℕ). k < number_limit width) g.1 (w.below front ok);
         bytes_are = subst (λ (k : ℕ). take k bytes ≡ number_bytes width x) g.2 front_is;
@@ -77,5 +80,6 @@ number_taken width bytes rest x h =
     let long : ltb (length (bytes ++ rest)) (byte_count width) ≡ false = le-ltb _ _ (omega (arith, length-append bytes rest)) in
     rw long (ap₂ (λ a b. took a b) (ap (from_be_bytes (width_of width)) (take_at bytes rest (byte_count width) len ∙ h.bytes_are) ∙ w.again x h.fits) (sym len))
 
+-- Decoding a number takes exactly what encodes it.
 pub number_exact : (width : NumberWidth) → IsExact (judge_number width) (SpellsNumber width)
 number_exact width = record { spelled = number_spelled width; taken = number_taken width }

@@ -1,5 +1,6 @@
 -- Words that name a number: how numbers are printed, and no others.
-use Rattle.std.proofs.Common.{◌≡◌, ◌≢◌, ℕ, ◌^◌, ◌<◌, ◌≤◌, Bool, true, false, ◌&&◌, List, length, get_or, Option, Some, None, Result, Ok, Err, ◌⊎◌, refl, sym, ap, subst, ◌∙◌, inl, inr, arith}
+use Rattle.std.proofs.Common.{◌≡◌, ◌≢◌, ℕ, ◌^◌, ◌<◌, ◌≤◌, Bool, true, false, ◌&&◌, List, length, get_or, Option, Some, None, Result, Ok, Err, ◌⊎◌, refl, sym}
+use Rattle.std.proofs.Common.{ap, subst, ◌∙◌, inl, inr, arith}
 use Rattle.std.specs.Prelude.{nat_le, if◌then◌else◌}
 use Rattle.std.specs.Fmt.{decimal}
 use Rattle.std.specs.Str.{bytes_eq}
@@ -54,6 +55,7 @@ pub record Named (most : ℕ) (word : List ℕ) (n : ℕ) : Type 0 where
   pub is : word ≡ decimal n
   pub few : n ≤ most
 
+-- A word that is taken as a number up to the greatest is how that number is printed.
 pub named : (most : ℕ) (word : List ℕ) (n : ℕ) → number_named most word ≡ Some n → Named most word n
 unfolding number_named
 named most word n e =
@@ -102,6 +104,7 @@ IsPadded word = (get_or word 0 0 ≡ 43) ⊎ ((1 < length word) × (get_or word 
 padding : (word : List ℕ) → has_padding word ≡ true → IsPadded word
 padding word e = grind (arith, nat_tests)
 
+-- A word with a plus sign or a leading zero names no number.
 pub named_padded : (most : ℕ) (word : List ℕ) → most < 2 ^ 32 → has_padding word ≡ true → number_named most word ≡ None
 named_padded most word limit e = unnamed most word (λ same few.
     let n = digits_value 10 word in
@@ -128,14 +131,17 @@ picked : (a b : Bool) (n : ℕ) → a ≡ true → (if a && b then Some n else N
 picked true b n e = refl
 picked false b n e = absurd cc
 
-named_as_read : (most : ℕ) (word : List ℕ) (n : ℕ) → has_padding word ≡ false → AllDigits 10 word → 0 < length word → digits_value 10 word < 2 ^ 32 → n ≡ digits_value 10 word → number_named most word ≡ (if nat_le n most then Some n else None)
+named_as_read : (most : ℕ) (word : List ℕ) (n : ℕ) → has_padding word ≡ false → AllDigits 10 word → 0 < length word
+    → digits_value 10 word < 2 ^ 32 → n ≡ digits_value 10 word → number_named most word ≡ (if nat_le n most then Some n else None)
 unfolding number_named
 named_as_read most word n e all some fits is =
     let own = digits_value 10 word in
     let same = decimal-digits_value numerals word all some (λ zero. let h = no_zeros word e zero in omega arith) (omega arith) in
-    picked (bytes_eq word (decimal own)) (nat_le own most) own ((bytes_eq-Decides word (decimal own)).1 (sym same)) ∙ ap (λ k. if nat_le k most then Some k else None) (sym is)
+    picked (bytes_eq word (decimal own)) (nat_le own most) own ((bytes_eq-Decides word (decimal own)).1 (sym same))
+    ∙ ap (λ k. if nat_le k most then Some k else None) (sym is)
 
-named_by : {E : Type 0} (most : ℕ) (word : List ℕ) (r : Result ℕ E) → most < 2 ^ 32 → has_padding word ≡ false → OkIff r (AllDigits 10 word × (0 < length word) × (digits_value 10 word < 2 ^ 32)) (digits_value 10 word) → number_named most word ≡ number_read most r
+named_by : {E : Type 0} (most : ℕ) (word : List ℕ) (r : Result ℕ E) → most < 2 ^ 32 → has_padding word ≡ false
+    → OkIff r (AllDigits 10 word × (0 < length word) × (digits_value 10 word < 2 ^ 32)) (digits_value 10 word) → number_named most word ≡ number_read most r
 named_by most word (Ok n) limit e h = named_as_read most word n e h.0.0 h.0.1 h.0.2 h.1
 named_by most word (Err error) limit e h = unnamed most word (λ same few.
     let n = digits_value 10 word in
@@ -144,5 +150,7 @@ named_by most word (Err error) limit e h = unnamed most word (λ same few.
     let some : 0 < length word = omega (arith, decimal_nonempty n fits, ap length same) in
     h (all, some, omega (arith, limit, few)))
 
-pub named_read : {E : Type 0} (most : ℕ) (word : List ℕ) (r : Result ℕ E) → most < 2 ^ 32 → has_padding word ≡ false → ParsesUnsigned 32 10 word r → number_named most word ≡ number_read most r
+-- A word without a plus sign or a leading zero names the number that it parses as, up to the greatest; where it does not parse, none.
+pub named_read : {E : Type 0} (most : ℕ) (word : List ℕ) (r : Result ℕ E) → most < 2 ^ 32
+    → has_padding word ≡ false → ParsesUnsigned 32 10 word r → number_named most word ≡ number_read most r
 named_read most word r limit e h = named_by most word r limit e (parse_plain numerals 32 word r h (no_plus word e))

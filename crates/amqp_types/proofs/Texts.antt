@@ -1,5 +1,6 @@
 -- Signed numbers and strings are read as they are written.
-use Rattle.std.proofs.Common.{◌≡◌, ℕ, ℤ, suc, ◌+◌, ◌≤◌, nat_lt, ltb, true, cond, List, [], ◌∷◌, ◌++◌, length, take, drop, refl, sym, ap, ap₂, ◌∙◌, append_assoc, arith}
+use Rattle.std.proofs.Common.{◌≡◌, ℕ, ℤ, suc, ◌+◌, ◌≤◌, nat_lt, ltb, true, cond, List, [], ◌∷◌, ◌++◌, length, take, drop, refl, sym, ap}
+use Rattle.std.proofs.Common.{ap₂, ◌∙◌, append_assoc, arith}
 use Rattle.std.proofs.lemmas.Bool.{ltb-false, le-ltb}
 use Rattle.std.proofs.lemmas.List.{length-append, length-take-le, length-drop, take_at, drop_at}
 use Rattle.std.proofs.lemmas.Str.{IsUtf8-from_is_utf8, is_utf8-from_IsUtf8}
@@ -16,11 +17,15 @@ use Rattle.amqp_types.proofs.Took.{bind_took, guard_took, test_took, value_took,
 
 signed_taken : (width : NumberWidth) (bytes rest : List ℕ) (n : ℤ) → SpellsSigned width bytes n → judge_signed width (bytes ++ rest) ≡ took n (length bytes)
 signed_taken width bytes rest n h =
-    map_taken (cast_signed (width_of width)) (judge_number width) (SpellsNumber width) (number_exact width) bytes rest h.bits h.spelled ∙ ap (λ (m : ℤ). took m (length bytes)) (sym h.means)
+    map_taken (cast_signed (width_of width)) (judge_number width) (SpellsNumber width) (number_exact width) bytes rest h.bits h.spelled
+    ∙ ap (λ (m : ℤ). took m (length bytes)) (sym h.means)
 
+-- Decoding a signed number takes exactly what encodes it.
 pub signed_exact : (width : NumberWidth) → IsExact (judge_signed width) (SpellsSigned width)
 signed_exact width = record {
-  spelled = map_spelled (cast_signed (width_of width)) (judge_number width) (SpellsNumber width) (SpellsSigned width) (number_exact width) (λ bytes bits h. record { bits = bits; spelled = h; means = refl });
+  spelled =
+      map_spelled (cast_signed (width_of width)) (judge_number width) (SpellsNumber width) (SpellsSigned width)
+      (number_exact width) (λ bytes bits h. record { bits = bits; spelled = h; means = refl });
   taken = signed_taken width;
 }
 
@@ -30,7 +35,8 @@ enough there wanted j h = rw (le-ltb there wanted h) refl
 
 -- ---- long strings
 
-long_string_spelled : (bytes content : List ℕ) (n : ℕ) → IsBytes bytes → judge_long_string bytes ≡ took content n → SpellsLongString (take n bytes) content × (n ≤ length bytes)
+long_string_spelled : (bytes content : List ℕ) (n : ℕ) → IsBytes bytes
+    → judge_long_string bytes ≡ took content n → SpellsLongString (take n bytes) content × (n ≤ length bytes)
 unfolding judge_long_string
 long_string_spelled bytes content n fits h =
     let number = bind_took (judge_number bytes4 bytes) _ content n h in
@@ -44,7 +50,9 @@ long_string_spelled bytes content n fits h =
     let long : length content ≡ number.0 = sym (ap length is) ∙ length-take-le number.0 behind le in (
       record {
         fits = omega (arith, four.0.fits, long);
-        bytes_are = ap (λ m. take m bytes) (sym count) ∙ take-add number.1 number.0 bytes ∙ ap₂ (λ a b. a ++ b) (four.0.bytes_are ∙ ap (number_bytes bytes4) (sym long)) is;
+        bytes_are =
+            ap (λ m. take m bytes) (sym count) ∙ take-add number.1 number.0 bytes
+            ∙ ap₂ (λ a b. a ++ b) (four.0.bytes_are ∙ ap (number_bytes bytes4) (sym long)) is;
       },
       omega (arith, four.1, le, length-drop number.1 bytes, count),
     )
@@ -64,12 +72,14 @@ long_string_taken bytes rest content h =
     ∙ ap (λ j. j >>= λ m. cond (nat_lt (length (drop m.1 (four ++ tail))) m.0) past (took (take m.0 (drop m.1 (four ++ tail))) (m.1 + m.0))) number
     ∙ enough (length (drop 4 (four ++ tail))) n _ room ∙ ap₂ (λ x m. took x m) (ap (take n) (drop_at four tail 4 refl) ∙ take_at content rest n refl) count
 
+-- Decoding a long string takes exactly what encodes it.
 pub long_string_exact : IsExact judge_long_string SpellsLongString
 long_string_exact = record { spelled = long_string_spelled; taken = long_string_taken }
 
 -- ---- short strings
 
-short_string_spelled : (bytes text : List ℕ) (n : ℕ) → IsBytes bytes → judge_short_string bytes ≡ took text n → SpellsShortString (take n bytes) text × (n ≤ length bytes)
+short_string_spelled : (bytes text : List ℕ) (n : ℕ) → IsBytes bytes
+    → judge_short_string bytes ≡ took text n → SpellsShortString (take n bytes) text × (n ≤ length bytes)
 unfolding judge_short_string
 short_string_spelled [] text n fits h = cc
 short_string_spelled (c ∷ bytes) text n fits h =
@@ -98,5 +108,6 @@ short_string_taken bytes rest text h =
     let count : 1 + n ≡ length bytes = sym (ap length h.bytes_are ∙ omega arith) in
     ap judge_short_string all ∙ enough (length (text ++ rest)) n _ (omega (arith, length-append text rest)) ∙ rw utf8 (ap₂ (λ x m. took x m) is count)
 
+-- Decoding a short string takes exactly what encodes it.
 pub short_string_exact : IsExact judge_short_string SpellsShortString
 short_string_exact = record { spelled = short_string_spelled; taken = short_string_taken }

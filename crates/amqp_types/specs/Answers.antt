@@ -1,10 +1,14 @@
 -- What a parse call returns is what is decoded.
 use Rattle.std.specs.Prelude.{◌≡◌, ℕ, Result, Ok, Err}
-use Rattle.amqp_types.specs.Judging.{Judged, took, past, fault, Fault, unknown_frame_type, bad_protocol_header, bad_frame_end, unknown_class, unknown_method, short_payload, trailing_bytes, not_utf8, unknown_tag, too_deep}
+use Rattle.amqp_types.specs.Judging.{Judged, took, past, fault, Fault, unknown_frame_type}
+use Rattle.amqp_types.specs.Judging.{bad_protocol_header, bad_frame_end, unknown_class}
+use Rattle.amqp_types.specs.Judging.{unknown_method, short_payload, trailing_bytes}
+use Rattle.amqp_types.specs.Judging.{not_utf8, unknown_tag, too_deep}
 use Rattle.amqp_types.specs.declared.errors.ParserError.{ParserError}
 use Rattle.amqp_types.specs.declared.errors.ParserError.TheVariants as errors
 
--- each error says why nothing is decoded; out of memory says nothing, and may come in place of any result
+-- each error says why nothing is decoded; out of memory says nothing, and may come in
+-- place of any result
 abbrev pub Refuses : {B : Type 0} → ParserError → Judged B → Type 0
 Refuses errors.Incomplete judged = judged ≡ past
 Refuses errors.UnknownFrameType judged = judged ≡ fault unknown_frame_type

@@ -7,7 +7,8 @@ use Rattle.amqp_types.specs.declared.errors.ParserError.TheVariants as parser_er
 use Rattle.amqp_types.specs.declared.errors.GenError.{GenError}
 
 -- a parse call returns what is decoded, and has used bytes that are there
-pub record Parses {A B : Type 0} (view : A → B) (result : Result (ℕ × A) ParserError) (bytes : List ℕ) (judge : Judge B) : Type 0 where
+pub record Parses {A B : Type 0} (view : A → B) (result : Result (ℕ × A) ParserError)
+    (bytes : List ℕ) (judge : Judge B) : Type 0 where
   pub judged : Answers view result (judge bytes)
   pub used : IfOk result (λ found. found.0 ≤ length bytes)
 
@@ -21,6 +22,7 @@ pub record Measures (result size : Result ℕ GenError) : Type 0 where
   pub bound : IfOk result (λ n. n ≤ 2 ^ 40)
 
 -- what a put call needs: the bytes have a size, and the buffer has room for them
-pub record HasRoom (buf : List ℕ) (at : ℕ) (size : Result ℕ GenError) (bytes : List ℕ) : Type 0 where
+pub record HasRoom (buf : List ℕ) (at : ℕ)
+    (size : Result ℕ GenError) (bytes : List ℕ) : Type 0 where
   pub fits : IsOk size
   pub room : at + length bytes ≤ length buf

@@ -1,4 +1,5 @@
--- The numbers of the standard: the first byte of each type of frame and the last of all (AMQP 0-9-1, section 4.2.3), and how deep values nest.
+-- The numbers of the standard: the first byte of each type of frame and the last of all (AMQP
+-- 0-9-1, section 4.2.3), and how deep values nest.
 use Rattle.std.specs.Prelude.{ℕ, List, [], ◌∷◌}
 
 -- the first byte of a protocol header, an `A`

@@ -1,5 +1,6 @@
 -- Flags, packed into a byte from its lowest bit on (AMQP 0-9-1, section 4.2.5.2).
-use Rattle.std.specs.Prelude.{◌≡◌, ℕ, zero, suc, ◌+◌, ◌*◌, ◌^◌, ◌<◌, ◌==◌, Bool, true, false, List, [], ◌∷◌}
+use Rattle.std.specs.Prelude.{◌≡◌, ℕ, zero, suc, ◌+◌, ◌*◌, ◌^◌, ◌<◌, ◌==◌}
+use Rattle.std.specs.Prelude.{Bool, true, false, List, [], ◌∷◌}
 use Rattle.std.specs.Int.{bit_at}
 use Rattle.amqp_types.specs.Levels.{Level, plain, tidy, strict}
 use Rattle.amqp_types.specs.Judging.{Judge, took, ◌>>=◌}
@@ -34,8 +35,10 @@ FromTidy plain Rule = Unit {0}
 FromTidy tidy Rule = Rule
 FromTidy strict Rule = Rule
 
--- The lowest bits of one byte are the flags. From level tidy on the unused bits, those above the flags, are zero.
-pub record SpellsFlags (level : Level) (count : ℕ) (bytes : List ℕ) (flags : List Bool) : Type 0 where
+-- The lowest bits of one byte are the flags. From level tidy on the unused bits, those above the
+-- flags, are zero.
+pub record SpellsFlags (level : Level) (count : ℕ)
+    (bytes : List ℕ) (flags : List Bool) : Type 0 where
   pub byte : ℕ
   pub fits : byte < 256
   pub bytes_are : bytes ≡ byte ∷ []
@@ -44,4 +47,5 @@ pub record SpellsFlags (level : Level) (count : ℕ) (bytes : List ℕ) (flags :
 
 -- as many flags out of one byte, from its lowest bit on; its unused bits are ignored
 unfoldable pub judge_flags : ℕ → Judge (List Bool)
-judge_flags count bytes = judge_number bytes1 bytes >>= λ byte. took (flags_from count 0 byte.0) byte.1
+judge_flags count bytes =
+    judge_number bytes1 bytes >>= λ byte. took (flags_from count 0 byte.0) byte.1

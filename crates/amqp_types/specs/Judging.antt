@@ -1,4 +1,5 @@
--- Reading from the left out of one input, payload, table or array: what is taken and how many bytes it uses, or the first thing that cannot be read.
+-- Reading from the left out of one input, payload, table or array: what is taken and how many bytes
+-- it uses, or the first thing that cannot be read.
 use Rattle.std.specs.Prelude.{◌≡◌, ℕ, ◌<◌, ◌≤◌, List, ◌++◌, length, take, slice_index}
 
 -- why bytes are refused, whatever follows them
@@ -39,7 +40,10 @@ past >>= f = past
 abbrev pub IsBytes : List ℕ → Type 0
 IsBytes bytes = (i : ℕ) → slice_index bytes i < 256
 
--- Decoding takes exactly what is encoded: what it takes is encoded by the bytes that it uses, and what is encoded it takes, whatever follows.
+-- Decoding takes exactly what is encoded: what it takes is encoded by the bytes that it uses, and
+-- what is encoded it takes, whatever follows.
 pub record IsExact {A : Type 0} (judge : Judge A) (Spells : List ℕ → A → Type 0) : Type 0 where
-  pub spelled : (bytes : List ℕ) (x : A) (n : ℕ) → IsBytes bytes → judge bytes ≡ took x n → Spells (take n bytes) x × (n ≤ length bytes)
-  pub taken : (bytes rest : List ℕ) (x : A) → Spells bytes x → judge (bytes ++ rest) ≡ took x (length bytes)
+  pub spelled : (bytes : List ℕ) (x : A) (n : ℕ) → IsBytes bytes
+      → judge bytes ≡ took x n → Spells (take n bytes) x × (n ≤ length bytes)
+  pub taken : (bytes rest : List ℕ) (x : A) → Spells bytes x
+      → judge (bytes ++ rest) ≡ took x (length bytes)

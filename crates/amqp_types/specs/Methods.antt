@@ -1,6 +1,8 @@
--- Methods as they stand in a payload: a class id, a method id and the fields of the method (AMQP 0-9-1, section 4.2.4).
+-- Methods as they stand in a payload: a class id, a method id and the fields of the method (AMQP
+-- 0-9-1, section 4.2.4).
 use Rattle.std.specs.Prelude.{ℕ, ◌+◌, List, [], ◌++◌, drop, Option, Some, None, unwrap_or, Result}
-use Rattle.amqp_types.specs.Judging.{Judged, Judge, Fault, took, fault, unknown_class, unknown_method, ◌>>=◌}
+use Rattle.amqp_types.specs.Judging.{Judged, Judge, Fault, took, fault}
+use Rattle.amqp_types.specs.Judging.{unknown_class, unknown_method, ◌>>=◌}
 use Rattle.amqp_types.specs.Numbers.{bytes2, number_bytes, judge_number}
 use Rattle.amqp_types.specs.Slots.{Item}
 use Rattle.amqp_types.specs.SlotJudging.{judge_slots}
@@ -22,7 +24,8 @@ method class id items = record { class = class; id = id; items = items }
 
 -- the method id and the fields; of a method that is not in the table, no fields
 unfoldable pub method_bytes : Method → List ℕ
-method_bytes m = number_bytes bytes2 m.id ++ slots_bytes (unwrap_or (slots_at m.class m.id) []) m.items
+method_bytes m =
+    number_bytes bytes2 m.id ++ slots_bytes (unwrap_or (slots_at m.class m.id) []) m.items
 
 -- the size in bytes of the method id and the fields, or why they are not written
 unfoldable pub method_size : Method → Result ℕ GenError

@@ -1,5 +1,6 @@
 -- Numbers that are written in decimal.
-use Rattle.std.specs.Prelude.{ℕ, List, length, Bool, ◌&&◌, ◌||◌, ◌==◌, nat_lt, nat_le, slice_index, Option, Some, None, if◌then◌else◌}
+use Rattle.std.specs.Prelude.{ℕ, List, length, Bool, ◌&&◌, ◌||◌, ◌==◌, nat_lt, nat_le, slice_index}
+use Rattle.std.specs.Prelude.{Option, Some, None, if◌then◌else◌}
 use Rattle.std.specs.Fmt.{decimal}
 use Rattle.std.specs.Str.{bytes_eq}
 use Rattle.std.specs.Str.Parse.{digits_value}
@@ -12,4 +13,5 @@ number_named most word =
 
 -- no number is printed so: a plus stands first, or a zero and more after it
 abbrev pub has_padding : List ℕ → Bool
-has_padding word = (slice_index word 0 == 43) || (nat_lt 1 (length word) && (slice_index word 0 == 48))
+has_padding word =
+    (slice_index word 0 == 43) || (nat_lt 1 (length word) && (slice_index word 0 == 48))

@@ -1,6 +1,7 @@
 -- Which faults stand inside a payload, whatever its bytes are.
 use Rattle.std.specs.Prelude.{◌≡◌, ℕ, List}
-use Rattle.amqp_types.specs.Judging.{Fault, Judge, fault, unknown_class, unknown_method, short_payload, not_utf8, unknown_tag, too_deep}
+use Rattle.amqp_types.specs.Judging.{Fault, Judge, fault, unknown_class, unknown_method}
+use Rattle.amqp_types.specs.Judging.{short_payload, not_utf8, unknown_tag, too_deep}
 use Rattle.amqp_types.specs.Methods.{judge_payload}
 use Rattle.amqp_types.specs.ContentHeaders.{judge_content_header}
 
@@ -18,7 +19,8 @@ IsInside bad = ⊥
 abbrev pub FailsInside : {A : Type 0} → Judge A → Type 0
 FailsInside judge = (bytes : List ℕ) (bad : Fault) → judge bytes ≡ fault bad → IsInside bad
 
--- the payload of a method is refused for what stands inside it alone: never for its frame, for trailing bytes or as not tidy
+-- the payload of a method is refused for what stands inside it alone: never for its frame, for
+-- trailing bytes or as not tidy
 abbrev pub PayloadsFailInside : Type 0
 PayloadsFailInside = FailsInside judge_payload
 

@@ -1,4 +1,5 @@
--- The 14 properties of a message. A mask says which of them are set, and those stand after it (AMQP 0-9-1, section 4.2.6.1).
+-- The 14 properties of a message. A mask says which of them are set, and those stand after it (AMQP
+-- 0-9-1, section 4.2.6.1).
 use Rattle.std.specs.Prelude.{ℕ, List, [], ◌∷◌}
 use Rattle.amqp_types.specs.Numbers.{bytes1, bytes8}
 use Rattle.amqp_types.specs.Slots.{Form, number_form, short_string_form, table_form}
@@ -24,8 +25,8 @@ later_properties =
     property 2 short_string_form ∷
     []
 
--- In the order in which they stand: content type, content encoding, headers, delivery mode, priority, correlation id, address to
--- reply to, and the last seven. No property has bit 1 or 0.
+-- In the order in which they stand: content type, content encoding, headers, delivery mode,
+-- priority, correlation id, address to reply to, and the last seven. No property has bit 1 or 0.
 unfoldable pub properties : List Property
 properties =
     property 15 short_string_form ∷

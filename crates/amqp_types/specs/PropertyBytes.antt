@@ -1,5 +1,6 @@
 -- The canonical bytes of properties, their one strict encoding.
-use Rattle.std.specs.Prelude.{ℕ, ◌+◌, ◌^◌, List, [], ◌∷◌, ◌++◌, Bool, false, ◌||◌, Option, Some, None, Result}
+use Rattle.std.specs.Prelude.{ℕ, ◌+◌, ◌^◌, List, [], ◌∷◌, ◌++◌, Bool, false}
+use Rattle.std.specs.Prelude.{◌||◌, Option, Some, None, Result}
 use Rattle.amqp_types.specs.Numbers.{bytes2}
 use Rattle.amqp_types.specs.Sizes.{measured}
 use Rattle.amqp_types.specs.Slots.{Item, number_item, Form, number_form}
@@ -31,7 +32,9 @@ set_bytes (p ∷ ps) (option ∷ options) = optional_bytes p.form option ++ set_
 
 -- the mask, and the properties that are set
 unfoldable pub properties_bytes : List (Option Item) → List ℕ
-properties_bytes options = form_bytes (number_form bytes2) (number_item (mask_of properties options) ∷ []) ++ set_bytes properties options
+properties_bytes options =
+    form_bytes (number_form bytes2) (number_item (mask_of properties options) ∷ [])
+    ++ set_bytes properties options
 
 -- ---- which properties are refused
 
@@ -57,4 +60,5 @@ any_long_option (option ∷ options) = is_long_option option || any_long_option 
 
 -- the size of the canonical bytes, where there are any
 unfoldable pub properties_size : List (Option Item) → Result ℕ GenError
-properties_size options = measured (any_deep_option options) (any_long_option options) (properties_bytes options)
+properties_size options =
+    measured (any_deep_option options) (any_long_option options) (properties_bytes options)

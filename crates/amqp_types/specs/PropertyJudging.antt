@@ -21,9 +21,12 @@ judge_optional false form bytes = took None 0
 -- the properties whose bits are set in the mask, one after another
 unfoldable pub judge_set : ℕ → List Property → Judge (List (Option Item))
 judge_set mask [] bytes = took [] 0
-judge_set mask (p ∷ ps) bytes = judge_both (judge_optional (flag_at mask p.bit) p.form) (judge_set mask ps) (λ option options. option ∷ options) bytes
+judge_set mask (p ∷ ps) bytes =
+    judge_both (judge_optional (flag_at mask p.bit) p.form)
+    (judge_set mask ps) (λ option options. option ∷ options) bytes
 
--- a mask of two bytes, and the properties that it says are set; its unused bits, 1 and 0, are ignored
+-- a mask of two bytes, and the properties that it says are set; its unused bits, 1
+-- and 0, are ignored
 unfoldable pub judge_properties : Judge (List (Option Item))
 judge_properties bytes = do
   mask ← judge_number bytes2 bytes

@@ -1,10 +1,13 @@
--- The table of methods: of each class its methods, each with its id and its fields in the order in which they stand.
--- They are those of AMQP 0-9-1's reference of classes and methods, with the class access of earlier versions and the
--- extensions that RabbitMQ has made.
+-- The table of methods: of each class its methods, each with its id and its fields in the order in
+-- which they stand.
+-- They are those of AMQP 0-9-1's reference of classes and methods, with the class access of earlier
+-- versions and the extensions that RabbitMQ has made.
 use Rattle.std.specs.Prelude.{ℕ, ◌==◌, false, List, [], ◌∷◌, Option, option_and_then}
 use Rattle.std.specs.Map.{lookup}
 use Rattle.amqp_types.specs.Numbers.{bytes1, bytes2, bytes4, bytes8}
-use Rattle.amqp_types.specs.Slots.{number_item, flag_item, text_item, bytes_item, number_form, flags_form, short_string_form, long_string_form, table_form, Slot, kept_slot, reserved_slot}
+use Rattle.amqp_types.specs.Slots.{number_item, flag_item, text_item, bytes_item, number_form}
+use Rattle.amqp_types.specs.Slots.{flags_form, short_string_form, long_string_form, table_form}
+use Rattle.amqp_types.specs.Slots.{Slot, kept_slot, reserved_slot}
 
 -- ---- what rows are made of
 

@@ -7,7 +7,8 @@ abbrev pub judge_map : {A B : Type 0} → (A → B) → Judge A → Judge B
 judge_map make judge bytes = judge bytes >>= λ x. took (make x.0) x.1
 
 -- The bytes are those of a thing, and y is what is made of it.
-pub record SpellsMapped {A B : Type 0} (Spells : List ℕ → A → Type 0) (make : A → B) (bytes : List ℕ) (y : B) : Type 0 where
+pub record SpellsMapped {A B : Type 0} (Spells : List ℕ → A → Type 0)
+    (make : A → B) (bytes : List ℕ) (y : B) : Type 0 where
   pub thing : A
   pub spelled : Spells bytes thing
   pub made : y ≡ make thing
@@ -20,7 +21,8 @@ judge_both first second join bytes = do
   took (join x.0 y.0) (x.1 + y.1)
 
 -- The bytes are those of two things, one after the other, and z is what they are joined to.
-pub record SpellsBoth {A B C : Type 0} (First : List ℕ → A → Type 0) (Second : List ℕ → B → Type 0) (join : A → B → C) (bytes : List ℕ) (z : C) : Type 0 where
+pub record SpellsBoth {A B C : Type 0} (First : List ℕ → A → Type 0)
+    (Second : List ℕ → B → Type 0) (join : A → B → C) (bytes : List ℕ) (z : C) : Type 0 where
   pub front : List ℕ
   pub behind : List ℕ
   pub one : A

@@ -23,7 +23,8 @@ later None before = before
 -- the value of the last entry with this key
 abbrev pub last_at : List ℕ → List Entry → Option FieldValue
 last_at key [] = None
-last_at key (e ∷ es) = later (last_at key es) (if is_at (slice_cmp nat_cmp key) e.0 then Some e.1 else None)
+last_at key (e ∷ es) =
+    later (last_at key es) (if is_at (slice_cmp nat_cmp key) e.0 then Some e.1 else None)
 
 -- the table has, in the order of their keys, the last value of each key among the entries
 pub record IsSettled (table entries : List Entry) : Type 0 where

@@ -2,7 +2,8 @@
 use Rattle.std.specs.Prelude.{◌≡◌, ℕ, ℤ, List}
 use Rattle.std.specs.Int.{cast_signed, cast_unsigned}
 use Rattle.amqp_types.specs.Judging.{Judge, took, ◌>>=◌}
-use Rattle.amqp_types.specs.Numbers.{NumberWidth, width_of, number_bytes, judge_number, SpellsNumber}
+use Rattle.amqp_types.specs.Numbers.{NumberWidth, width_of, number_bytes}
+use Rattle.amqp_types.specs.Numbers.{judge_number, SpellsNumber}
 
 -- the canonical bytes
 abbrev pub signed_bytes : NumberWidth → ℤ → List ℕ
@@ -16,4 +17,5 @@ pub record SpellsSigned (width : NumberWidth) (bytes : List ℕ) (n : ℤ) : Typ
 
 -- as many bytes as the width has, read as two's complement; fewer are incomplete
 abbrev pub judge_signed : NumberWidth → Judge ℤ
-judge_signed width bytes = judge_number width bytes >>= λ n. took (cast_signed (width_of width) n.0) n.1
+judge_signed width bytes =
+    judge_number width bytes >>= λ n. took (cast_signed (width_of width) n.0) n.1

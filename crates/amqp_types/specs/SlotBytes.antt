@@ -5,7 +5,9 @@ use Rattle.amqp_types.specs.Flags.{flags_bytes}
 use Rattle.amqp_types.specs.Strings.{short_string_bytes, with_length, is_too_long}
 use Rattle.amqp_types.specs.Sizes.{measured}
 use Rattle.amqp_types.specs.ValueBytes.{table_bytes, is_deep_table, is_long_table}
-use Rattle.amqp_types.specs.Slots.{Item, number_item, flag_item, text_item, bytes_item, entries_item, Form, number_form, flags_form, short_string_form, long_string_form, table_form, Slot, kept_slot, reserved_slot}
+use Rattle.amqp_types.specs.Slots.{Item, number_item, flag_item, text_item, bytes_item}
+use Rattle.amqp_types.specs.Slots.{entries_item, Form, number_form, flags_form, short_string_form}
+use Rattle.amqp_types.specs.Slots.{long_string_form, table_form, Slot, kept_slot, reserved_slot}
 use Rattle.amqp_types.specs.declared.errors.GenError.{GenError}
 
 -- how many items a form gives
@@ -35,8 +37,11 @@ form_bytes form items = []
 -- the bytes of fields that give these items
 unfoldable pub slots_bytes : List Slot → List Item → List ℕ
 slots_bytes [] items = []
-slots_bytes (kept_slot form ∷ slots) items = form_bytes form (take (item_count form) items) ++ slots_bytes slots (drop (item_count form) items)
-slots_bytes (reserved_slot form constant ∷ slots) items = form_bytes form constant ++ slots_bytes slots items
+slots_bytes (kept_slot form ∷ slots) items =
+    form_bytes form (take (item_count form) items)
+    ++ slots_bytes slots (drop (item_count form) items)
+slots_bytes (reserved_slot form constant ∷ slots) items =
+    form_bytes form constant ++ slots_bytes slots items
 
 -- ---- which items are refused
 

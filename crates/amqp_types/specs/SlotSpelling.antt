@@ -6,7 +6,9 @@ use Rattle.amqp_types.specs.Numbers.{SpellsNumber}
 use Rattle.amqp_types.specs.Flags.{SpellsFlags, FromTidy}
 use Rattle.amqp_types.specs.Strings.{SpellsShortString, SpellsLongString}
 use Rattle.amqp_types.specs.ValueSpelling.{SpellsFieldTable}
-use Rattle.amqp_types.specs.Slots.{Item, number_item, flag_item, text_item, bytes_item, entries_item, Form, number_form, flags_form, short_string_form, long_string_form, table_form, Slot, kept_slot, reserved_slot}
+use Rattle.amqp_types.specs.Slots.{Item, number_item, flag_item, text_item, bytes_item}
+use Rattle.amqp_types.specs.Slots.{entries_item, Form, number_form, flags_form, short_string_form}
+use Rattle.amqp_types.specs.Slots.{long_string_form, table_form, Slot, kept_slot, reserved_slot}
 
 -- the bytes of a form, and the items that it gives; levels differ in flags and in tables alone
 abbrev pub SpellsForm : Level → Form → List ℕ → List Item → Type 0
@@ -17,7 +19,8 @@ SpellsForm level long_string_form = SpellsMapped SpellsLongString (λ bytes. byt
 SpellsForm level table_form = SpellsMapped (SpellsFieldTable level) (λ es. entries_item es ∷ [])
 
 -- A reserved field gives nothing. From level tidy on it is encoded as its constant.
-pub record SpellsReserved (level : Level) (form : Form) (constant : List Item) (bytes : List ℕ) (items : List Item) : Type 0 where
+pub record SpellsReserved (level : Level) (form : Form)
+    (constant : List Item) (bytes : List ℕ) (items : List Item) : Type 0 where
   pub dropped : List Item
   pub spelled : SpellsForm level form bytes dropped
   pub none : items ≡ []
@@ -31,4 +34,5 @@ SpellsSlot level (reserved_slot form constant) = SpellsReserved level form const
 -- fields, one after another
 abbrev pub SpellsSlots : Level → List Slot → List ℕ → List Item → Type 0
 SpellsSlots level [] bytes items = (bytes ≡ []) × (items ≡ [])
-SpellsSlots level (slot ∷ slots) bytes items = SpellsBoth (SpellsSlot level slot) (SpellsSlots level slots) (λ xs ys. xs ++ ys) bytes items
+SpellsSlots level (slot ∷ slots) bytes items =
+    SpellsBoth (SpellsSlot level slot) (SpellsSlots level slots) (λ xs ys. xs ++ ys) bytes items

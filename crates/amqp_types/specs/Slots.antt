@@ -11,7 +11,8 @@ pub data Item : Type 0 where
   bytes_item : List ℕ → Item
   entries_item : List Entry → Item
 
--- how a field is encoded: a number, as many flags in one byte, a short string, a long string or a table
+-- how a field is encoded: a number, as many flags in one byte, a short string, a long
+-- string or a table
 pub data Form : Type 0 where
   number_form : NumberWidth → Form
   flags_form : ℕ → Form
@@ -19,7 +20,8 @@ pub data Form : Type 0 where
   long_string_form : Form
   table_form : Form
 
--- A field that is kept gives its items. One that is reserved is read and dropped, and written as these items.
+-- A field that is kept gives its items. One that is reserved is read and dropped, and written
+-- as these items.
 pub data Slot : Type 0 where
   kept_slot : Form → Slot
   reserved_slot : Form → List Item → Slot

@@ -1,5 +1,6 @@
 -- Short and long strings (AMQP 0-9-1, section 4.2.5.3).
-use Rattle.std.specs.Prelude.{◌≡◌, ℕ, ◌+◌, ◌^◌, ◌<◌, nat_lt, nat_le, Bool, false, List, [], ◌∷◌, ◌++◌, length, take, drop, if◌then◌else◌, Result}
+use Rattle.std.specs.Prelude.{◌≡◌, ℕ, ◌+◌, ◌^◌, ◌<◌, nat_lt, nat_le, Bool, false, List, [], ◌∷◌}
+use Rattle.std.specs.Prelude.{◌++◌, length, take, drop, if◌then◌else◌, Result}
 use Rattle.std.specs.Str.{is_utf8, IsUtf8}
 use Rattle.amqp_types.specs.Judging.{Judge, took, past, fault, not_utf8, ◌>>=◌}
 use Rattle.amqp_types.specs.Numbers.{bytes4, number_bytes, judge_number}
@@ -48,4 +49,5 @@ pub record SpellsLongString (bytes content : List ℕ) : Type 0 where
 unfoldable pub judge_long_string : Judge (List ℕ)
 judge_long_string bytes = do
   n ← judge_number bytes4 bytes
-  if nat_lt (length (drop n.1 bytes)) n.0 then past else took (take n.0 (drop n.1 bytes)) (n.1 + n.0)
+  if nat_lt (length (drop n.1 bytes)) n.0 then past
+      else took (take n.0 (drop n.1 bytes)) (n.1 + n.0)

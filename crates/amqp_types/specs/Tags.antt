@@ -1,7 +1,12 @@
--- The tag bytes of values. They are this project's own table: the standard's grammar has others in some places.
+-- The tag bytes of values. They are this project's own table: the standard's grammar has others
+-- in some places.
 use Rattle.std.specs.Prelude.{◌≡◌, ℕ, ◌==◌, ◌⊎◌, if◌then◌else◌, List, [], ◌∷◌, Option, Some, None}
 use Rattle.amqp_types.specs.Levels.{Level, plain, tidy, strict}
-use Rattle.amqp_types.specs.Values.{FieldValue, short_short_int, short_int, long_int, long_long_int, short_short_uint, short_uint, long_uint, float, double, timestamp, long_string, byte_array, boolean_value, signed_value, unsigned_value, decimal_value, bytes_value, array_value, table_value, void_value}
+use Rattle.amqp_types.specs.Values.{FieldValue, short_short_int, short_int, long_int}
+use Rattle.amqp_types.specs.Values.{long_long_int, short_short_uint, short_uint, long_uint, float}
+use Rattle.amqp_types.specs.Values.{double, timestamp, long_string, byte_array, boolean_value}
+use Rattle.amqp_types.specs.Values.{signed_value, unsigned_value, decimal_value, bytes_value}
+use Rattle.amqp_types.specs.Values.{array_value, table_value, void_value}
 use Rattle.amqp_types.specs.declared.tag.FieldTag.{FieldTag}
 use Rattle.amqp_types.specs.declared.tag.FieldTag.TheVariants as tag
 
@@ -28,8 +33,10 @@ tag_byte tag.Void = 86
 -- all tags, each once
 abbrev pub tags : List FieldTag
 tags =
-    tag.Boolean ∷ tag.ShortShortInt ∷ tag.ShortShortUInt ∷ tag.ShortInt ∷ tag.ShortUInt ∷ tag.LongInt ∷ tag.LongUInt ∷ tag.LongLongInt ∷
-    tag.Float ∷ tag.Double ∷ tag.DecimalValue ∷ tag.LongString ∷ tag.FieldArray ∷ tag.Timestamp ∷ tag.FieldTable ∷ tag.ByteArray ∷ tag.Void ∷ []
+    tag.Boolean ∷ tag.ShortShortInt ∷ tag.ShortShortUInt ∷ tag.ShortInt
+    ∷ tag.ShortUInt ∷ tag.LongInt ∷ tag.LongUInt ∷ tag.LongLongInt ∷
+    tag.Float ∷ tag.Double ∷ tag.DecimalValue ∷ tag.LongString ∷ tag.FieldArray
+    ∷ tag.Timestamp ∷ tag.FieldTable ∷ tag.ByteArray ∷ tag.Void ∷ []
 
 -- the byte `U`, which is read as `s`
 abbrev pub short_int_read_byte : ℕ

@@ -5,7 +5,13 @@ use Rattle.amqp_types.specs.Signed.{signed_bytes}
 use Rattle.amqp_types.specs.Booleans.{boolean_bytes}
 use Rattle.amqp_types.specs.Strings.{with_length, is_too_long, short_string_bytes}
 use Rattle.amqp_types.specs.Sizes.{measured}
-use Rattle.amqp_types.specs.Values.{FieldValue, FieldValues, FieldEntries, Entry, SignedKind, UnsignedKind, short_short_int, short_int, long_int, long_long_int, short_short_uint, short_uint, long_uint, float, double, timestamp, boolean_value, signed_value, unsigned_value, decimal_value, bytes_value, array_value, table_value, void_value, no_values, next_value, no_entries, next_entry, values_of, entries_of, depth}
+use Rattle.amqp_types.specs.Values.{FieldValue, FieldValues, FieldEntries, Entry, SignedKind}
+use Rattle.amqp_types.specs.Values.{UnsignedKind, short_short_int, short_int, long_int}
+use Rattle.amqp_types.specs.Values.{long_long_int, short_short_uint, short_uint, long_uint, float}
+use Rattle.amqp_types.specs.Values.{double, timestamp, boolean_value, signed_value}
+use Rattle.amqp_types.specs.Values.{unsigned_value, decimal_value, bytes_value, array_value}
+use Rattle.amqp_types.specs.Values.{table_value, void_value, no_values, next_value, no_entries}
+use Rattle.amqp_types.specs.Values.{next_entry, values_of, entries_of, depth}
 use Rattle.amqp_types.specs.Tags.{tag_byte, tag_of}
 use Rattle.amqp_types.specs.declared.errors.GenError.{GenError}
 use Rattle.amqp_types.specs.Constants.{max_depth}
@@ -17,7 +23,8 @@ signed_width short_int = bytes2
 signed_width long_int = bytes4
 signed_width long_long_int = bytes8
 
--- the width of each kind of unsigned number; the bits of a float, a double and a timestamp are numbers too
+-- the width of each kind of unsigned number; the bits of a float, a double and a timestamp
+-- are numbers too
 abbrev pub unsigned_width : UnsignedKind → NumberWidth
 unsigned_width short_short_uint = bytes1
 unsigned_width short_uint = bytes2
@@ -51,7 +58,8 @@ abbrev mutual
   -- each key, and after it the tag and the value
   pub entries_bytes : FieldEntries → List ℕ
   entries_bytes no_entries = []
-  entries_bytes (next_entry k v es) = (short_string_bytes k ++ tag_byte (tag_of v) ∷ value_bytes v) ++ entries_bytes es
+  entries_bytes (next_entry k v es) =
+      (short_string_bytes k ++ tag_byte (tag_of v) ∷ value_bytes v) ++ entries_bytes es
 
 -- a value after its tag
 abbrev pub tagged_bytes : FieldValue → List ℕ
@@ -94,7 +102,9 @@ array_bytes vs = value_bytes (array_value (values_of vs))
 
 -- the size in bytes of an array, or why it is not written
 abbrev pub array_size : List FieldValue → Result ℕ GenError
-array_size vs = measured (is_deep (array_value (values_of vs))) (is_long (array_value (values_of vs))) (array_bytes vs)
+array_size vs =
+    measured (is_deep (array_value (values_of vs)))
+    (is_long (array_value (values_of vs))) (array_bytes vs)
 
 -- the length of the entries, in 4 bytes, and each key, tag and value
 unfoldable pub table_bytes : List Entry → List ℕ

@@ -1,9 +1,15 @@
 -- Values as trees of numbers, by which proofs distinguish two values.
-use Rattle.std.specs.Prelude.{◌≡◌, ℕ, pos, negsuc, ◌==◌, List, [], ◌∷◌, true, false, if◌then◌else◌, refl}
+use Rattle.std.specs.Prelude.{◌≡◌, ℕ, pos, negsuc, ◌==◌, List, [], ◌∷◌}
+use Rattle.std.specs.Prelude.{true, false, if◌then◌else◌, refl}
 use Rattle.std.specs.Coded.{Coded, code_by}
 use base.Stored.{Gv, gnil, gnum, gcons, num}
 use denote.Struct.Codes.{itself}
-use Rattle.amqp_types.specs.Values.{FieldValue, FieldValues, FieldEntries, short_short_int, short_int, long_int, long_long_int, short_short_uint, short_uint, long_uint, float, double, timestamp, long_string, byte_array, boolean_value, signed_value, unsigned_value, decimal_value, bytes_value, array_value, table_value, void_value, no_values, next_value, no_entries, next_entry}
+use Rattle.amqp_types.specs.Values.{FieldValue, FieldValues, FieldEntries, short_short_int}
+use Rattle.amqp_types.specs.Values.{short_int, long_int, long_long_int, short_short_uint}
+use Rattle.amqp_types.specs.Values.{short_uint, long_uint, float, double, timestamp, long_string}
+use Rattle.amqp_types.specs.Values.{byte_array, boolean_value, signed_value, unsigned_value}
+use Rattle.amqp_types.specs.Values.{decimal_value, bytes_value, array_value, table_value}
+use Rattle.amqp_types.specs.Values.{void_value, no_values, next_value, no_entries, next_entry}
 
 -- a list of numbers as a tree: each number beside the tree of those after it
 abbrev numbers_to : List ℕ → Gv
@@ -34,7 +40,8 @@ second_of (gnum n) = gnil
 second_of (gcons a b) = b
 
 abbrev mutual
-  -- a value as a tree: a number for its kind (and for true, false and signs) beside what it holds; nothing is the empty tree
+  -- a value as a tree: a number for its kind (and for true, false and signs) beside what it holds;
+  -- nothing is the empty tree
   value_to : FieldValue → Gv
   value_to (boolean_value false) = gcons (gnum 0) gnil
   value_to (boolean_value true) = gcons (gnum 1) gnil
@@ -145,8 +152,10 @@ mutual
   -- the same of the entries of a table
   pub entries_back : (es : FieldEntries) → entries_from (entries_to es) ≡ es
   entries_back no_entries = refl
-  entries_back (next_entry k v es) = λ i. next_entry (numbers_back k i) (value_back v i) (entries_back es i)
+  entries_back (next_entry k v es) =
+      λ i. next_entry (numbers_back k i) (value_back v i) (entries_back es i)
 
--- values are coded by their trees, from which they are had back: values with the same tree are the same
+-- values are coded by their trees, from which they are had back: values with the same
+-- tree are the same
 abbrev pub value_code : Coded FieldValue
 value_code = code_by Gv itself value_to value_from value_back

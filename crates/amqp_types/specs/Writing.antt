@@ -12,8 +12,10 @@ pub record Puts (old new : List ℕ) (at : ℕ) (bytes : List ℕ) (result : ℕ
   pub put : new ≡ written old at bytes
   pub behind : result ≡ at + length bytes
 
--- A gen call appends the canonical bytes of a value that has this size. A refusal is that of measuring it, or out of memory, and leaves the vector as it was.
-abbrev pub Appends : {X : Type 0} → List ℕ → List ℕ → Result ℕ GenError → List ℕ → Result X GenError → Type 0
+-- A gen call appends the canonical bytes of a value that has this size. A refusal is that of
+-- measuring it, or out of memory, and leaves the vector as it was.
+abbrev pub Appends : {X : Type 0} → List ℕ → List ℕ
+    → Result ℕ GenError → List ℕ → Result X GenError → Type 0
 Appends old new size bytes (Ok _) = (size ≡ Ok (length bytes)) × (new ≡ old ++ bytes)
 Appends old new size bytes (Err errors.NoMemory) = new ≡ old
 Appends old new size bytes (Err error) = (size ≡ Err error) × (new ≡ old)

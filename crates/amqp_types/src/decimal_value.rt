@@ -27,7 +27,8 @@ pub struct DecimalValue {
 /// Decodes a scale and a number.
 #[tactic(auto, unfolding(crate::specs::ValueJudging::judge_decimal))]
 pub fn parse_decimal_value(i: &[u8]) -> Result<(usize, DecimalValue), ParserError>
-    ensures judged { AnswersFully (λ decimal. (decimal.scale, decimal.value)) result (judge_decimal i.now) }
+    ensures judged { AnswersFully
+        (λ decimal. (decimal.scale, decimal.value)) result (judge_decimal i.now) }
     ensures used { IfOk result (λ found. found.0 ≤ length i.now) }
 {
     let (n, scale) = parse_short_short_uint(i)?;
@@ -58,7 +59,8 @@ pub fn gen_decimal_value(
     out: &mut Vec<u8>,
     value: DecimalValue,
 ) -> Result<(), GenError>
-    ensures { Appends out.old.items out.new.items (Ok 5) (decimal_bytes value.scale value.value) result }
+    ensures { Appends out.old.items out.new.items (Ok 5)
+        (decimal_bytes value.scale value.value) result }
 {
     let at = grow(out, 5)?;
     put_decimal_value(out, at, &value);

@@ -1,6 +1,7 @@
 //! Flags: up to eight truth values in one byte.
 
-ghost use Rattle.std.specs.Prelude.{◌↔◌, IsTrue, ◌≡◌, ◌≢◌, ◌++◌, ◌∷◌, [], ◌≤◌, ◌<◌, ◌+◌, ◌^◌, length, slice_get, Ok, IfOk};
+ghost use Rattle.std.specs.Prelude.{◌↔◌, IsTrue, ◌≡◌, ◌≢◌, ◌++◌, ◌∷◌, [], ◌≤◌, ◌<◌, ◌+◌};
+ghost use Rattle.std.specs.Prelude.{◌^◌, length, slice_get, Ok, IfOk};
 ghost use Rattle.amqp_types.specs.Answers.{AnswersFully};
 ghost use Rattle.amqp_types.specs.Flags.{flag_at, flags_from, flags_byte, flags_bytes, judge_flags};
 ghost use Rattle.amqp_types.specs.Writing.{Puts, Appends};

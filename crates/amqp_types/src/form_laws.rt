@@ -1,6 +1,8 @@
 //! Laws of numbers, strings and flags, each the contract of a function that does nothing.
 
-ghost use Rattle.amqp_types.specs.FormLaws.{NumbersAreLawful, SignedNumbersAreLawful, ShortStringsAreLawful, LongStringsAreLawful, FlagsAreLawful};
+ghost use Rattle.amqp_types.specs.FormLaws.{NumbersAreLawful, SignedNumbersAreLawful};
+ghost use Rattle.amqp_types.specs.FormLaws.{ShortStringsAreLawful};
+ghost use Rattle.amqp_types.specs.FormLaws.{LongStringsAreLawful, FlagsAreLawful};
 
 /// The laws of unsigned numbers.
 #[tactic(auto, using(crate::proofs::FormLaws::numbers_lawful))]

@@ -1,10 +1,12 @@
 //! Decoding and encoding strings and byte arrays: from the front of a slice, at a place of a slice, and
 //! at the end of a vector.
 
-ghost use Rattle.std.specs.Prelude.{◌≡◌, ◌+◌, ◌^◌, ◌≤◌, ◌<◌, false, true, length, Ok, IfOk, IsOk, MatchOption};
+ghost use Rattle.std.specs.Prelude.{◌≡◌, ◌+◌, ◌^◌, ◌≤◌, ◌<◌, false, true};
+ghost use Rattle.std.specs.Prelude.{length, Ok, IfOk, IsOk, MatchOption};
 ghost use Rattle.std.specs.Str.{is_utf8};
 ghost use Rattle.amqp_types.specs.Answers.{Answers, AnswersFully};
-ghost use Rattle.amqp_types.specs.Strings.{short_string_bytes, judge_short_string, with_length, long_string_size, judge_long_string};
+ghost use Rattle.amqp_types.specs.Strings.{short_string_bytes, judge_short_string, with_length};
+ghost use Rattle.amqp_types.specs.Strings.{long_string_size, judge_long_string};
 ghost use Rattle.amqp_types.specs.Writing.{Puts, Appends};
 
 use crate::byte_array::ByteArray;
@@ -19,7 +21,8 @@ use std::str;
 
 /// The text that these bytes are, where they are UTF-8.
 fn text_of(bytes: &[u8]) -> Option<&str>
-    ensures { MatchOption result (is_utf8 bytes.now ≡ false) (λ text. (text.now ≡ bytes.now) × (is_utf8 bytes.now ≡ true)) }
+    ensures { MatchOption result (is_utf8 bytes.now ≡ false)
+        (λ text. (text.now ≡ bytes.now) × (is_utf8 bytes.now ≡ true)) }
 {
     match str::from_utf8(bytes) {
         Ok(text) => Some(text),
@@ -124,7 +127,8 @@ pub fn gen_short_string(
     out: &mut Vec<u8>,
     value: &ShortString,
 ) -> Result<(), GenError>
-    ensures { Appends out.old.items out.new.items (Ok (length (short_string_bytes value.now))) (short_string_bytes value.now) result }
+    ensures { Appends out.old.items out.new.items
+        (Ok (length (short_string_bytes value.now))) (short_string_bytes value.now) result }
 {
     let at = grow(out, 1 + value.len() as u64)?;
     put_short_string(out, at, value);
@@ -154,7 +158,8 @@ pub fn put_long_string(buf: &mut [u8], at: usize, value: &[u8]) -> usize
 
 /// Appends a long string to a vector.
 pub fn gen_long_string(_alloc: Global, out: &mut Vec<u8>, value: &[u8]) -> Result<(), GenError>
-    ensures { Appends out.old.items out.new.items (long_string_size value.now) (with_length value.now) result }
+    ensures { Appends out.old.items out.new.items
+        (long_string_size value.now) (with_length value.now) result }
 {
     let size = size_long_string(value)?;
     let at = grow(out, size)?;
@@ -181,7 +186,8 @@ pub fn put_byte_array(buf: &mut [u8], at: usize, value: &ByteArray) -> usize
 
 /// Appends a byte array to a vector.
 pub fn gen_byte_array(alloc: Global, out: &mut Vec<u8>, value: &ByteArray) -> Result<(), GenError>
-    ensures { Appends out.old.items out.new.items (long_string_size value.now) (with_length value.now) result }
+    ensures { Appends out.old.items out.new.items
+        (long_string_size value.now) (with_length value.now) result }
 {
     gen_long_string(alloc, out, value.as_slice())
 }

@@ -18,5 +18,6 @@ read_one_by_one = tt
 
 -- for the list of fields that is written: the table's row, and the bytes and sizes of fields, methods and payloads
 unfoldable pub listed : ⊤
-unfolding rows_of slots_at field_bytes is_deep_field is_long_field fields_bytes any_deep_field any_long_field fields_size form_bytes slots_bytes items_size method_bytes method_size payload_bytes payload_size
+unfolding rows_of slots_at field_bytes is_deep_field is_long_field fields_bytes any_deep_field any_long_field
+    fields_size form_bytes slots_bytes items_size method_bytes method_size payload_bytes payload_size
 listed = tt

@@ -1,4 +1,5 @@
--- What nested values count for in the sizes of arrays and tables: no more than they weigh, so that sizes fall with each level.
+-- What nested values count for in the sizes of arrays and tables: no more than they weigh, so that
+-- sizes fall with each level.
 use Rattle.std.specs.Prelude.{ℕ, ◌≤◌, List, [], ◌∷◌, map}
 use Rattle.std.proofs.Common.{arith}
 use denote.Param.Weighed.{most}
@@ -29,11 +30,13 @@ deep_le (variant.ByteArray s) = omega arith
 deep_le variant.Void = omega arith
 
 -- the most that one value of an array counts for is at most what all its values weigh
-pub most_values : (vs : List AMQPValue) → most deep-AMQPValue vs ≤ values_weight (values_of (map value_of vs))
+pub most_values : (vs : List AMQPValue)
+    → most deep-AMQPValue vs ≤ values_weight (values_of (map value_of vs))
 most_values [] = omega arith
 most_values (v ∷ vs) = omega (arith, deep_le v, most_values vs)
 
 -- the most that the value of one entry of a table counts for is at most what all its entries weigh
-pub most_entries : (es : List (List ℕ × AMQPValue)) → most deep-AMQPValue (map (λ x. x.1) es) ≤ entries_weight (entries_of (map entry_of es))
+pub most_entries : (es : List (List ℕ × AMQPValue))
+    → most deep-AMQPValue (map (λ x. x.1) es) ≤ entries_weight (entries_of (map entry_of es))
 most_entries [] = omega arith
 most_entries (e ∷ es) = omega (arith, deep_le e.1, most_entries es)

@@ -2,14 +2,16 @@
 use Rattle.std.specs.Prelude.{◌≡◌, ◌≤◌, ℕ, List, [], ◌∷◌, ◌++◌, length, Bool, false, ◌||◌, Result}
 use Rattle.amqp_types.specs.Numbers.{bytes1, bytes2, bytes4, bytes8}
 use Rattle.amqp_types.specs.Sizes.{measured}
-use Rattle.amqp_types.specs.Slots.{number_item, text_item, bytes_item, entries_item, number_form, short_string_form, long_string_form, table_form}
+use Rattle.amqp_types.specs.Slots.{number_item, text_item, bytes_item, entries_item, number_form}
+use Rattle.amqp_types.specs.Slots.{short_string_form, long_string_form, table_form}
 use Rattle.amqp_types.specs.SlotBytes.{form_bytes, is_deep_item, is_long_item}
 use Rattle.amqp_types.specs.SlotLaws.{IsFormHeld}
 use Rattle.amqp_types.specs.declared.errors.GenError.{GenError}
 use Rattle.amqp_values.specs.declared.fields.Field.{Field}
 use Rattle.amqp_values.specs.declared.fields.Field.TheVariants as field
 
--- the canonical bytes of a field, in the form that its variant names: no bytes for `Nothing`, a byte as it is for flags
+-- the canonical bytes of a field, in the form that its variant names: no bytes for `Nothing`, a
+-- byte as it is for flags
 unfoldable pub field_bytes : Field → List ℕ
 field_bytes field.Nothing = []
 field_bytes (field.ShortShortUInt n) = form_bytes (number_form bytes1) (number_item n ∷ [])
@@ -47,11 +49,13 @@ unfoldable pub any_long_field : List Field → Bool
 any_long_field [] = false
 any_long_field (x ∷ xs) = is_long_field x || any_long_field xs
 
--- the number of the canonical bytes of fields; `TooDeep` where one nests too deep, else `TooLong` where one is too long
+-- the number of the canonical bytes of fields; `TooDeep` where one nests too deep, else `TooLong`
+-- where one is too long
 unfoldable pub fields_size : List Field → Result ℕ GenError
 fields_size fields = measured (any_deep_field fields) (any_long_field fields) (fields_bytes fields)
 
--- what a field holds is held in the form that its variant names; of bytes and flags nothing is asked
+-- what a field holds is held in the form that its variant names; of bytes and flags
+-- nothing is asked
 abbrev pub IsFieldHeld : Field → Type 0
 IsFieldHeld (field.ShortShortUInt n) = IsFormHeld (number_form bytes1) (number_item n ∷ [])
 IsFieldHeld (field.ShortUInt n) = IsFormHeld (number_form bytes2) (number_item n ∷ [])

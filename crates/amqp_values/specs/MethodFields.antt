@@ -5,7 +5,8 @@ use Rattle.amqp_laws.specs.HeldMethods.{IsHeldMethod}
 use Rattle.amqp_values.specs.declared.fields.Field.{Field}
 use Rattle.amqp_values.specs.Fields.{fields_bytes, fields_size, AreFieldsHeld}
 
--- The fields are written as a class id, a method id and fields; without the first of them, as the method id and the fields.
+-- The fields are written as a class id, a method id and fields; without the first of them, as the
+-- method id and the fields.
 -- Where they are held, the method is.
 pub record ListsMethod (fields : List Field) (m : Method) : Type 0 where
   pub few : length fields ≤ 64

@@ -4,9 +4,16 @@ use Rattle.std.specs.Ordering.{int_eq}
 use Rattle.std.specs.Bool.{Decides}
 use Rattle.std.specs.Cmp.Lexicographic.{pointwise}
 use Rattle.std.proofs.Common.{◌≡◌, true≢false, refl, sym, ap, ap₂, subst}
-use Rattle.std.specs.Cmp.{IsPartialEquivalence, decided, signed_Decides, unsigned_Decides, partial_equiv_from_equiv}
+use Rattle.std.specs.Cmp.{IsPartialEquivalence, decided, signed_Decides}
+use Rattle.std.specs.Cmp.{unsigned_Decides, partial_equiv_from_equiv}
 use lib.Pointwise.{bytes_decides}
-use Rattle.amqp_types.specs.Values.{FieldValue, FieldValues, FieldEntries, SignedKind, UnsignedKind, BytesKind, short_short_int, short_int, long_int, long_long_int, short_short_uint, short_uint, long_uint, float, double, timestamp, long_string, byte_array, boolean_value, signed_value, unsigned_value, decimal_value, bytes_value, array_value, table_value, void_value, no_values, next_value, no_entries, next_entry}
+use Rattle.amqp_types.specs.Values.{FieldValue, FieldValues, FieldEntries, SignedKind}
+use Rattle.amqp_types.specs.Values.{UnsignedKind, BytesKind, short_short_int, short_int}
+use Rattle.amqp_types.specs.Values.{long_int, long_long_int, short_short_uint, short_uint}
+use Rattle.amqp_types.specs.Values.{long_uint, float, double, timestamp, long_string, byte_array}
+use Rattle.amqp_types.specs.Values.{boolean_value, signed_value, unsigned_value, decimal_value}
+use Rattle.amqp_types.specs.Values.{bytes_value, array_value, table_value, void_value, no_values}
+use Rattle.amqp_types.specs.Values.{next_value, no_entries, next_entry}
 
 -- both lists have the same bytes in the same order
 abbrev pub same_bytes : List ℕ → List ℕ → Bool
@@ -26,7 +33,8 @@ same_signed long_int long_int = true
 same_signed long_long_int long_long_int = true
 same_signed k l = false
 
--- both unsigned numbers are of one kind: a float is never the same as an integer of 4 bytes, nor a double as a time
+-- both unsigned numbers are of one kind: a float is never the same as an integer of 4 bytes, nor a
+-- double as a time
 abbrev pub same_unsigned : UnsignedKind → UnsignedKind → Bool
 same_unsigned short_short_uint short_short_uint = true
 same_unsigned short_uint short_uint = true
@@ -43,7 +51,8 @@ same_kind byte_array byte_array = true
 same_kind k l = false
 
 abbrev mutual
-  -- Both values are of one kind and have the same content, at every depth. Floats are compared by their bits.
+  -- Both values are of one kind and have the same content, at every depth. Floats are
+  -- compared by their bits.
   pub same_value : FieldValue → FieldValue → Bool
   same_value (boolean_value b) (boolean_value c) = same_truth b c
   same_value (signed_value k m) (signed_value l n) = same_signed k l && int_eq m n
@@ -64,7 +73,8 @@ abbrev mutual
   -- both lists have the same keys with the same values, in the same order
   pub same_entries : FieldEntries → FieldEntries → Bool
   same_entries no_entries no_entries = true
-  same_entries (next_entry k v es) (next_entry l w fs) = (same_bytes k l && same_value v w) && same_entries es fs
+  same_entries (next_entry k v es) (next_entry l w fs) =
+      (same_bytes k l && same_value v w) && same_entries es fs
   same_entries es fs = false
 
 -- ---- each test decides whether the two are equal
@@ -134,10 +144,18 @@ mutual
   -- values of which the test holds are equal
   pub values_same : (v w : FieldValue) → same_value v w ≡ true → v ≡ w
   values_same (boolean_value b) (boolean_value c) h = ap boolean_value (truths b c h)
-  values_same (signed_value k m) (signed_value l n) h = ap₂ signed_value (signeds k l (first (same_signed k l) (int_eq m n) h)) ((signed_Decides m n).0 (second (same_signed k l) (int_eq m n) h))
-  values_same (unsigned_value k m) (unsigned_value l n) h = ap₂ unsigned_value (unsigneds k l (first (same_unsigned k l) (nat_eq m n) h)) ((unsigned_Decides m n).0 (second (same_unsigned k l) (nat_eq m n) h))
-  values_same (decimal_value s v) (decimal_value t w) h = ap₂ decimal_value ((unsigned_Decides s t).0 (first (nat_eq s t) (nat_eq v w) h)) ((unsigned_Decides v w).0 (second (nat_eq s t) (nat_eq v w) h))
-  values_same (bytes_value k s) (bytes_value l t) h = ap₂ bytes_value (kinds k l (first (same_kind k l) (same_bytes s t) h)) ((bytes_decides s t).0 (second (same_kind k l) (same_bytes s t) h))
+  values_same (signed_value k m) (signed_value l n) h =
+      ap₂ signed_value (signeds k l (first (same_signed k l) (int_eq m n) h))
+      ((signed_Decides m n).0 (second (same_signed k l) (int_eq m n) h))
+  values_same (unsigned_value k m) (unsigned_value l n) h =
+      ap₂ unsigned_value (unsigneds k l (first (same_unsigned k l) (nat_eq m n) h))
+      ((unsigned_Decides m n).0 (second (same_unsigned k l) (nat_eq m n) h))
+  values_same (decimal_value s v) (decimal_value t w) h =
+      ap₂ decimal_value ((unsigned_Decides s t).0 (first (nat_eq s t) (nat_eq v w) h))
+      ((unsigned_Decides v w).0 (second (nat_eq s t) (nat_eq v w) h))
+  values_same (bytes_value k s) (bytes_value l t) h =
+      ap₂ bytes_value (kinds k l (first (same_kind k l) (same_bytes s t) h))
+      ((bytes_decides s t).0 (second (same_kind k l) (same_bytes s t) h))
   values_same (array_value vs) (array_value ws) h = ap array_value (items_same vs ws h)
   values_same (table_value es) (table_value fs) h = ap table_value (entries_same es fs h)
   values_same void_value void_value h = refl
@@ -146,7 +164,9 @@ mutual
   -- lists of values of which the test holds are equal
   pub items_same : (vs ws : FieldValues) → same_items vs ws ≡ true → vs ≡ ws
   items_same no_values no_values h = refl
-  items_same (next_value v vs) (next_value w ws) h = ap₂ next_value (values_same v w (first (same_value v w) (same_items vs ws) h)) (items_same vs ws (second (same_value v w) (same_items vs ws) h))
+  items_same (next_value v vs) (next_value w ws) h =
+      ap₂ next_value (values_same v w (first (same_value v w) (same_items vs ws) h))
+      (items_same vs ws (second (same_value v w) (same_items vs ws) h))
   items_same no_values (next_value w ws) h = absurd (true≢false (sym h))
   items_same (next_value v vs) no_values h = absurd (true≢false (sym h))
 
@@ -155,7 +175,10 @@ mutual
   entries_same no_entries no_entries h = refl
   entries_same (next_entry k v es) (next_entry l w fs) h =
       let here = first (same_bytes k l && same_value v w) (same_entries es fs) h in
-      λ i. next_entry ((bytes_decides k l).0 (first (same_bytes k l) (same_value v w) here) i) (values_same v w (second (same_bytes k l) (same_value v w) here) i) (entries_same es fs (second (same_bytes k l && same_value v w) (same_entries es fs) h) i)
+      λ i.
+      next_entry ((bytes_decides k l).0 (first (same_bytes k l) (same_value v w) here) i)
+      (values_same v w (second (same_bytes k l) (same_value v w) here) i)
+      (entries_same es fs (second (same_bytes k l && same_value v w) (same_entries es fs) h) i)
   entries_same no_entries (next_entry l w fs) h = absurd (true≢false (sym h))
   entries_same (next_entry k v es) no_entries h = absurd (true≢false (sym h))
 
@@ -170,7 +193,8 @@ mutual
   value_itself (boolean_value b) = truth_itself b
   value_itself (signed_value k n) = ap₂ ◌&&◌ (signed_itself k) ((signed_Decides n n).1 refl)
   value_itself (unsigned_value k n) = ap₂ ◌&&◌ (unsigned_itself k) ((unsigned_Decides n n).1 refl)
-  value_itself (decimal_value s v) = ap₂ ◌&&◌ ((unsigned_Decides s s).1 refl) ((unsigned_Decides v v).1 refl)
+  value_itself (decimal_value s v) =
+      ap₂ ◌&&◌ ((unsigned_Decides s s).1 refl) ((unsigned_Decides v v).1 refl)
   value_itself (bytes_value k s) = ap₂ ◌&&◌ (kind_itself k) ((bytes_decides s s).1 refl)
   value_itself (array_value vs) = items_itself vs
   value_itself (table_value es) = entries_itself es
@@ -184,19 +208,29 @@ mutual
   -- the test holds of each list of entries and itself
   entries_itself : (es : FieldEntries) → same_entries es es ≡ true
   entries_itself no_entries = refl
-  entries_itself (next_entry k v es) = ap₂ ◌&&◌ (ap₂ ◌&&◌ ((bytes_decides k k).1 refl) (value_itself v)) (entries_itself es)
+  entries_itself (next_entry k v es) =
+      ap₂ ◌&&◌ (ap₂ ◌&&◌ ((bytes_decides k k).1 refl) (value_itself v)) (entries_itself es)
 
 -- the test on values holds exactly where they are equal
 pub same_value-decides : (v w : FieldValue) → Decides (same_value v w) (v ≡ w)
-same_value-decides v w = (values_same v w, λ e. let P : FieldValue → Type 0 = λ x. same_value v x ≡ true in subst P e (value_itself v))
+same_value-decides v w = (
+  values_same v w,
+  λ e. let P : FieldValue → Type 0 = λ x. same_value v x ≡ true in subst P e (value_itself v),
+)
 
 -- the test on lists of values holds exactly where they are equal
 pub same_items-decides : (v w : FieldValues) → Decides (same_items v w) (v ≡ w)
-same_items-decides v w = (items_same v w, λ e. let P : FieldValues → Type 0 = λ x. same_items v x ≡ true in subst P e (items_itself v))
+same_items-decides v w = (
+  items_same v w,
+  λ e. let P : FieldValues → Type 0 = λ x. same_items v x ≡ true in subst P e (items_itself v),
+)
 
 -- the test on lists of entries holds exactly where they are equal, in the order of the entries too
 pub same_entries-decides : (v w : FieldEntries) → Decides (same_entries v w) (v ≡ w)
-same_entries-decides v w = (entries_same v w, λ e. let P : FieldEntries → Type 0 = λ x. same_entries v x ≡ true in subst P e (entries_itself v))
+same_entries-decides v w = (
+  entries_same v w,
+  λ e. let P : FieldEntries → Type 0 = λ x. same_entries v x ≡ true in subst P e (entries_itself v),
+)
 
 -- the test on values is symmetric and transitive, as `PartialEq` requires
 pub same_value_laws : IsPartialEquivalence same_value

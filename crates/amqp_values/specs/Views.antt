@@ -1,10 +1,15 @@
 -- What an `AMQPValue` means. The arrays and tables in it are seen as their lists already.
 use Rattle.std.specs.Prelude.{ℕ, List}
-use Rattle.amqp_types.specs.Values.{FieldValue, Entry, short_short_int, short_int, long_int, long_long_int, short_short_uint, short_uint, long_uint, float, double, timestamp, long_string, byte_array, boolean_value, signed_value, unsigned_value, decimal_value, bytes_value, array_value, table_value, void_value, values_of, entries_of}
+use Rattle.amqp_types.specs.Values.{FieldValue, Entry, short_short_int, short_int, long_int}
+use Rattle.amqp_types.specs.Values.{long_long_int, short_short_uint, short_uint, long_uint, float}
+use Rattle.amqp_types.specs.Values.{double, timestamp, long_string, byte_array, boolean_value}
+use Rattle.amqp_types.specs.Values.{signed_value, unsigned_value, decimal_value, bytes_value}
+use Rattle.amqp_types.specs.Values.{array_value, table_value, void_value, values_of, entries_of}
 use Rattle.amqp_values.specs.declared.value.AMQPValue.{AMQPValue}
 use Rattle.amqp_values.specs.declared.value.AMQPValue.TheVariants as variant
 
--- a value by its kind and content (AMQP 0-9-1, section 4.2.5.5); a float or a double by its bits, a time by its number
+-- a value by its kind and content (AMQP 0-9-1, section 4.2.5.5); a float or a double by its bits, a
+-- time by its number
 abbrev pub value_of : AMQPValue → FieldValue
 value_of (variant.Boolean b) = boolean_value b
 value_of (variant.ShortShortInt n) = signed_value short_short_int n

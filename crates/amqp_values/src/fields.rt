@@ -1,9 +1,11 @@
 //! Fields that are written one after another: measured, put into a slice, or appended to a vector.
 
-ghost use Rattle.std.specs.Prelude.{◌≡◌, ◌≤◌, ◌<◌, ◌+◌, ◌*◌, ◌^◌, ◌++◌, ◌||◌, ℕ, List, Bool, false, length, IfOk, IsOk};
+ghost use Rattle.std.specs.Prelude.{◌≡◌, ◌≤◌, ◌<◌, ◌+◌, ◌*◌, ◌^◌, ◌++◌, ◌||◌, ℕ, List};
+ghost use Rattle.std.specs.Prelude.{Bool, false, length, IfOk, IsOk};
 ghost use Rattle.amqp_types.specs.Sizes.{measured};
 ghost use Rattle.amqp_types.specs.Writing.{Puts, Appends};
-ghost use Rattle.amqp_values.specs.Fields.{field_bytes, is_deep_field, is_long_field, fields_bytes, any_deep_field, any_long_field, fields_size};
+ghost use Rattle.amqp_values.specs.Fields.{field_bytes, is_deep_field, is_long_field, fields_bytes};
+ghost use Rattle.amqp_values.specs.Fields.{any_deep_field, any_long_field, fields_size};
 
 use crate::generation::put_field_table;
 use crate::measuring::size_field_table;
@@ -48,7 +50,8 @@ pub enum Field<'a> {
 /// The size of a field.
 #[tactic(auto, unfolding(crate::specs::Fields::field_bytes, crate::specs::Fields::is_deep_field, crate::specs::Fields::is_long_field, amqp_types::specs::SlotBytes::form_bytes))]
 fn size_field(field: &Field<'_>) -> Result<u64, GenError>
-    ensures size { result ≡ measured (is_deep_field field.now) (is_long_field field.now) (field_bytes field.now) }
+    ensures size { result
+        ≡ measured (is_deep_field field.now) (is_long_field field.now) (field_bytes field.now) }
     ensures bound { IfOk result (λ n. n < 2 ^ 33) }
 {
     match *field {
@@ -68,8 +71,10 @@ fn size_field(field: &Field<'_>) -> Result<u64, GenError>
 #[tactic(auto, using(crate::proofs::FieldLists::length_append))]
 fn size_both(first: Result<u64, GenError>, second: Result<u64, GenError>) -> Result<u64, GenError>
     requires { IfOk first (λ n. IfOk second (λ m. n + m < 2 ^ 64)) }
-    ensures sum { IfOk result (λ k. IfOk first (λ n. IfOk second (λ m. k ≡ n + m)) × IsOk first × IsOk second) }
-    ensures size { (da db la lb : Bool) (xs ys : List ℕ) → first ≡ measured da la xs → second ≡ measured db lb ys
+    ensures sum { IfOk result
+        (λ k. IfOk first (λ n. IfOk second (λ m. k ≡ n + m)) × IsOk first × IsOk second) }
+    ensures size { (da db la lb : Bool) (xs ys : List ℕ)
+        → first ≡ measured da la xs → second ≡ measured db lb ys
         → result ≡ measured (da || db) (la || lb) (xs ++ ys) }
 {
     match first {
@@ -156,7 +161,8 @@ pub fn put_fields(buf: &mut [u8], at: usize, fields: &[Field<'_>]) -> usize
 #[tactic(auto, unfolding(crate::specs::Fields::fields_size))]
 pub fn gen_fields(out: &mut Vec<u8>, fields: &[Field<'_>]) -> Result<(), GenError>
     requires few { length fields.now ≤ 64 }
-    ensures { Appends out.old.items out.new.items (fields_size fields.now) (fields_bytes fields.now) result }
+    ensures { Appends out.old.items out.new.items
+        (fields_size fields.now) (fields_bytes fields.now) result }
 {
     let size = size_fields(fields)?;
     let at = grow(out, size)?;

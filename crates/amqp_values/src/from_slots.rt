@@ -21,7 +21,8 @@ pub trait FromSlot {
 
     /// Decodes the next field.
     fn read(reader: &mut SlotReader<'_>, alloc: Global) -> Result<Self, ParserError>
-        ensures step { Steps items result reader.old.rest.now reader.new.rest.now (judge_slot slot) }
+        ensures step { Steps items result reader.old.rest.now
+            reader.new.rest.now (judge_slot slot) }
         ensures left { length reader.new.rest.now ≤ length reader.old.rest.now };
 
     /// Drops the value. A bound `Drop` would have each crate that reads a tuple prove how its types are dropped.
@@ -38,7 +39,8 @@ pub trait FromSlots {
 
     /// Decodes the next fields.
     fn read(reader: &mut SlotReader<'_>, alloc: Global) -> Result<Self, ParserError>
-        ensures step { Steps items result reader.old.rest.now reader.new.rest.now (judge_slots slots) }
+        ensures step { Steps items result reader.old.rest.now
+            reader.new.rest.now (judge_slots slots) }
         ensures left { length reader.new.rest.now ≤ length reader.old.rest.now };
 }
 
@@ -262,7 +264,8 @@ impl<A: FromSlot, B: FromSlot, C: FromSlot, D: FromSlot, E: FromSlot> FromSlots
 
     ghost slots = { A.slot ∷ B.slot ∷ C.slot ∷ D.slot ∷ E.slot ∷ [] };
 
-    ghost items = { λ t. A.items t.0 ++ B.items t.1 ++ C.items t.2 ++ D.items t.3 ++ E.items t.4 ++ [] };
+    ghost items = { λ t. A.items t.0 ++ B.items t.1
+        ++ C.items t.2 ++ D.items t.3 ++ E.items t.4 ++ [] };
 
     #[tactic(auto, using(amqp_types::proofs::Judged::refuses_next), unfolding(amqp_types::specs::SlotJudging::judge_slots))]
     fn read(reader: &mut SlotReader<'_>, alloc: Global) -> Result<(A, B, C, D, E), ParserError> {
@@ -283,7 +286,8 @@ impl<A: FromSlot, B: FromSlot, C: FromSlot, D: FromSlot, E: FromSlot, F: FromSlo
 
     ghost slots = { A.slot ∷ B.slot ∷ C.slot ∷ D.slot ∷ E.slot ∷ F.slot ∷ [] };
 
-    ghost items = { λ t. A.items t.0 ++ B.items t.1 ++ C.items t.2 ++ D.items t.3 ++ E.items t.4 ++ F.items t.5 ++ [] };
+    ghost items = { λ t. A.items t.0 ++ B.items t.1 ++ C.items t.2
+        ++ D.items t.3 ++ E.items t.4 ++ F.items t.5 ++ [] };
 
     #[tactic(auto, using(amqp_types::proofs::Judged::refuses_next), unfolding(amqp_types::specs::SlotJudging::judge_slots))]
     fn read(reader: &mut SlotReader<'_>, alloc: Global) -> Result<(A, B, C, D, E, F), ParserError> {

@@ -2,7 +2,8 @@
 
 ghost use Rattle.std.specs.Prelude.{◌≡◌, ◌+◌, ◌≤◌, length, false, IsOk};
 ghost use Rattle.amqp_types.specs.Values.{array_value, table_value, values_of, entries_of};
-ghost use Rattle.amqp_types.specs.ValueBytes.{value_bytes, tagged_bytes, array_bytes, table_bytes, is_long, tagged_size, array_size, table_size};
+ghost use Rattle.amqp_types.specs.ValueBytes.{value_bytes, tagged_bytes, array_bytes, table_bytes};
+ghost use Rattle.amqp_types.specs.ValueBytes.{is_long, tagged_size, array_size, table_size};
 ghost use Rattle.amqp_types.specs.Tags.{tag_of};
 ghost use Rattle.amqp_types.specs.Writing.{Puts, Appends};
 ghost use Rattle.amqp_values.specs.Views.{value_of};
@@ -102,7 +103,8 @@ fn put_array(buf: &mut [u8], at: usize, array: &FieldArray) -> usize
 #[cycle(put)]
 fn put_table(buf: &mut [u8], at: usize, table: &FieldTable) -> usize
     requires short { is_long (table_value (entries_of table.now)) ≡ false }
-    requires room { at + length (value_bytes (table_value (entries_of table.now))) ≤ length buf.old }
+    requires room { at + length (value_bytes (table_value (entries_of table.now)))
+        ≤ length buf.old }
     ensures { Puts buf.old buf.new at (value_bytes (table_value (entries_of table.now))) result }
 {
     let mut end = at + 4;
@@ -126,7 +128,8 @@ pub fn put_value(buf: &mut [u8], at: usize, value: &AMQPValue) -> usize
 
 /// Appends a tag and its value to a vector.
 pub fn gen_value(_alloc: Global, out: &mut Vec<u8>, value: &AMQPValue) -> Result<(), GenError>
-    ensures { Appends out.old.items out.new.items (tagged_size (value_of value.now)) (tagged_bytes (value_of value.now)) result }
+    ensures { Appends out.old.items out.new.items (tagged_size (value_of value.now))
+        (tagged_bytes (value_of value.now)) result }
 {
     let size = size_value(value)?;
     let at = grow(out, size)?;
@@ -150,7 +153,8 @@ pub fn gen_field_array(
     out: &mut Vec<u8>,
     value: &FieldArray,
 ) -> Result<(), GenError>
-    ensures { Appends out.old.items out.new.items (array_size value.now) (array_bytes value.now) result }
+    ensures { Appends out.old.items out.new.items
+        (array_size value.now) (array_bytes value.now) result }
 {
     let size = size_field_array(value)?;
     let at = grow(out, size)?;
@@ -174,7 +178,8 @@ pub fn gen_field_table(
     out: &mut Vec<u8>,
     value: &FieldTable,
 ) -> Result<(), GenError>
-    ensures { Appends out.old.items out.new.items (table_size value.now) (table_bytes value.now) result }
+    ensures { Appends out.old.items out.new.items
+        (table_size value.now) (table_bytes value.now) result }
 {
     let size = size_field_table(value)?;
     let at = grow(out, size)?;

@@ -3,8 +3,11 @@
 ghost use Rattle.std.specs.Prelude.{◌≡◌};
 ghost use Rattle.std.specs.Bool.{Decides};
 ghost use Rattle.amqp_types.specs.Values.{FieldValue, FieldValues, FieldEntries};
-ghost use Rattle.amqp_types.specs.ValueLaws.{ValuesAreLawful, ArraysAreLawful, TablesAreLawful, SpelledIsBounded, SettledIsSettling, InsertChangesOneKey, HeldIsReadBack};
-ghost use Rattle.amqp_types.specs.SlotLaws.{FormsAreLawful, SlotsAreLawful, SpelledSlotsAreBounded, HeldSlotsAreReadBack};
+ghost use Rattle.amqp_types.specs.ValueLaws.{ValuesAreLawful, ArraysAreLawful, TablesAreLawful};
+ghost use Rattle.amqp_types.specs.ValueLaws.{SpelledIsBounded, SettledIsSettling};
+ghost use Rattle.amqp_types.specs.ValueLaws.{InsertChangesOneKey, HeldIsReadBack};
+ghost use Rattle.amqp_types.specs.SlotLaws.{FormsAreLawful, SlotsAreLawful};
+ghost use Rattle.amqp_types.specs.SlotLaws.{SpelledSlotsAreBounded, HeldSlotsAreReadBack};
 ghost use Rattle.amqp_types.specs.Tidiness.{TidySlotsAreDecided};
 ghost use Rattle.amqp_values.specs.Sameness.{same_value, same_items, same_entries};
 

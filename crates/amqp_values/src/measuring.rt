@@ -1,9 +1,12 @@
 //! How many bytes values are written as, and which are not written.
 
-ghost use Rattle.std.specs.Prelude.{◌≡◌, ◌+◌, ◌^◌, ◌<◌, ◌≤◌, length, nat_le, if◌then◌else◌, Some, None, Ok, IfSome, IfOk};
-ghost use Rattle.amqp_types.specs.Values.{array_value, table_value, depth, values_of, entries_of, values_depth, entries_depth};
+ghost use Rattle.std.specs.Prelude.{◌≡◌, ◌+◌, ◌^◌, ◌<◌, ◌≤◌, length, nat_le};
+ghost use Rattle.std.specs.Prelude.{if◌then◌else◌, Some, None, Ok, IfSome, IfOk};
+ghost use Rattle.amqp_types.specs.Values.{array_value, table_value, depth, values_of};
+ghost use Rattle.amqp_types.specs.Values.{entries_of, values_depth, entries_depth};
 ghost use Rattle.amqp_types.specs.Strings.{is_too_long, with_length};
-ghost use Rattle.amqp_types.specs.ValueBytes.{value_bytes, values_bytes, entries_bytes, is_long, is_deep, tagged_size, array_size, table_size};
+ghost use Rattle.amqp_types.specs.ValueBytes.{value_bytes, values_bytes, entries_bytes, is_long};
+ghost use Rattle.amqp_types.specs.ValueBytes.{is_deep, tagged_size, array_size, table_size};
 ghost use Rattle.amqp_values.specs.Views.{value_of};
 
 use crate::value::{AMQPValue, FieldArray, FieldTable};
@@ -52,7 +55,8 @@ fn table_has_room(table: &FieldTable, depth_left: usize) -> bool
 
 /// The number of some bytes and their length, unless four bytes do not hold the length.
 fn bytes_length(bytes: &[u8]) -> Option<u64>
-    ensures exact { result ≡ (if is_too_long bytes.now then None else Some (length (with_length bytes.now))) }
+    ensures exact { result
+        ≡ (if is_too_long bytes.now then None else Some (length (with_length bytes.now))) }
     ensures small { IfSome result (λ n. n < 4 + 2 ^ 32) }
 {
     let n = bytes.len() as u64;
@@ -62,7 +66,9 @@ fn bytes_length(bytes: &[u8]) -> Option<u64>
 /// The number of a value's bytes without its tag, unless four bytes do not hold a length in it.
 #[cycle(measure)]
 fn value_length(value: &AMQPValue) -> Option<u64>
-    ensures exact { result ≡ (if is_long (value_of value.now) then None else Some (length (value_bytes (value_of value.now)))) }
+    ensures exact { result
+        ≡ (if is_long (value_of value.now) then None
+        else Some (length (value_bytes (value_of value.now)))) }
     ensures small { IfSome result (λ n. n < 4 + 2 ^ 32) }
 {
     match value {
@@ -90,7 +96,9 @@ fn value_length(value: &AMQPValue) -> Option<u64>
 #[tactic(auto, using(crate::proofs::Walk::values_counted))]
 #[cycle(measure)]
 fn values_length(array: &FieldArray) -> Option<u64>
-    ensures exact { result ≡ (if is_long (array_value (values_of array.now)) then None else Some (length (values_bytes (values_of array.now)))) }
+    ensures exact { result
+        ≡ (if is_long (array_value (values_of array.now)) then None
+        else Some (length (values_bytes (values_of array.now)))) }
     ensures small { IfSome result (λ n. n < 2 ^ 32) }
 {
     let mut n = 0;
@@ -107,7 +115,9 @@ fn values_length(array: &FieldArray) -> Option<u64>
 #[tactic(auto, using(crate::proofs::Walk::entries_counted))]
 #[cycle(measure)]
 fn entries_length(table: &FieldTable) -> Option<u64>
-    ensures exact { result ≡ (if is_long (table_value (entries_of table.now)) then None else Some (length (entries_bytes (entries_of table.now)))) }
+    ensures exact { result
+        ≡ (if is_long (table_value (entries_of table.now)) then None
+        else Some (length (entries_bytes (entries_of table.now)))) }
     ensures small { IfSome result (λ n. n < 2 ^ 32) }
 {
     let mut n = 0;

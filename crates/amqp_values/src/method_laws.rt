@@ -4,7 +4,8 @@
 ghost use Rattle.std.specs.Prelude.{IsTrue};
 ghost use Rattle.amqp_types.specs.Rows.{classes};
 ghost use Rattle.amqp_types.specs.PayloadFaults.{PayloadsFailInside};
-ghost use Rattle.amqp_types.specs.MethodLaws.{are_sound_classes, RowsAreLawful, PayloadsAreLawful, SpelledPayloadsAreBounded, HeldPayloadsAreReadBack};
+ghost use Rattle.amqp_types.specs.MethodLaws.{are_sound_classes, RowsAreLawful, PayloadsAreLawful};
+ghost use Rattle.amqp_types.specs.MethodLaws.{SpelledPayloadsAreBounded, HeldPayloadsAreReadBack};
 ghost use Rattle.amqp_types.specs.Tidiness.{TidyPayloadsAreDecided};
 
 /// Two bytes hold each id of the table, and its reserved fields have the least constants of their

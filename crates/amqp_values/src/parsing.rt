@@ -3,8 +3,12 @@
 ghost use Rattle.std.specs.Prelude.{◌≡◌, ◌≤◌, ◌<◌, length, IfOk};
 ghost use Rattle.amqp_types.specs.Answers.{Answers, AnswersWhole};
 ghost use Rattle.amqp_types.specs.Settling.{settled};
-ghost use Rattle.amqp_types.specs.ValueJudging.{read_map, filled, nested, judge_entry, judge_array, judge_table, judge_behind, judge_value, judge_field_value, judge_field_array, judge_field_table};
-ghost use Rattle.amqp_types.specs.ValueBytes.{tagged_bytes, tagged_size, array_bytes, array_size, table_bytes, table_size};
+ghost use Rattle.amqp_types.specs.ValueJudging.{read_map, filled, nested, judge_entry};
+ghost use Rattle.amqp_types.specs.ValueJudging.{judge_array, judge_table, judge_behind};
+ghost use Rattle.amqp_types.specs.ValueJudging.{judge_value, judge_field_value};
+ghost use Rattle.amqp_types.specs.ValueJudging.{judge_field_array, judge_field_table};
+ghost use Rattle.amqp_types.specs.ValueBytes.{tagged_bytes, tagged_size, array_bytes};
+ghost use Rattle.amqp_types.specs.ValueBytes.{array_size, table_bytes, table_size};
 ghost use Rattle.amqp_types.specs.ValueLaws.{IsNoLonger};
 ghost use Rattle.amqp_values.specs.Views.{value_of, entry_of};
 
@@ -182,7 +186,8 @@ fn values_in(alloc: Global, content: &[u8], depth_left: usize) -> Result<FieldAr
 /// Decodes the entries that fill a table. Of duplicate keys the last one wins.
 #[cycle(read)]
 fn entries_in(alloc: Global, content: &[u8], depth_left: usize) -> Result<FieldTable, ParserError>
-    ensures { AnswersWhole (λ table. table) result (read_map settled (filled (judge_entry (judge_value depth_left)) 0 content.now)) }
+    ensures { AnswersWhole (λ table. table) result
+        (read_map settled (filled (judge_entry (judge_value depth_left)) 0 content.now)) }
 {
     if content.len() < LONG_CONTENT {
         few_entries_in(alloc, content, depth_left)
@@ -198,7 +203,8 @@ fn few_entries_in(
     content: &[u8],
     depth_left: usize,
 ) -> Result<FieldTable, ParserError>
-    ensures { AnswersWhole (λ table. table) result (read_map settled (filled (judge_entry (judge_value depth_left)) 0 content.now)) }
+    ensures { AnswersWhole (λ table. table) result
+        (read_map settled (filled (judge_entry (judge_value depth_left)) 0 content.now)) }
 {
     let mut table = FieldTable::new(alloc);
     let mut at = 0;
@@ -220,7 +226,8 @@ fn many_entries_in(
     content: &[u8],
     depth_left: usize,
 ) -> Result<FieldTable, ParserError>
-    ensures { AnswersWhole (λ table. table) result (read_map settled (filled (judge_entry (judge_value depth_left)) 0 content.now)) }
+    ensures { AnswersWhole (λ table. table) result
+        (read_map settled (filled (judge_entry (judge_value depth_left)) 0 content.now)) }
 {
     let mut entries = Vec::new(alloc);
     let mut at = 0;
@@ -254,7 +261,8 @@ fn entry_within(
 /// Decodes a tag and its value, in which tables and arrays nest at most 64 levels deep (AMQP 0-9-1, section 4.2.5.5).
 pub fn parse_value(alloc: Global, i: &[u8]) -> Result<(usize, AMQPValue), ParserError>
     ensures judged { Answers value_of result (judge_field_value i.now) }
-    ensures within { IfOk result (λ found. IsNoLonger (tagged_size (value_of found.1)) (tagged_bytes (value_of found.1)) found.0) }
+    ensures within { IfOk result (λ found.
+        IsNoLonger (tagged_size (value_of found.1)) (tagged_bytes (value_of found.1)) found.0) }
     ensures used { IfOk result (λ found. found.0 ≤ length i.now) }
 {
     value_within(alloc, i, MAX_DEPTH)
@@ -263,7 +271,8 @@ pub fn parse_value(alloc: Global, i: &[u8]) -> Result<(usize, AMQPValue), Parser
 /// Decodes an array, at most 64 levels deep: a length of four bytes, and the values that fill as many.
 pub fn parse_field_array(alloc: Global, i: &[u8]) -> Result<(usize, FieldArray), ParserError>
     ensures judged { Answers (λ array. array) result (judge_field_array i.now) }
-    ensures within { IfOk result (λ found. IsNoLonger (array_size found.1) (array_bytes found.1) found.0) }
+    ensures within { IfOk result
+        (λ found. IsNoLonger (array_size found.1) (array_bytes found.1) found.0) }
     ensures used { IfOk result (λ found. found.0 ≤ length i.now) }
 {
     array_within(alloc, i, INNER_DEPTH)
@@ -273,7 +282,8 @@ pub fn parse_field_array(alloc: Global, i: &[u8]) -> Result<(usize, FieldArray),
 /// section 4.2.5.5). Of duplicate keys the last one wins.
 pub fn parse_field_table(alloc: Global, i: &[u8]) -> Result<(usize, FieldTable), ParserError>
     ensures judged { Answers (λ table. table) result (judge_field_table i.now) }
-    ensures within { IfOk result (λ found. IsNoLonger (table_size found.1) (table_bytes found.1) found.0) }
+    ensures within { IfOk result
+        (λ found. IsNoLonger (table_size found.1) (table_bytes found.1) found.0) }
     ensures used { IfOk result (λ found. found.0 ≤ length i.now) }
 {
     table_within(alloc, i, INNER_DEPTH)

@@ -3,7 +3,9 @@
 ghost use Rattle.std.specs.Prelude.{◌≡◌, ◌≤◌, ◌-◌, [], ◌∷◌, length, map, OnErr};
 ghost use Rattle.amqp_types.specs.Numbers.{bytes1, bytes2, bytes4, bytes8};
 ghost use Rattle.amqp_types.specs.Flags.{flags_from};
-ghost use Rattle.amqp_types.specs.Slots.{number_item, flag_item, text_item, bytes_item, entries_item, number_form, flags_form, short_string_form, long_string_form, table_form};
+ghost use Rattle.amqp_types.specs.Slots.{number_item, flag_item, text_item, bytes_item};
+ghost use Rattle.amqp_types.specs.Slots.{entries_item, number_form, flags_form};
+ghost use Rattle.amqp_types.specs.Slots.{short_string_form, long_string_form, table_form};
 ghost use Rattle.amqp_types.specs.SlotJudging.{Steps, judge_form, judge_dropped, judge_slots};
 ghost use Rattle.amqp_types.specs.Calls.{NeedsNoMemory};
 
@@ -42,7 +44,8 @@ impl<'a> SlotReader<'a> {
 
     /// Decodes the next fields.
     pub fn read<T: FromSlots>(&mut self, alloc: Global) -> Result<T, ParserError>
-        ensures step { Steps T.items result self.old.rest.now self.new.rest.now (judge_slots T.slots) }
+        ensures step { Steps T.items result self.old.rest.now self.new.rest.now
+            (judge_slots T.slots) }
         ensures left { length self.new.rest.now ≤ length self.old.rest.now }
     {
         T::read(self, alloc)
@@ -51,7 +54,8 @@ impl<'a> SlotReader<'a> {
     /// Decodes a number of 1 byte.
     #[tactic(auto, using(crate::proofs::Steps::dropped, amqp_types::proofs::Judged::refuses_next), unfolding(amqp_types::specs::SlotJudging::judge_form))]
     pub fn short_short_uint(&mut self) -> Result<ShortShortUInt, ParserError>
-        ensures step { Steps (λ n. number_item n ∷ []) result self.old.rest.now self.new.rest.now (judge_form (number_form bytes1)) }
+        ensures step { Steps (λ n. number_item n ∷ []) result self.old.rest.now
+            self.new.rest.now (judge_form (number_form bytes1)) }
         ensures left { length self.new.rest.now ≤ length self.old.rest.now }
         ensures stays { OnErr result (self.new.rest.now ≡ self.old.rest.now) }
         ensures memory { NeedsNoMemory result }
@@ -64,7 +68,8 @@ impl<'a> SlotReader<'a> {
     /// Decodes a number of 2 bytes.
     #[tactic(auto, using(crate::proofs::Steps::dropped, amqp_types::proofs::Judged::refuses_next), unfolding(amqp_types::specs::SlotJudging::judge_form))]
     pub fn short_uint(&mut self) -> Result<ShortUInt, ParserError>
-        ensures step { Steps (λ n. number_item n ∷ []) result self.old.rest.now self.new.rest.now (judge_form (number_form bytes2)) }
+        ensures step { Steps (λ n. number_item n ∷ []) result self.old.rest.now
+            self.new.rest.now (judge_form (number_form bytes2)) }
         ensures left { length self.new.rest.now ≤ length self.old.rest.now }
         ensures stays { OnErr result (self.new.rest.now ≡ self.old.rest.now) }
         ensures memory { NeedsNoMemory result }
@@ -77,7 +82,8 @@ impl<'a> SlotReader<'a> {
     /// Decodes a number of 4 bytes.
     #[tactic(auto, using(crate::proofs::Steps::dropped, amqp_types::proofs::Judged::refuses_next), unfolding(amqp_types::specs::SlotJudging::judge_form))]
     pub fn long_uint(&mut self) -> Result<LongUInt, ParserError>
-        ensures step { Steps (λ n. number_item n ∷ []) result self.old.rest.now self.new.rest.now (judge_form (number_form bytes4)) }
+        ensures step { Steps (λ n. number_item n ∷ []) result self.old.rest.now
+            self.new.rest.now (judge_form (number_form bytes4)) }
         ensures left { length self.new.rest.now ≤ length self.old.rest.now }
         ensures stays { OnErr result (self.new.rest.now ≡ self.old.rest.now) }
         ensures memory { NeedsNoMemory result }
@@ -90,7 +96,8 @@ impl<'a> SlotReader<'a> {
     /// Decodes a number of 8 bytes.
     #[tactic(auto, using(crate::proofs::Steps::dropped, amqp_types::proofs::Judged::refuses_next), unfolding(amqp_types::specs::SlotJudging::judge_form))]
     pub fn long_long_uint(&mut self) -> Result<LongLongUInt, ParserError>
-        ensures step { Steps (λ n. number_item n ∷ []) result self.old.rest.now self.new.rest.now (judge_form (number_form bytes8)) }
+        ensures step { Steps (λ n. number_item n ∷ []) result self.old.rest.now
+            self.new.rest.now (judge_form (number_form bytes8)) }
         ensures left { length self.new.rest.now ≤ length self.old.rest.now }
         ensures stays { OnErr result (self.new.rest.now ≡ self.old.rest.now) }
         ensures memory { NeedsNoMemory result }
@@ -103,7 +110,8 @@ impl<'a> SlotReader<'a> {
     /// Decodes a byte of `N` flags, the first of them in the lowest bit. The byte is returned with its unused bits.
     #[tactic(auto, using(crate::proofs::Steps::dropped, amqp_types::proofs::Judged::refuses_next), unfolding(amqp_types::specs::SlotJudging::judge_form, amqp_types::specs::Flags::judge_flags))]
     pub fn flags<const N: usize>(&mut self) -> Result<ShortShortUInt, ParserError>
-        ensures step { Steps (λ byte. map flag_item (flags_from N 0 byte)) result self.old.rest.now self.new.rest.now (judge_form (flags_form N)) }
+        ensures step { Steps (λ byte. map flag_item (flags_from N 0 byte)) result
+            self.old.rest.now self.new.rest.now (judge_form (flags_form N)) }
         ensures left { length self.new.rest.now ≤ length self.old.rest.now }
         ensures stays { OnErr result (self.new.rest.now ≡ self.old.rest.now) }
         ensures memory { NeedsNoMemory result }
@@ -116,7 +124,8 @@ impl<'a> SlotReader<'a> {
     /// Decodes a short string.
     #[tactic(auto, using(crate::proofs::Steps::dropped, amqp_types::proofs::Judged::refuses_next), unfolding(amqp_types::specs::SlotJudging::judge_form))]
     pub fn short_string(&mut self, alloc: Global) -> Result<ShortString, ParserError>
-        ensures step { Steps (λ text. text_item text ∷ []) result self.old.rest.now self.new.rest.now (judge_form short_string_form) }
+        ensures step { Steps (λ text. text_item text ∷ []) result
+            self.old.rest.now self.new.rest.now (judge_form short_string_form) }
         ensures left { length self.new.rest.now ≤ length self.old.rest.now }
         ensures stays { OnErr result (self.new.rest.now ≡ self.old.rest.now) }
     {
@@ -128,7 +137,8 @@ impl<'a> SlotReader<'a> {
     /// Decodes a long string.
     #[tactic(auto, using(crate::proofs::Steps::dropped, amqp_types::proofs::Judged::refuses_next), unfolding(amqp_types::specs::SlotJudging::judge_form))]
     pub fn long_string(&mut self, alloc: Global) -> Result<LongString, ParserError>
-        ensures step { Steps (λ bytes. bytes_item bytes ∷ []) result self.old.rest.now self.new.rest.now (judge_form long_string_form) }
+        ensures step { Steps (λ bytes. bytes_item bytes ∷ []) result
+            self.old.rest.now self.new.rest.now (judge_form long_string_form) }
         ensures left { length self.new.rest.now ≤ length self.old.rest.now }
         ensures stays { OnErr result (self.new.rest.now ≡ self.old.rest.now) }
     {
@@ -140,7 +150,8 @@ impl<'a> SlotReader<'a> {
     /// Decodes a table.
     #[tactic(auto, using(crate::proofs::Steps::dropped, amqp_types::proofs::Judged::refuses_next), unfolding(amqp_types::specs::SlotJudging::judge_form))]
     pub fn table(&mut self, alloc: Global) -> Result<FieldTable, ParserError>
-        ensures step { Steps (λ es. entries_item es ∷ []) result self.old.rest.now self.new.rest.now (judge_form table_form) }
+        ensures step { Steps (λ es. entries_item es ∷ []) result
+            self.old.rest.now self.new.rest.now (judge_form table_form) }
         ensures left { length self.new.rest.now ≤ length self.old.rest.now }
         ensures stays { OnErr result (self.new.rest.now ≡ self.old.rest.now) }
     {
@@ -152,7 +163,8 @@ impl<'a> SlotReader<'a> {
     /// Decodes a number of 2 bytes and drops it.
     #[tactic(auto, using(crate::proofs::Steps::dropped, amqp_types::proofs::Judged::refuses_next), unfolding(amqp_types::specs::SlotJudging::judge_form, amqp_types::specs::SlotJudging::judge_dropped))]
     pub fn skip_short_uint(&mut self) -> Result<(), ParserError>
-        ensures step { Steps (λ _. []) result self.old.rest.now self.new.rest.now (judge_dropped (number_form bytes2)) }
+        ensures step { Steps (λ _. []) result self.old.rest.now self.new.rest.now
+            (judge_dropped (number_form bytes2)) }
         ensures left { length self.new.rest.now ≤ length self.old.rest.now }
         ensures stays { OnErr result (self.new.rest.now ≡ self.old.rest.now) }
         ensures memory { NeedsNoMemory result }
@@ -165,7 +177,8 @@ impl<'a> SlotReader<'a> {
     /// Decodes a number of 4 bytes and drops it.
     #[tactic(auto, using(crate::proofs::Steps::dropped, amqp_types::proofs::Judged::refuses_next), unfolding(amqp_types::specs::SlotJudging::judge_form, amqp_types::specs::SlotJudging::judge_dropped))]
     pub fn skip_long_uint(&mut self) -> Result<(), ParserError>
-        ensures step { Steps (λ _. []) result self.old.rest.now self.new.rest.now (judge_dropped (number_form bytes4)) }
+        ensures step { Steps (λ _. []) result self.old.rest.now self.new.rest.now
+            (judge_dropped (number_form bytes4)) }
         ensures left { length self.new.rest.now ≤ length self.old.rest.now }
         ensures stays { OnErr result (self.new.rest.now ≡ self.old.rest.now) }
         ensures memory { NeedsNoMemory result }
@@ -178,7 +191,8 @@ impl<'a> SlotReader<'a> {
     /// Decodes a short string and drops it.
     #[tactic(auto, using(crate::proofs::Steps::dropped, amqp_types::proofs::Judged::refuses_next), unfolding(amqp_types::specs::SlotJudging::judge_form, amqp_types::specs::SlotJudging::judge_dropped))]
     pub fn skip_short_string(&mut self) -> Result<(), ParserError>
-        ensures step { Steps (λ _. []) result self.old.rest.now self.new.rest.now (judge_dropped short_string_form) }
+        ensures step { Steps (λ _. []) result self.old.rest.now self.new.rest.now
+            (judge_dropped short_string_form) }
         ensures left { length self.new.rest.now ≤ length self.old.rest.now }
         ensures stays { OnErr result (self.new.rest.now ≡ self.old.rest.now) }
         ensures memory { NeedsNoMemory result }
@@ -191,7 +205,8 @@ impl<'a> SlotReader<'a> {
     /// Decodes a long string and drops it.
     #[tactic(auto, using(crate::proofs::Steps::dropped, amqp_types::proofs::Judged::refuses_next), unfolding(amqp_types::specs::SlotJudging::judge_form, amqp_types::specs::SlotJudging::judge_dropped))]
     pub fn skip_long_string(&mut self) -> Result<(), ParserError>
-        ensures step { Steps (λ _. []) result self.old.rest.now self.new.rest.now (judge_dropped long_string_form) }
+        ensures step { Steps (λ _. []) result self.old.rest.now self.new.rest.now
+            (judge_dropped long_string_form) }
         ensures left { length self.new.rest.now ≤ length self.old.rest.now }
         ensures stays { OnErr result (self.new.rest.now ≡ self.old.rest.now) }
         ensures memory { NeedsNoMemory result }
@@ -204,7 +219,8 @@ impl<'a> SlotReader<'a> {
     /// Decodes a byte of `N` flags and drops it.
     #[tactic(auto, using(crate::proofs::Steps::dropped, amqp_types::proofs::Judged::refuses_next), unfolding(amqp_types::specs::SlotJudging::judge_form, amqp_types::specs::SlotJudging::judge_dropped, amqp_types::specs::Flags::judge_flags))]
     pub fn skip_flags<const N: usize>(&mut self) -> Result<(), ParserError>
-        ensures step { Steps (λ _. []) result self.old.rest.now self.new.rest.now (judge_dropped (flags_form N)) }
+        ensures step { Steps (λ _. []) result self.old.rest.now self.new.rest.now
+            (judge_dropped (flags_form N)) }
         ensures left { length self.new.rest.now ≤ length self.old.rest.now }
         ensures stays { OnErr result (self.new.rest.now ≡ self.old.rest.now) }
         ensures memory { NeedsNoMemory result }

@@ -4,7 +4,8 @@ ghost use Rattle.std.specs.Prelude.{◌≡◌};
 ghost use Rattle.std.specs.Cmp.{on_per};
 ghost use Rattle.amqp_types.specs.Values.{values_of, entries_of};
 ghost use Rattle.amqp_values.specs.Views.{value_of};
-ghost use Rattle.amqp_values.specs.Sameness.{same_value, same_items, same_entries, same_value_laws, same_items_laws, same_entries_laws};
+ghost use Rattle.amqp_values.specs.Sameness.{same_value, same_items, same_entries, same_value_laws};
+ghost use Rattle.amqp_values.specs.Sameness.{same_items_laws, same_entries_laws};
 
 use crate::value::{AMQPValue, FieldArray, FieldTable};
 

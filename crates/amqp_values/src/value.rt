@@ -1,6 +1,7 @@
 //! Values, arrays and tables, as programs hold them.
 
-ghost use Rattle.std.specs.Prelude.{◌≡◌, ◌↔◌, ◌++◌, ◌∷◌, [], length, map, IsTrue, IfOk, OnOk, OnErr};
+ghost use Rattle.std.specs.Prelude.{◌≡◌, ◌↔◌, ◌++◌, ◌∷◌, [], length};
+ghost use Rattle.std.specs.Prelude.{map, IsTrue, IfOk, OnOk, OnErr};
 ghost use Rattle.std.specs.Option.{option_map};
 ghost use Rattle.std.specs.Ordering.{nat_cmp};
 ghost use Rattle.std.specs.Cmp.Lexicographic.{slice_cmp};
@@ -127,7 +128,8 @@ impl Model for FieldTable {
 
     ghost view = { λ table. map entry_of table.entries.entries };
 
-    ghost invariant = { λ table. IsStrictlySortedBy (slice_cmp nat_cmp) (keys_of table.entries.entries) };
+    ghost invariant = { λ table.
+        IsStrictlySortedBy (slice_cmp nat_cmp) (keys_of table.entries.entries) };
 
     ghost size = { λ es. entries_weight (entries_of es) };
 
@@ -204,7 +206,8 @@ impl FieldTable {
 
     /// Makes this the value of the key. Key and value are dropped where memory runs out.
     pub fn insert(&mut self, key: ShortString, value: AMQPValue) -> Result<(), NoMemory>
-        ensures ok { OnOk result (self.new ≡ insert_entry (slice_cmp nat_cmp) self.old key (value_of value)) }
+        ensures ok { OnOk result
+            (self.new ≡ insert_entry (slice_cmp nat_cmp) self.old key (value_of value)) }
         ensures err { OnErr result (self.new ≡ self.old) }
     {
         self.entries.insert(key, value)?;

@@ -58,6 +58,19 @@ pub fn copies(alloc: Global, steps: &[Step]) -> Result<bool, ParserError> {
     }
 }
 
+/// Whether the message that some frames make is published to the default exchange, with the routing key `hello`.
+pub fn is_routed(alloc: Global, steps: &[Step]) -> Result<bool, ParserError> {
+    match message(alloc, steps)? {
+        Some(message) => {
+            let opening = message.opening();
+            let is_routed = opening.exchange() == "" && opening.routing_key() == "hello";
+            let_go(message);
+            Ok(is_routed)
+        }
+        None => Ok(false),
+    }
+}
+
 /// Fails unless both calls returned an equal value: of any type, for a caller that owns neither.
 fn agree<T: PartialEq + Debug + Drop>(
     found: Result<T, ParserError>,
@@ -76,6 +89,7 @@ fn messages_are_split_and_copied(rt: HostRuntime) -> Result<(), Fail> {
         let wanted = [Read(opening), Read(&HEADER), Read(&HE), Read(&LL), Read(&O)];
         agree(split_by_two(alloc, &steps), frames(alloc, &wanted))?;
         same(copies(alloc, &steps)?, true)?;
+        same(is_routed(alloc, &steps)?, true)?;
     }
     Ok(())
 }

@@ -16,14 +16,14 @@ use std::test::Fail;
 fn ends(
     alloc: Global,
     failing: (&[u64], &[u64]),
-    turns: u64,
+    budget: u64,
     error: StreamError,
     written: usize,
 ) -> Result<(), Fail> {
     let rules = parse(alloc, &["keep"])?;
     let mut source = PieceSource::new(PUBLISHED, &[39, 39], failing.0);
     let mut sink = ScriptSink::new(alloc, &[], failing.1);
-    let found = filter(alloc, &rules, &mut source, &mut sink, LIMIT, turns);
+    let found = filter(alloc, &rules, &mut source, &mut sink, LIMIT, budget);
     same(found, Err(FilterError::Stream(error)))?;
     same(Some(sink.bytes()), PUBLISHED.get(..written))
 }

@@ -50,13 +50,18 @@ due_sized (frames.Header channel header) answer h = absurd cc
 due_sized (frames.Body channel content) answer h = absurd cc
 due_sized (frames.InvalidHeartbeat channel) answer h = absurd cc
 
-sized_refused : (X : Type 0) (old new bytes : List ℕ) (size : Result ℕ GenError) (n : ℕ) (error : GenError) → size ≡ Ok n → Appends {X = X} old new size bytes (Err error) → error ≡ errors.NoMemory
+sized_refused : (X : Type 0) (old new bytes : List ℕ) (size : Result ℕ GenError) (n : ℕ) (error : GenError)
+    → size ≡ Ok n → Appends {X = X} old new size bytes (Err error) → error ≡ errors.NoMemory
 sized_refused X old new bytes size n errors.NoMemory is h = refl
 sized_refused X old new bytes size n errors.TooDeep is h = absurd (let e = sym is ∙ h.0 in cc)
 sized_refused X old new bytes size n errors.TooLong is h = absurd (let e = sym is ∙ h.0 in cc)
 sized_refused X old new bytes size n errors.BufferTooSmall is h = absurd (let e = sym is ∙ h.0 in cc)
 
-pub answer_refused : (X : Type 0) (old new : List ℕ) (error : GenError) (frame reply : AMQPFrame) (found : Option AMQPFrame) → option_map frame_of found ≡ due frame → found ≡ Some reply → Appends {X = X} old new (size_of (frame_of reply)) (canon (frame_of reply)) (Err error) → error ≡ errors.NoMemory
+-- An answer of a peer is refused only where out of memory.
+pub answer_refused : (X : Type 0) (old new : List ℕ) (error : GenError) (frame reply : AMQPFrame) (found : Option AMQPFrame)
+    → option_map frame_of found ≡ due frame → found ≡ Some reply
+    → Appends {X = X} old new (size_of (frame_of reply)) (canon (frame_of reply)) (Err error) → error ≡ errors.NoMemory
 answer_refused X old new error frame reply found is some h =
     let P : Option AMQPFrame → Type 0 = λ o. option_map frame_of o ≡ due frame in
-    sized_refused X old new (canon (frame_of reply)) (size_of (frame_of reply)) (length (canon (frame_of reply))) error (due_sized frame (frame_of reply) (sym (subst P some is))) h
+    sized_refused X old new (canon (frame_of reply)) (size_of (frame_of reply))
+    (length (canon (frame_of reply))) error (due_sized frame (frame_of reply) (sym (subst P some is))) h

@@ -121,9 +121,9 @@ fn content_on(alloc: Global, bytes: &[u8], channel: u16) -> Result<Vec<u8>, Fail
     let mut content = Vec::new(alloc);
     let mut reader = FrameReader::open(alloc, LIMIT)?;
     let mut source = SliceSource::new(bytes);
-    let mut turns = 10_000;
+    let mut budget = 10_000;
     for _ in 0..1000 {
-        match reader.next(&mut source, &mut turns)? {
+        match reader.next(&mut source, &mut budget)? {
             Some(raw) if raw.channel_id == channel => content.extend_from_slice(raw.payload)?,
             Some(_) => {}
             None => return Ok(content),
@@ -154,9 +154,9 @@ fn are_sized(alloc: Global, bytes: &[u8], size: u64) -> Result<bool, Fail> {
     let mut lefts = [0; 3];
     let mut reader = FrameReader::open(alloc, LIMIT)?;
     let mut source = SliceSource::new(bytes);
-    let mut turns = 10_000;
+    let mut budget = 10_000;
     for _ in 0..1000 {
-        let Some(raw) = reader.next(&mut source, &mut turns)? else {
+        let Some(raw) = reader.next(&mut source, &mut budget)? else {
             return Ok(true);
         };
         let Some(left) = lefts.get_mut(raw.channel_id as usize) else {

@@ -291,13 +291,13 @@ fn rows_are_recut(rt: HostRuntime) -> Result<(), Fail> {
 fn ends(
     alloc: Global,
     failing: (&[u64], &[u64]),
-    turns: u64,
+    budget: u64,
     outcome: RecutError,
     written: &[u8],
 ) -> Result<(), Fail> {
     let mut source = PieceSource::new(&MESSAGE, &[60, 9], failing.0);
     let mut sink = ScriptSink::new(alloc, &[], failing.1);
-    let found = recut(alloc, &mut source, &mut sink, LIMIT, 2, turns);
+    let found = recut(alloc, &mut source, &mut sink, LIMIT, 2, budget);
     same(found, Err(outcome))?;
     same(sink.bytes(), written)
 }

@@ -78,10 +78,10 @@ const ENDS: &[(&[u64], &[u64], u64, StreamError, usize)] = &[
 fn kept_frames_before_a_failed_end_are_written(rt: HostRuntime) -> Result<(), Fail> {
     let alloc = rt.alloc();
     let rules = parse(alloc, &["drop,class=60,method=40", "keep,channel=1-5"])?;
-    for (reads, writes, turns, error, end) in ENDS {
+    for (reads, writes, budget, error, end) in ENDS {
         let mut source = PieceSource::new(MESSAGE, ONES, reads);
         let mut sink = ScriptSink::new(alloc, ONES, writes);
-        let found = select(alloc, &rules, &mut source, &mut sink, LIMIT, *turns);
+        let found = select(alloc, &rules, &mut source, &mut sink, LIMIT, *budget);
         assert_eq!(rt; found, Err(*error));
         assert_eq!(rt; Some(sink.bytes()), MESSAGE.get(22..*end));
     }

@@ -1,5 +1,6 @@
 -- The loop of `forward`: what was read and written so far, one more frame, and how it ends.
-use Rattle.std.proofs.Common.{◌≡◌, ℕ, ◌+◌, ◌-◌, ◌*◌, ◌<◌, ◌≤◌, List, [], ◌∷◌, ◌++◌, length, take, drop, Option, Some, None, Result, Ok, Err, IsErrAnd, inl, inr, refl, sym, ap, subst, ◌∙◌, arith, append_assoc, append-nil}
+use Rattle.std.proofs.Common.{◌≡◌, ℕ, ◌+◌, ◌-◌, ◌*◌, ◌<◌, ◌≤◌, List, [], ◌∷◌, ◌++◌, length, take, drop, Option, Some, None, Result, Ok, Err, IsErrAnd, inl, inr}
+use Rattle.std.proofs.Common.{refl, sym, ap, subst, ◌∙◌, arith, append_assoc, append-nil}
 use Rattle.std.proofs.lemmas.Bool.{cases_lt}
 use Rattle.std.proofs.lemmas.List.{length-append, length-drop, take-append-drop}
 use Rattle.std.proofs.Math.Nat.{mul-le-mul_right}
@@ -21,7 +22,7 @@ use Rattle.amqp_stream.specs.declared.errors.StreamError.{StreamError}
 use Rattle.amqp_stream.specs.declared.sink.SinkFault.{SinkFault}
 use Rattle.amqp_stream.specs.Ends.{Supply, Store, Takes, Gains}
 use Rattle.amqp_stream.specs.Errors.{stream_error, Cause, faulty, write_failed, cause_of}
-use Rattle.amqp_stream.specs.Reading.{Holding, Fails, idle_reads_at, PullsTo, IsBorrowed, HasNext}
+use Rattle.amqp_stream.specs.Reading.{Holding, Fails, idle_reads_at, PullsTo, IsBorrowed, reading_left, HasNext}
 use Rattle.amqp_stream.specs.Writing.{WritesAll, Gathered, GatherFails, WritesFrame, IsUnwritten}
 use Rattle.amqp_stream.proofs.Adding.{Rises-later, Takes-then, Takes-none, Gains-none, Gains-then, IsBytes-append, IsBytes-nil}
 use Rattle.amqp_stream.proofs.Going.{frame_fits}
@@ -30,7 +31,8 @@ use Rattle.amqp_vectors_streams.specs.Forwarding.{IsPassed, IsEndedBy, HasEnded,
 -- ---- one frame, with nothing pending before it and after it
 
 -- what was pending of it was written
-pub gathered_flushed : {a b c : Store} {before pending bytes : List ℕ} {done : Unit {0}} → before ≡ [] → Gathered a b before pending bytes → WritesAll b c pending (Ok done) → Gathered a c [] [] bytes
+pub gathered_flushed : {a b c : Store} {before pending bytes : List ℕ} {done : Unit {0}} → before ≡ []
+    → Gathered a b before pending bytes → WritesAll b c pending (Ok done) → Gathered a c [] [] bytes
 gathered_flushed {a = a} {b = b} {c = c} {bytes = bytes} none g all = record {
   written = g.written ++ all.piece;
   gains = Gains-then a b c g.written all.piece g.gains all.gains;
@@ -38,11 +40,15 @@ gathered_flushed {a = a} {b = b} {c = c} {bytes = bytes} none g all = record {
 }
 
 -- a part of what was pending of it was written
-pub flush_fails : {a b c : Store} {before pending bytes : List ℕ} {bad : SinkFault} → before ≡ [] → Gathered a b before pending bytes → WritesAll b c pending (Err bad) → GatherFails a c [] [] bytes
+pub flush_fails : {a b c : Store} {before pending bytes : List ℕ} {bad : SinkFault} → before ≡ []
+    → Gathered a b before pending bytes → WritesAll b c pending (Err bad) → GatherFails a c [] [] bytes
 flush_fails {a = a} {b = b} {c = c} {bytes = bytes} none g all = record {
   piece = g.written ++ all.piece;
   gains = Gains-then a b c g.written all.piece g.gains all.gains;
-  prefix = (all.prefix.0, append_assoc g.written all.piece all.prefix.0 ∙ ap (λ (xs : List ℕ). g.written ++ xs) all.prefix.1 ∙ g.parts ∙ ap (λ (xs : List ℕ). xs ++ bytes) none);
+  prefix = (
+    all.prefix.0,
+    append_assoc g.written all.piece all.prefix.0 ∙ ap (λ (xs : List ℕ). g.written ++ xs) all.prefix.1 ∙ g.parts ∙ ap (λ (xs : List ℕ). xs ++ bytes) none,
+  );
   rises = Rises-later a.faults b.faults c.faults g.gains.faults all.gains.faults all.err;
   none = refl;
 }
@@ -50,16 +56,17 @@ flush_fails {a = a} {b = b} {c = c} {bytes = bytes} none g all = record {
 -- ---- the loop
 
 -- what a call of `next` pulled, by its result
-pub next_pulls : {m : ℕ} {b c : Supply} {turns turns' : ℕ} {old new : Holding} {read r : Result (Option AMQPRawFrame) ReadError} → old.limit ≡ m → read ≡ r → HasNext b c turns turns' old new read → PullsTo (IsBorrowed m) m b c turns turns' old.held new.held r
+pub next_pulls : {m : ℕ} {b c : Supply} {budget budget' : ℕ} {old new : Holding} {read r : Result (Option AMQPRawFrame) ReadError}
+    → old.limit ≡ m → read ≡ r → HasNext b c budget budget' old new read → PullsTo (IsBorrowed m) m b c budget budget' old.held new.held r
 next_pulls limit is next = rw (limit, is) at next.pulls
 
 -- What was read so far, and written for its frames. The rest is held, and at most `idle` reads gave nothing.
-pub record Forwarded (m : ℕ) (before : List ℕ) (turns_old turns : ℕ) (a b : Supply) (k l : Store) (rest : List ℕ) (idle : ℕ) : Type 0 where
+pub record Forwarded (m : ℕ) (before : List ℕ) (budget_old budget : ℕ) (a b : Supply) (k l : Store) (rest : List ℕ) (idle : ℕ) : Type 0 where
   pub taken : List ℕ
   pub are_bytes : IsBytes taken
-  pub takes : Takes a b taken (turns_old - turns)
-  pub turns_fall : turns ≤ turns_old
-  pub few : turns_old ≤ turns + length taken + idle
+  pub takes : Takes a b taken (budget_old - budget)
+  pub budget_falls : budget ≤ budget_old
+  pub few : budget_old ≤ budget + length taken + idle
   pub frames : List Frame
   pub front : List ℕ
   pub front_fits : IsBytes front
@@ -67,12 +74,13 @@ pub record Forwarded (m : ℕ) (before : List ℕ) (turns_old turns : ℕ) (a b 
   pub precedes : ComesBefore plain (Some m) front frames
   pub gains : Gains k l (canon_frames frames)
 
-pub Forwarded-none : (m : ℕ) (before : List ℕ) (turns : ℕ) (a : Supply) (k : Store) → Forwarded m before turns turns a a k k before 0
-Forwarded-none m before turns a k = record {
+-- At the start nothing was read and nothing was written.
+pub Forwarded-none : (m : ℕ) (before : List ℕ) (budget : ℕ) (a : Supply) (k : Store) → Forwarded m before budget budget a a k k before 0
+Forwarded-none m before budget a k = record {
   taken = [];
   are_bytes = IsBytes-nil;
   takes = subst (Takes a a []) {x = 0} (omega arith) (Takes-none a);
-  turns_fall = omega arith;
+  budget_falls = omega arith;
   few = omega arith;
   frames = [];
   front = [];
@@ -83,25 +91,34 @@ Forwarded-none m before turns a k = record {
 }
 
 -- more was read, after the rest
-Forwarded-pulled : {X : Type 0} {P : List ℕ → List ℕ → X → Type 0} {m : ℕ} {before : List ℕ} {turns_old turns turns' : ℕ} {a b c : Supply} {k l : Store} {held after : List ℕ} {r : Result (Option X) ReadError} (idle : ℕ) → Forwarded m before turns_old turns a b k l held 0 → (p : PullsTo P m b c turns turns' held after r) → turns ≤ turns' + length p.pulls.taken + idle → Forwarded m before turns_old turns' a c k l p.b idle
-Forwarded-pulled {before = before} {turns_old = turns_old} {turns = turns} {turns' = turns'} {a = a} {b = b} {c = c} {held = held} idle f p few =
+Forwarded-pulled : {X : Type 0} {P : List ℕ → List ℕ → X → Type 0} {m : ℕ} {before : List ℕ} {budget_old budget budget' : ℕ}
+    {a b c : Supply} {k l : Store} {held after : List ℕ} {r : Result (Option X) ReadError} (idle : ℕ)
+    → Forwarded m before budget_old budget a b k l held 0 → (p : PullsTo P m b c budget budget' held after r)
+    → budget ≤ budget' + length p.pulls.taken + idle → Forwarded m before budget_old budget' a c k l p.b idle
+Forwarded-pulled {before = before} {budget_old = budget_old} {budget = budget} {budget' = budget'} {a = a} {b = b} {c = c} {held = held} idle f p few =
     let piece = p.pulls.taken in
     record {
       taken = f.taken ++ piece;
       are_bytes = IsBytes-append f.taken piece f.are_bytes p.pulls.are_bytes;
-      takes = subst (Takes a c (f.taken ++ piece)) {x = (turns_old - turns) + (turns - turns')} (omega (arith, f.turns_fall, p.pulls.turns_fall)) (Takes-then a b c f.taken piece (turns_old - turns) (turns - turns') f.takes p.pulls.takes);
-      turns_fall = omega (arith, f.turns_fall, p.pulls.turns_fall);
+      takes =
+          subst (Takes a c (f.taken ++ piece)) {x = (budget_old - budget) + (budget - budget')} (omega (arith, f.budget_falls, p.pulls.budget_falls))
+          (Takes-then a b c f.taken piece (budget_old - budget) (budget - budget') f.takes p.pulls.takes);
+      budget_falls = omega (arith, f.budget_falls, p.pulls.budget_falls);
       few = omega (arith, f.few, few, length-append f.taken piece);
       frames = f.frames;
       front = f.front;
       front_fits = f.front_fits;
-      all = sym (append_assoc before f.taken piece) ∙ ap (λ (xs : List ℕ). xs ++ piece) f.all ∙ append_assoc f.front held piece ∙ ap (λ (xs : List ℕ). f.front ++ xs) (sym p.pulls.all);
+      all =
+          sym (append_assoc before f.taken piece) ∙ ap (λ (xs : List ℕ). xs ++ piece) f.all
+          ∙ append_assoc f.front held piece ∙ ap (λ (xs : List ℕ). f.front ++ xs) (sym p.pulls.all);
       precedes = f.precedes;
       gains = f.gains;
     }
 
 -- the frame at the front of the rest was written
-Forwarded-frame : {m : ℕ} {before : List ℕ} {turns_old turns : ℕ} {a b : Supply} {k l l' : Store} {rest after : List ℕ} {raw : Raw} {done : Unit {0}} → Forwarded m before turns_old turns a b k l rest 0 → IsBytes rest → IsPassed m rest after raw → WritesFrame raw l l' [] [] (Ok done) → Forwarded m before turns_old turns a b k l' after 0
+Forwarded-frame : {m : ℕ} {before : List ℕ} {budget_old budget : ℕ} {a b : Supply} {k l l' : Store} {rest after : List ℕ} {raw : Raw} {done : Unit {0}}
+    → Forwarded m before budget_old budget a b k l rest 0 → IsBytes rest → IsPassed m rest after raw
+    → WritesFrame raw l l' [] [] (Ok done) → Forwarded m before budget_old budget a b k l' after 0
 Forwarded-frame {m = m} {k = k} {l = l} {l' = l'} {rest = rest} {raw = raw} f fits passed writes =
     let n = passed.used in
     let frame = writes.0 in
@@ -112,66 +129,66 @@ Forwarded-frame {m = m} {k = k} {l = l} {l' = l'} {rest = rest} {raw = raw} f fi
       taken = f.taken;
       are_bytes = f.are_bytes;
       takes = f.takes;
-      turns_fall = f.turns_fall;
+      budget_falls = f.budget_falls;
       few = f.few;
       frames = f.frames ++ frame ∷ [];
       front = f.front ++ first;
       front_fits = IsBytes-append f.front first f.front_fits (IsBytes-take n rest fits);
-      all = f.all ∙ ap (λ (xs : List ℕ). f.front ++ xs) (sym (take-append-drop n rest)) ∙ sym (append_assoc f.front first (drop n rest)) ∙ ap (λ (xs : List ℕ). (f.front ++ first) ++ xs) (sym passed.held);
-      precedes = ComesBefore-more plain (Some m) f.front rest f.frames frame n f.precedes (verdict-whole plain (Some m) rest raw n frame passed.found refl writes.1);
-      gains = subst (Gains k l') (ap (λ (xs : List ℕ). canon_frames f.frames ++ xs) bytes ∙ sym (canon_frames-more f.frames frame)) (Gains-then k l l' (canon_frames f.frames) g.written f.gains g.gains);
+      all =
+          f.all ∙ ap (λ (xs : List ℕ). f.front ++ xs) (sym (take-append-drop n rest))
+          ∙ sym (append_assoc f.front first (drop n rest)) ∙ ap (λ (xs : List ℕ). (f.front ++ first) ++ xs) (sym passed.held);
+      precedes =
+          ComesBefore-more plain (Some m) f.front rest f.frames frame n f.precedes (verdict-whole plain (Some m) rest raw n frame passed.found refl writes.1);
+      gains =
+          subst (Gains k l') (ap (λ (xs : List ℕ). canon_frames f.frames ++ xs) bytes ∙ sym (canon_frames-more f.frames frame))
+          (Gains-then k l l' (canon_frames f.frames) g.written f.gains g.gains);
     }
+
+-- what the loop has left falls with a frame
+pub next_less : {m : ℕ} {b c : Supply} {budget budget' : ℕ} {old new : Holding} {raw : AMQPRawFrame} {result : Result (Option AMQPRawFrame) ReadError}
+    → old.limit ≡ m → result ≡ Ok (Some raw) → HasNext b c budget budget' old new result → reading_left m budget' new.held < reading_left m budget old.held
+next_less {budget = budget} {budget' = budget'} {old = old} {new = new} {raw = raw} limit is h =
+    subst (λ x. reading_left x budget' new.held < reading_left x budget old.held) limit (h.falls raw is)
 
 -- a borrowed frame is passed
 passed : (m : ℕ) (b after : List ℕ) (raw : AMQPRawFrame) → IsBorrowed m b after raw → IsPassed m b after (raw_of raw)
 passed m b after raw borrowed = record { used = borrowed.0; found = borrowed.1; held = borrowed.2 }
 
 -- a borrowed frame fits a buffer for the largest frame
-pub frame_room : {m : ℕ} {b c : Supply} {turns turns' : ℕ} {held after : List ℕ} {raw : AMQPRawFrame} → PullsTo (IsBorrowed m) m b c turns turns' held after (Ok (Some raw)) → frame_length (raw_of raw) ≤ m + 8
-frame_room {m = m} {raw = raw} p = omega (arith, frame_fits m p.b (raw_of raw) p.ends.0 p.ends.1, (outer-in_bounds (Some m) p.b (raw_of raw) p.ends.0 p.ends.1).within, p.pulls.room)
-
--- each iteration uses a read or held bytes
-falls : (m turns turns' h h' : ℕ) → turns' < turns → h' ≤ m + 8 → turns' * (m + 9) + h' < turns * (m + 9) + h
-falls m turns turns' h h' less room =
-    let one : (turns' + 1) * (m + 9) ≤ turns * (m + 9) = mul-le-mul_right (m + 9) (omega arith) in omega (arith, one)
-
-stays : (m turns turns' h h' : ℕ) → turns' ≤ turns → h' < h → turns' * (m + 9) + h' < turns * (m + 9) + h
-stays m turns turns' h h' same less =
-    let all : turns' * (m + 9) ≤ turns * (m + 9) = mul-le-mul_right (m + 9) same in omega (arith, all)
-
--- where no budget was spent, nothing was taken
-none_taken : (n turns turns' : ℕ) → (0 < n → turns' < turns) → turns ≤ turns' → n ≡ 0
-none_taken n turns turns' some none = elim (cases_lt 0 n) [ inl more ↦ absurd (omega (arith, some more)) | inr few ↦ omega arith ]
-
-pub next_falls : {m : ℕ} {b c : Supply} {turns turns' : ℕ} {held after : List ℕ} {raw : AMQPRawFrame} → PullsTo (IsBorrowed m) m b c turns turns' held after (Ok (Some raw)) → turns' * (m + 9) + length after < turns * (m + 9) + length held
-next_falls {m = m} {turns = turns} {turns' = turns'} {held = held} {after = after} {raw = raw} p =
-    let bounds = outer-in_bounds (Some m) p.b (raw_of raw) p.ends.0 p.ends.1 in
-    let left : length after ≡ length p.b - p.ends.0 = ap length p.ends.2 ∙ length-drop p.ends.0 p.b in
-    let long = ap length p.pulls.all ∙ length-append held p.pulls.taken in
-    elim (cases_lt turns' turns) [
-      | inl less ↦ falls m turns turns' (length held) (length after) less (omega (arith, left, p.pulls.room))
-      | inr none ↦ stays m turns turns' (length held) (length after) p.pulls.turns_fall (omega (arith, left, long, bounds.least, bounds.within, none_taken (length p.pulls.taken) turns turns' p.pulls.some none))
-    ]
+pub frame_room : {m : ℕ} {b c : Supply} {budget budget' : ℕ} {held after : List ℕ} {raw : AMQPRawFrame}
+    → PullsTo (IsBorrowed m) m b c budget budget' held after (Ok (Some raw)) → frame_length (raw_of raw) ≤ m + 8
+frame_room {m = m} {raw = raw} p =
+    omega (arith, frame_fits m p.b (raw_of raw) p.ends.0 p.ends.1, (outer-in_bounds (Some m) p.b (raw_of raw) p.ends.0 p.ends.1).within, p.pulls.room)
 
 -- one more frame was read and written
-pub Forwarded-more : {m : ℕ} {before : List ℕ} {turns_old turns turns' : ℕ} {a b c : Supply} {k l l' : Store} {held after : List ℕ} {raw : AMQPRawFrame} {done : Unit {0}} → Forwarded m before turns_old turns a b k l held 0 → PullsTo (IsBorrowed m) m b c turns turns' held after (Ok (Some raw)) → WritesFrame (raw_of raw) l l' [] [] (Ok done) → Forwarded m before turns_old turns' a c k l' after 0
-Forwarded-more {m = m} {after = after} {raw = raw} f p writes = Forwarded-frame (Forwarded-pulled 0 f p p.few) p.pulls.all_bytes (passed m p.b after raw p.ends) writes
+pub Forwarded-more : {m : ℕ} {before : List ℕ} {budget_old budget budget' : ℕ} {a b c : Supply}
+    {k l l' : Store} {held after : List ℕ} {raw : AMQPRawFrame} {done : Unit {0}}
+    → Forwarded m before budget_old budget a b k l held 0 → PullsTo (IsBorrowed m) m b c budget budget' held after (Ok (Some raw))
+    → WritesFrame (raw_of raw) l l' [] [] (Ok done) → Forwarded m before budget_old budget' a c k l' after 0
+Forwarded-more {m = m} {after = after} {raw = raw} f p writes =
+    Forwarded-frame (Forwarded-pulled 0 f p p.few) p.pulls.all_bytes (passed m p.b after raw p.ends) writes
 
 -- ---- how it ends
 
 -- the front is a sequence of frames
-sequence_of : (m : ℕ) (front_is : List ℕ) (frames : List Frame) → IsBytes front_is → ComesBefore plain (Some m) front_is frames → SpellsFrames plain (Some m) front_is frames
+sequence_of : (m : ℕ) (front_is : List ℕ) (frames : List Frame) → IsBytes front_is
+    → ComesBefore plain (Some m) front_is frames → SpellsFrames plain (Some m) front_is frames
 sequence_of m front_is frames fits p =
-    let fronts : front plain (Some m) front_is ≡ frames = ap (front plain (Some m)) (sym (append-nil front_is)) ∙ p.sequence [] ∙ ap (λ (fs : List Frame). frames ++ fs) (front-none plain (Some m)) ∙ append-nil frames in
+    let fronts : front plain (Some m) front_is ≡ frames =
+    ap (front plain (Some m)) (sym (append-nil front_is)) ∙ p.sequence []
+    ∙ ap (λ (fs : List Frame). frames ++ fs) (front-none plain (Some m)) ∙ append-nil frames in
     let none : place plain (Some m) front_is ≡ [] = ap (place plain (Some m)) (sym (append-nil front_is)) ∙ p.after [] ∙ place-none plain (Some m) in
     subst (λ (fs : List Frame). SpellsFrames plain (Some m) front_is fs) fronts (sequence_of_all plain (Some m) front_is fits none)
 
-forwards : {m : ℕ} {before : List ℕ} {turns_old turns : ℕ} {a b : Supply} {k l l' : Store} {rest after written : List ℕ} {r : Result (Unit {0}) StreamError} (f : Forwarded m before turns_old turns a b k l rest 1) → Gains k l' written → HasForwarded m f.frames written rest after r → HasEnded m turns a b k l' rest after r → Forwards m before turns_old turns a b k l' after r
+forwards : {m : ℕ} {before : List ℕ} {budget_old budget : ℕ} {a b : Supply} {k l l' : Store} {rest after written : List ℕ}
+    {r : Result (Unit {0}) StreamError} (f : Forwarded m before budget_old budget a b k l rest 1)
+    → Gains k l' written → HasForwarded m f.frames written rest after r
+    → HasEnded m budget a b k l' rest after r → Forwards m before budget_old budget a b k l' after r
 forwards {m = m} {before = before} {rest = rest} {written = written} f gains wrote ended = record {
   taken = f.taken;
   are_bytes = f.are_bytes;
   takes = f.takes;
-  turns_fall = f.turns_fall;
+  budget_falls = f.budget_falls;
   few = f.few;
   frames = f.frames;
   front = f.front;
@@ -186,12 +203,15 @@ forwards {m = m} {before = before} {rest = rest} {written = written} f gains wro
 }
 
 -- the end of input
-pub forwards_all : {m : ℕ} {before : List ℕ} {turns_old turns turns' : ℕ} {a b c : Supply} {k l : Store} {held after : List ℕ} → Forwarded m before turns_old turns a b k l held 0 → PullsTo (IsBorrowed m) m b c turns turns' held after (Ok None) → Forwards m before turns_old turns' a c k l after (Ok tt)
+pub forwards_all : {m : ℕ} {before : List ℕ} {budget_old budget budget' : ℕ} {a b c : Supply} {k l : Store} {held after : List ℕ}
+    → Forwarded m before budget_old budget a b k l held 0 → PullsTo (IsBorrowed m) m b c budget budget' held after (Ok None)
+    → Forwards m before budget_old budget' a c k l after (Ok tt)
 unfolding Forwarded-pulled
 forwards_all f p = forwards (Forwarded-pulled 1 f p p.few) f.gains refl p.ends
 
 -- an error of reading
-unread_wrote : (m : ℕ) (frames : List Frame) (rest after : List ℕ) (error : ReadError) → HasForwarded m frames (canon_frames frames) rest after (Err (stream_error error))
+unread_wrote : (m : ℕ) (frames : List Frame) (rest after : List ℕ) (error : ReadError)
+    → HasForwarded m frames (canon_frames frames) rest after (Err (stream_error error))
 unread_wrote m frames rest after reads.UnknownFrameType = refl
 unread_wrote m frames rest after reads.BadProtocolHeader = refl
 unread_wrote m frames rest after reads.TooLarge = refl
@@ -200,43 +220,52 @@ unread_wrote m frames rest after reads.CutShort = refl
 unread_wrote m frames rest after reads.TurnsSpent = refl
 unread_wrote m frames rest after reads.ReadFault = refl
 
-unread_ended : (m turns : ℕ) (a b c : Supply) (k l : Store) (rest after : List ℕ) (error : ReadError) → a.faults ≤ b.faults → b.faults ≤ c.faults → Fails m rest b c turns error → after ≡ rest → HasEnded m turns a c k l rest after (Err (stream_error error))
-unread_ended m turns a b c k l rest after reads.UnknownFrameType early late fails held = inl (fails, held)
-unread_ended m turns a b c k l rest after reads.BadProtocolHeader early late fails held = inl (fails, held)
-unread_ended m turns a b c k l rest after reads.TooLarge early late fails held = inl (fails, held)
-unread_ended m turns a b c k l rest after reads.BadFrameEnd early late fails held = inl (fails, held)
-unread_ended m turns a b c k l rest after reads.CutShort early late fails held = ((fails.0, held), fails.1, fails.2)
-unread_ended m turns a b c k l rest after reads.TurnsSpent early late fails held = ((fails.0, held), fails.1)
-unread_ended m turns a b c k l rest after reads.ReadFault early late fails held = ((fails.0, held), Rises-later a.faults b.faults c.faults early late fails.1)
+unread_ended : (m budget : ℕ) (a b c : Supply) (k l : Store) (rest after : List ℕ) (error : ReadError) → a.faults ≤ b.faults
+    → b.faults ≤ c.faults → Fails m rest b c budget error → after ≡ rest → HasEnded m budget a c k l rest after (Err (stream_error error))
+unread_ended m budget a b c k l rest after reads.UnknownFrameType early late fails held = inl (fails, held)
+unread_ended m budget a b c k l rest after reads.BadProtocolHeader early late fails held = inl (fails, held)
+unread_ended m budget a b c k l rest after reads.TooLarge early late fails held = inl (fails, held)
+unread_ended m budget a b c k l rest after reads.BadFrameEnd early late fails held = inl (fails, held)
+unread_ended m budget a b c k l rest after reads.CutShort early late fails held = ((fails.0, held), fails.1, fails.2)
+unread_ended m budget a b c k l rest after reads.TurnsSpent early late fails held = ((fails.0, held), fails.1)
+unread_ended m budget a b c k l rest after reads.ReadFault early late fails held = ((fails.0, held), Rises-later a.faults b.faults c.faults early late fails.1)
 
-idle_few : (turns turns' taken : ℕ) (error : ReadError) → turns ≤ turns' + taken + idle_reads_at error → turns ≤ turns' + taken + 1
-idle_few turns turns' taken error few = grind arith
+idle_few : (budget budget' taken : ℕ) (error : ReadError) → budget ≤ budget' + taken + idle_reads_at error → budget ≤ budget' + taken + 1
+idle_few budget budget' taken error few = grind arith
 
-pub forwards_unread : {m : ℕ} {before : List ℕ} {turns_old turns turns' : ℕ} {a b c : Supply} {k l : Store} {held after : List ℕ} {error : ReadError} (r : Result (Unit {0}) StreamError) → Forwarded m before turns_old turns a b k l held 0 → PullsTo (IsBorrowed m) m b c turns turns' held after (Err error) → IsErrAnd r (λ told. told ≡ stream_error error) → Forwards m before turns_old turns' a c k l after r
+-- Where reading the next frame ends with an error, `forward` ends with it, after it wrote the frames before.
+pub forwards_unread : {m : ℕ} {before : List ℕ} {budget_old budget budget' : ℕ} {a b c : Supply}
+    {k l : Store} {held after : List ℕ} {error : ReadError} (r : Result (Unit {0}) StreamError)
+    → Forwarded m before budget_old budget a b k l held 0 → PullsTo (IsBorrowed m) m b c budget budget' held after (Err error)
+    → IsErrAnd r (λ told. told ≡ stream_error error) → Forwards m before budget_old budget' a c k l after r
 unfolding Forwarded-pulled
 forwards_unread (Ok done) f p same = absurd same
-forwards_unread {m = m} {turns = turns} {turns' = turns'} {a = a} {b = b} {c = c} {k = k} {l = l} {after = after} {error = error} (Err told) f p same =
-    let pulled = Forwarded-pulled 1 f p (idle_few turns turns' (length p.pulls.taken) error p.few) in
-    rw same (forwards pulled f.gains (unread_wrote m f.frames p.b after error) (unread_ended m turns' a b c k l p.b after error f.takes.faults p.pulls.takes.faults p.ends.0 p.ends.1))
+forwards_unread {m = m} {budget = budget} {budget' = budget'} {a = a} {b = b} {c = c} {k = k} {l = l} {after = after} {error = error} (Err told) f p same =
+    let pulled = Forwarded-pulled 1 f p (idle_few budget budget' (length p.pulls.taken) error p.few) in
+    rw same (forwards pulled f.gains (unread_wrote m f.frames p.b after error)
+    (unread_ended m budget' a b c k l p.b after error f.takes.faults p.pulls.takes.faults p.ends.0 p.ends.1))
 
 -- What was written, and why it ended, where the frame at the front of the rest was not written in full.
-record Stops (m turns : ℕ) (a b : Supply) (k l : Store) (frames : List Frame) (rest after : List ℕ) (cause : Cause) : Type 0 where
+record Stops (m budget : ℕ) (a b : Supply) (k l : Store) (frames : List Frame) (rest after : List ℕ) (cause : Cause) : Type 0 where
   written : List ℕ
   gains : Gains k l written
   wrote : IsForwardedUpTo m frames written rest after cause
-  ended : IsEndedBy m turns a b k l rest after cause
+  ended : IsEndedBy m budget a b k l rest after cause
 
-stops : (m turns : ℕ) (a b : Supply) (k l l' : Store) (frames : List Frame) (rest after : List ℕ) (raw : Raw) (cause : Cause) → Gains k l (canon_frames frames) → IsPassed m rest after raw → IsUnwritten raw l l' [] [] cause → Stops m turns a b k l' frames rest after cause
-stops m turns a b k l l' frames rest after raw (faulty bad) gains passed unwritten =
+stops : (m budget : ℕ) (a b : Supply) (k l l' : Store) (frames : List Frame) (rest after : List ℕ) (raw : Raw) (cause : Cause)
+    → Gains k l (canon_frames frames) → IsPassed m rest after raw → IsUnwritten raw l l' [] [] cause → Stops m budget a b k l' frames rest after cause
+stops m budget a b k l l' frames rest after raw (faulty bad) gains passed unwritten =
     let kept = unwritten.2 in
     let none : kept.written ≡ [] = sym (append-nil kept.written) ∙ kept.parts in
     record {
       written = canon_frames frames;
-      gains = subst (Gains k l') (ap (λ (xs : List ℕ). canon_frames frames ++ xs) none ∙ append-nil (canon_frames frames)) (Gains-then k l l' (canon_frames frames) kept.written gains kept.gains);
+      gains =
+          subst (Gains k l') (ap (λ (xs : List ℕ). canon_frames frames ++ xs) none ∙ append-nil (canon_frames frames))
+          (Gains-then k l l' (canon_frames frames) kept.written gains kept.gains);
       wrote = refl;
       ended = inr (raw, passed, unwritten.0);
     }
-stops m turns a b k l l' frames rest after raw write_failed gains passed unwritten =
+stops m budget a b k l l' frames rest after raw write_failed gains passed unwritten =
     let fails = unwritten.2 in
     record {
       written = canon_frames frames ++ fails.piece;
@@ -252,12 +281,16 @@ stops m turns a b k l l' frames rest after raw write_failed gains passed unwritt
       };
       ended = Rises-later k.faults l.faults l'.faults gains.faults fails.gains.faults fails.rises;
     }
-stops m turns a b k l l' frames rest after raw cause gains passed unwritten = absurd unwritten
+stops m budget a b k l l' frames rest after raw cause gains passed unwritten = absurd unwritten
 
-pub forwards_unwritten : {m : ℕ} {before : List ℕ} {turns_old turns turns' : ℕ} {a b c : Supply} {k l l' : Store} {held after : List ℕ} {raw : AMQPRawFrame} (error : StreamError) (r : Result (Unit {0}) StreamError) → Forwarded m before turns_old turns a b k l held 0 → PullsTo (IsBorrowed m) m b c turns turns' held after (Ok (Some raw)) → WritesFrame (raw_of raw) l l' [] [] (Err error) → IsErrAnd r (λ told. told ≡ error) → Forwards m before turns_old turns' a c k l' after r
+-- Where writing a frame ends with an error, `forward` ends with it, after it wrote the frames before.
+pub forwards_unwritten : {m : ℕ} {before : List ℕ} {budget_old budget budget' : ℕ} {a b c : Supply} {k l l' : Store}
+    {held after : List ℕ} {raw : AMQPRawFrame} (error : StreamError) (r : Result (Unit {0}) StreamError)
+    → Forwarded m before budget_old budget a b k l held 0 → PullsTo (IsBorrowed m) m b c budget budget' held after (Ok (Some raw))
+    → WritesFrame (raw_of raw) l l' [] [] (Err error) → IsErrAnd r (λ told. told ≡ error) → Forwards m before budget_old budget' a c k l' after r
 unfolding Forwarded-pulled
 forwards_unwritten error (Ok done) f p writes same = absurd same
-forwards_unwritten {m = m} {turns' = turns'} {a = a} {c = c} {k = k} {l = l} {l' = l'} {after = after} {raw = raw} error (Err told) f p writes same =
+forwards_unwritten {m = m} {budget' = budget'} {a = a} {c = c} {k = k} {l = l} {l' = l'} {after = after} {raw = raw} error (Err told) f p writes same =
     let pulled = Forwarded-pulled 1 f p (omega (arith, p.few)) in
-    let at = stops m turns' a c k l l' f.frames p.b after (raw_of raw) (cause_of error) f.gains (passed m p.b after raw p.ends) writes in
+    let at = stops m budget' a c k l l' f.frames p.b after (raw_of raw) (cause_of error) f.gains (passed m p.b after raw p.ends) writes in
     rw same (forwards pulled at.gains at.wrote at.ended)

@@ -13,4 +13,10 @@ one_more s = record s { frames = min (s.frames + 1) last }
 
 -- it refuses nothing, may end anywhere, and takes no memory
 abbrev pub counting : Manner Counting Infallible
-counting = record { level = plain; step = λ s f. Ok (canon f, one_more s); end = λ s. None; wants = λ kind. false; compact = true }
+counting = record {
+  level = plain;
+  step = λ s f. Ok (canon f, one_more s);
+  end = λ s. None;
+  wants = λ kind. false;
+  compact = true;
+}

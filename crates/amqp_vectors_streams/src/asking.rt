@@ -67,12 +67,12 @@ pub fn ends<S: Source>(
     alloc: Global,
     row: &str,
     source: &mut S,
-    turns: u64,
+    budget: u64,
     outcome: Result<(), StreamError>,
     written: &[u8],
 ) -> Result<(), Fail> {
     let mut sink = VecSink::new(alloc);
-    let found = canonicalize(alloc, source, &mut sink, LIMIT, turns);
+    let found = canonicalize(alloc, source, &mut sink, LIMIT, budget);
     has_ended(row, found, outcome, sink.bytes(), written)
 }
 
@@ -82,13 +82,13 @@ pub fn ends_in<S: Source>(
     row: &str,
     profile: Profile,
     source: &mut S,
-    turns: u64,
+    budget: u64,
     outcome: Result<(), StreamError>,
     written: &[u8],
 ) -> Result<(), Fail> {
     let mut sink = VecSink::new(alloc);
     let mut codec = Codec::open(alloc, LIMIT)?;
-    let found = codec.rewrite(profile, source, &mut sink, turns);
+    let found = codec.rewrite(profile, source, &mut sink, budget);
     has_ended(row, found, outcome, sink.bytes(), written)
 }
 
@@ -97,12 +97,12 @@ fn ends_lent<S: Source>(
     alloc: Global,
     row: &str,
     source: &mut S,
-    turns: u64,
+    budget: u64,
     outcome: Result<(), StreamError>,
     written: &[u8],
 ) -> Result<(), Fail> {
     let mut sink = VecSink::new(alloc);
-    let found = canonicalize_lent(alloc, source, &mut sink, LIMIT, turns);
+    let found = canonicalize_lent(alloc, source, &mut sink, LIMIT, budget);
     has_ended(row, found, outcome, sink.bytes(), written)
 }
 
@@ -115,12 +115,12 @@ pub fn canonicalizes(
     outcome: Result<(), StreamError>,
     written: &[u8],
 ) -> Result<(), Fail> {
-    let turns = bytes.len() as u64 + 1;
+    let budget = bytes.len() as u64 + 1;
     for pieces in [[].as_slice(), ONES.as_slice()] {
         let mut source = PieceSource::new(bytes, pieces, &[]);
-        ends(alloc, row, &mut source, turns, outcome, written)?;
+        ends(alloc, row, &mut source, budget, outcome, written)?;
         let mut source = PieceSource::new(bytes, pieces, &[]);
-        ends_lent(alloc, row, &mut source, turns, outcome, written)?;
+        ends_lent(alloc, row, &mut source, budget, outcome, written)?;
     }
     Ok(())
 }

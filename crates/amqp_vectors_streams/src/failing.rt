@@ -30,9 +30,9 @@ const BUDGETS: &[Budget] = &[
 #[test]
 fn reads_have_a_budget(rt: HostRuntime) -> Result<(), Fail> {
     let alloc = rt.alloc();
-    for (pieces, turns, outcome, written) in BUDGETS {
+    for (pieces, budget, outcome, written) in BUDGETS {
         let mut source = PieceSource::new(&HEARTBEAT, pieces, &[]);
-        ends(alloc, "a budget", &mut source, *turns, *outcome, written)?;
+        ends(alloc, "a budget", &mut source, *budget, *outcome, written)?;
     }
     Ok(())
 }
@@ -143,10 +143,10 @@ fn around_large(alloc: Global, end: &[u8]) -> Result<Vec<u8>, Fail> {
 }
 
 /// How the second heartbeat ends, without a payload and with one, and how many writes are made.
-const ENDS: &[(&[u8], u64)] = &[(&[0, 206], 1), (&[2, 1, 2, 206], 2)];
+const ENDS: &[(&[u8], u64)] = &[(&[0, 206], 1), (&[2, 1, 2, 206], 1)];
 
-/// How many writes are made for a large body between small frames: one where all of them stand, and one for what
-/// stands before a frame that does not.
+/// How many writes are made for a large body between small frames: one where all of them stand, and one where the last
+/// gets shorter, and is written with those before it.
 #[test]
 fn large_bodies_are_written_with_what_stands(rt: HostRuntime) -> Result<(), Fail> {
     let alloc = rt.alloc();

@@ -20,7 +20,8 @@ fn write_now<K: Sink>(
     requires empty { out.old.bytes ≡ [] }
     requires room { frame_length (raw_of raw) ≤ out.old.room }
     ensures out { out.new ≡ out.old }
-    ensures writes { WritesFrame (raw_of raw.entry) (K.store sink.old) (K.store sink.new) [] [] result }
+    ensures writes { WritesFrame (raw_of raw.entry)
+        (K.store sink.old) (K.store sink.new) [] [] result }
 {
     match write_canonical(out, sink, raw) {
         Err(error) => Err(error),
@@ -38,17 +39,18 @@ pub fn forward<S: Source, K: Sink>(
     out: &mut OutputBuffer,
     source: &mut S,
     sink: &mut K,
-    turns: &mut u64,
+    budget: &mut u64,
 ) -> Result<(), StreamError>
     requires empty { out.old.bytes ≡ [] }
     requires room { reader.old.limit + 8 ≤ out.old.room }
     ensures limit { reader.new.limit ≡ reader.old.limit }
     ensures out { out.new ≡ out.old }
-    ensures forwards { Forwards reader.old.limit reader.old.held turns.old turns.new (S.supply source.old) (S.supply source.new)
+    ensures forwards { Forwards reader.old.limit reader.old.held budget.old budget.new
+        (S.supply source.old) (S.supply source.new)
         (K.store sink.old) (K.store sink.new) reader.new.held result }
 {
     'frames: loop {
-        let Some(raw) = reader.next(source, turns)? else {
+        let Some(raw) = reader.next(source, budget)? else {
             return Ok(());
         };
         write_now(out, sink, raw)?;

@@ -45,14 +45,14 @@ fn frames_are_forwarded_one_by_one(rt: HostRuntime) -> Result<(), Fail> {
     let alloc = rt.alloc();
     let mut reader = FrameReader::open(alloc, LIMIT)?;
     let mut out = OutputBuffer::open(alloc, LIMIT as usize + 8)?;
-    let mut turns = 100;
+    let mut budget = 100;
     let mut source = PieceSource::new(&MESSAGE, &ONES, &[]);
     let mut server = VecSink::new(alloc);
-    let sent = forward(&mut reader, &mut out, &mut source, &mut server, &mut turns);
-    let left = turns;
+    let sent = forward(&mut reader, &mut out, &mut source, &mut server, &mut budget);
+    let left = budget;
     let mut source = SliceSource::new(&START);
     let mut client = VecSink::new(alloc);
-    let then = forward(&mut reader, &mut out, &mut source, &mut client, &mut turns);
+    let then = forward(&mut reader, &mut out, &mut source, &mut client, &mut budget);
     has_ended("a message", sent, Ok(()), server.bytes(), &MESSAGE)?;
     has_ended("a start", then, Ok(()), client.bytes(), &START_IN_ORDER)?;
     same(left, 30)

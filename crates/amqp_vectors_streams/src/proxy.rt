@@ -33,7 +33,8 @@ impl Connection {
     pub fn open(alloc: Global, budget: u32) -> Result<Connection, NoMemory>
         requires { 160 ≤ budget }
         ensures to_server { IfOk result (λ connection. 20 * (connection.to_server + 8) ≤ budget) }
-        ensures to_client { IfOk result (λ connection. connection.to_client ≡ connection.to_server) }
+        ensures to_client { IfOk result
+            (λ connection. connection.to_client ≡ connection.to_server) }
     {
         let limit = limit_within(budget);
         let to_server = Codec::open(alloc, limit)?;
@@ -49,15 +50,16 @@ impl Connection {
         &mut self,
         client: &mut S,
         server: &mut K,
-        turns: u64,
+        budget: u64,
     ) -> Result<(), StreamError>
         ensures limits { self.new ≡ self.old }
-        ensures stream { Canonicalizes plain self.old.to_server turns (S.supply client.old) (S.supply client.new)
+        ensures stream { Canonicalizes plain self.old.to_server budget
+            (S.supply client.old) (S.supply client.new)
             (K.store server.old) (K.store server.new) result }
         ensures memory { result ≢ Err StreamError.NoMemory }
     {
         self.to_server
-            .rewrite(Profile::Plain, client, server, turns)
+            .rewrite(Profile::Plain, client, server, budget)
     }
 
     /// Passes on what the server sends, in canonical bytes, to its end or an error.
@@ -65,14 +67,15 @@ impl Connection {
         &mut self,
         server: &mut S,
         client: &mut K,
-        turns: u64,
+        budget: u64,
     ) -> Result<(), StreamError>
         ensures limits { self.new ≡ self.old }
-        ensures stream { Canonicalizes plain self.old.to_client turns (S.supply server.old) (S.supply server.new)
+        ensures stream { Canonicalizes plain self.old.to_client budget
+            (S.supply server.old) (S.supply server.new)
             (K.store client.old) (K.store client.new) result }
         ensures memory { result ≢ Err StreamError.NoMemory }
     {
         self.to_client
-            .rewrite(Profile::Plain, server, client, turns)
+            .rewrite(Profile::Plain, server, client, budget)
     }
 }

@@ -83,11 +83,11 @@ fn returns<S: Source>(
     source: &mut S,
     steps: &[Step],
 ) -> Result<(), Fail> {
-    let mut turns = 100;
+    let mut budget = 100;
     for (wanted, held, left) in steps {
-        same(reader.next(source, &mut turns), *wanted)?;
+        same(reader.next(source, &mut budget), *wanted)?;
         same(reader.held().len(), *held)?;
-        same(turns, *left)?;
+        same(budget, *left)?;
     }
     Ok(())
 }
@@ -101,4 +101,26 @@ fn frames_are_returned(rt: HostRuntime) -> Result<(), Fail> {
         returns(&mut reader, &mut source, steps)?;
     }
     Ok(())
+}
+
+/// How many frames come. A loop over a range needs no proof that it ends.
+fn count_frames<S: Source>(
+    reader: &mut FrameReader,
+    source: &mut S,
+    budget: &mut u64,
+) -> Result<u64, ReadError> {
+    for count in 0..u64::MAX {
+        let Some(_) = reader.next(source, budget)? else {
+            return Ok(count);
+        };
+    }
+    Ok(u64::MAX)
+}
+
+#[test]
+fn frames_are_counted(rt: HostRuntime) -> Result<(), Fail> {
+    let mut reader = FrameReader::open(rt.alloc(), LIMIT)?;
+    let mut source = PieceSource::new(&MESSAGE, &ONES, &[]);
+    let mut budget = 100;
+    same(count_frames(&mut reader, &mut source, &mut budget), Ok(3))
 }

@@ -112,9 +112,9 @@ fn refused_memory_leaves_a_reader(rt: HostRuntime) {
     };
     let mut reader = reader;
     let mut source = SliceSource::new(&MESSAGE);
-    let mut turns = 2;
+    let mut budget = 2;
     for frames in 0..4 {
-        match reader.next(&mut source, &mut turns) {
+        match reader.next(&mut source, &mut budget) {
             Ok(Some(raw)) => {
                 if let Ok(kept) = Vec::from_slice(rt.alloc(), raw.payload) {
                     assert_eq!(rt; kept.as_slice(), raw.payload);

@@ -115,10 +115,10 @@ const ENDS: &[End] = &[
 
 /// Fails unless dumping the message ends so.
 fn has_ended(alloc: Global, end: End) -> Result<(), Fail> {
-    let (failing_reads, failing_writes, turns, error, count) = end;
+    let (failing_reads, failing_writes, budget, error, count) = end;
     let mut source = PieceSource::new(&MESSAGE, &ONES, failing_reads);
     let mut sink = ScriptSink::new(alloc, &ONES, failing_writes);
-    let found = dump(alloc, &mut source, &mut sink, LIMIT, turns);
+    let found = dump(alloc, &mut source, &mut sink, LIMIT, budget);
     let lines = MESSAGE_LINES.as_bytes().get(..count).unwrap_or_default();
     same((found, sink.bytes()), (Err(error), lines))
 }

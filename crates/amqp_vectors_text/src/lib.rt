@@ -12,4 +12,6 @@ mod one_line;
 #[cfg(test)]
 mod refused;
 #[cfg(test)]
+mod reported;
+#[cfg(test)]
 mod undumping;

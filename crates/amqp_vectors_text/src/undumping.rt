@@ -83,10 +83,10 @@ const ENDS: &[End] = &[
 
 /// Fails unless reading back the message's lines ends so.
 fn has_ended(alloc: Global, end: End) -> Result<(), Fail> {
-    let (failing_reads, failing_writes, turns, error, count) = end;
+    let (failing_reads, failing_writes, budget, error, count) = end;
     let mut source = PieceSource::new(MESSAGE_LINES.as_bytes(), &ONES, failing_reads);
     let mut sink = ScriptSink::new(alloc, &ONES, failing_writes);
-    let found = undump(alloc, &mut source, &mut sink, LIMIT, turns);
+    let found = undump(alloc, &mut source, &mut sink, LIMIT, budget);
     let bytes = MESSAGE.get(..count).unwrap_or_default();
     same((found, sink.bytes()), (Err(error), bytes))
 }

@@ -1,5 +1,6 @@
 -- How the front of some bytes goes on after its first frame.
-use Rattle.std.proofs.Common.{◌≡◌, ◌≢◌, ℕ, zero, suc, ◌≤◌, Bool, true, false, List, [], ◌∷◌, ◌++◌, length, take, drop, append_assoc, Option, Result, Ok, Err, refl, sym, ap, subst, ◌∙◌, arith}
+use Rattle.std.proofs.Common.{◌≡◌, ◌≢◌, ℕ, zero, suc, ◌≤◌, Bool, true, false, List, [], ◌∷◌, ◌++◌, length, take, drop, append_assoc, Option, Result, Ok, Err}
+use Rattle.std.proofs.Common.{refl, sym, ap, subst, ◌∙◌, arith}
 use Rattle.std.proofs.lemmas.List.{length-drop, drop_at, length-take-le, nil_from_length}
 use Rattle.amqp_types.specs.Levels.{Level}
 use Rattle.amqp_types.specs.Judging.{Fault, Judged, past, fault, took}
@@ -40,7 +41,8 @@ judged-more level (fault bad) h e = absurd cc
 judged-more level (took raw n) h e = absurd cc
 
 -- what is decided stays so
-pub verdict-append : (level : Level) (m : Option ℕ) (bytes more : List ℕ) → verdict level m bytes ≢ past → verdict level m (bytes ++ more) ≡ verdict level m bytes
+pub verdict-append : (level : Level) (m : Option ℕ) (bytes more : List ℕ)
+    → verdict level m bytes ≢ past → verdict level m (bytes ++ more) ≡ verdict level m bytes
 unfolding verdict
 verdict-append level m bytes more h = ap (judged level) (outer-append m bytes more (judged-more level (outer m bytes) h))
 
@@ -50,7 +52,9 @@ unfolding cut verdict
 cut-none level m zero = refl
 cut-none level m (suc n) = rw outer-none refl
 
-cut-step : (level : Level) (m : Option ℕ) (n k : ℕ) (bytes : List ℕ) → length bytes ≤ suc n → length bytes ≤ suc k → ((rest : List ℕ) → length rest ≤ n → length rest ≤ k → cut level m n rest ≡ cut level m k rest) → (j : Judged Frame) → verdict level m bytes ≡ j → cut level m (suc n) bytes ≡ cut level m (suc k) bytes
+cut-step : (level : Level) (m : Option ℕ) (n k : ℕ) (bytes : List ℕ) → length bytes ≤ suc n → length bytes ≤ suc k
+    → ((rest : List ℕ) → length rest ≤ n → length rest ≤ k → cut level m n rest ≡ cut level m k rest)
+    → (j : Judged Frame) → verdict level m bytes ≡ j → cut level m (suc n) bytes ≡ cut level m (suc k) bytes
 unfolding cut
 cut-step level m n k bytes h g ih past e = rw e refl
 cut-step level m n k bytes h g ih (fault bad) e = rw e refl
@@ -74,19 +78,23 @@ pub record GoesOn (level : Level) (m : Option ℕ) (bytes : List ℕ) (f : Frame
 cut-more : (level : Level) (m : Option ℕ) (bytes : List ℕ) → cut level m (length bytes) bytes ≡ cut level m (suc (length bytes)) bytes
 cut-more level m bytes = cut-enough level m (length bytes) (suc (length bytes)) bytes (omega arith) (omega arith)
 
+-- Where a frame is decoded, the frames at the front are that frame and those at the front of what comes after it.
 pub front-got : (level : Level) (m : Option ℕ) (bytes : List ℕ) (f : Frame) (n : ℕ) → verdict level m bytes ≡ took f n → GoesOn level m bytes f (drop n bytes)
 unfolding front place cut
 front-got level m bytes f n e =
     let at = verdict-got_within level m bytes f n e in
-    let same : cut level m (length bytes) (drop n bytes) ≡ cut level m (length (drop n bytes)) (drop n bytes) = cut-enough level m (length bytes) (length (drop n bytes)) (drop n bytes) (omega (arith, length-drop n bytes)) (omega arith) in
-    let step : cut level m (suc (length bytes)) bytes ≡ (f ∷ (cut level m (length bytes) (drop n bytes)).0, (cut level m (length bytes) (drop n bytes)).1) = rw e refl in
+    let same : cut level m (length bytes) (drop n bytes) ≡ cut level m (length (drop n bytes)) (drop n bytes) =
+    cut-enough level m (length bytes) (length (drop n bytes)) (drop n bytes) (omega (arith, length-drop n bytes)) (omega arith) in
+    let step : cut level m (suc (length bytes)) bytes ≡ (f ∷ (cut level m (length bytes) (drop n bytes)).0, (cut level m (length bytes) (drop n bytes)).1) =
+    rw e refl in
     let all = cut-more level m bytes ∙ step in
     record {
       sequence = ap (λ (p : List Frame × List ℕ). p.0) all ∙ ap (λ (p : List Frame × List ℕ). f ∷ p.0) same;
       after = ap (λ (p : List Frame × List ℕ). p.1) all ∙ ap (λ (p : List Frame × List ℕ). p.1) same;
     }
 
-cut-stop : (level : Level) (m : Option ℕ) (n : ℕ) (bytes : List ℕ) (j : Judged Frame) → verdict level m bytes ≡ j → IsStop j → cut level m (suc n) bytes ≡ ([], bytes)
+cut-stop : (level : Level) (m : Option ℕ) (n : ℕ) (bytes : List ℕ) (j : Judged Frame)
+    → verdict level m bytes ≡ j → IsStop j → cut level m (suc n) bytes ≡ ([], bytes)
 unfolding cut
 cut-stop level m n bytes past e s = rw e refl
 cut-stop level m n bytes (fault bad) e s = rw e refl
@@ -99,6 +107,7 @@ front-stop level m bytes h =
     let all = cut-more level m bytes ∙ cut-stop level m (length bytes) bytes (verdict level m bytes) refl h in
     (ap (λ (p : List Frame × List ℕ). p.0) all, ap (λ (p : List Frame × List ℕ). p.1) all)
 
+-- An empty input has no frames, whatever follows.
 pub ComesBefore-none : (level : Level) (m : Option ℕ) → ComesBefore level m [] []
 ComesBefore-none level m = record { sequence = λ rest. refl; after = λ rest. refl }
 
@@ -106,23 +115,29 @@ decided_got : (level : Level) (m : Option ℕ) (bytes : List ℕ) (f : Frame) (n
 decided_got level m bytes f n e h = absurd (cc)
 
 -- a frame that is there in full is there whatever follows it
-pub verdict-exact : (level : Level) (m : Option ℕ) (bytes rest : List ℕ) (f : Frame) (n : ℕ) → verdict level m bytes ≡ took f n → verdict level m (take n bytes ++ rest) ≡ took f n
+pub verdict-exact : (level : Level) (m : Option ℕ) (bytes rest : List ℕ) (f : Frame) (n : ℕ)
+    → verdict level m bytes ≡ took f n → verdict level m (take n bytes ++ rest) ≡ took f n
 unfolding verdict
 verdict-exact level m bytes rest f n e =
     let found = judged-got level (outer m bytes) f n e in
     ap (judged level) (outer-exact m bytes rest found.0 n found.1 ∙ sym found.1) ∙ e
 
 -- one more frame
-pub ComesBefore-more : (level : Level) (m : Option ℕ) (used held : List ℕ) (frames : List Frame) (f : Frame) (n : ℕ) → ComesBefore level m used frames → verdict level m held ≡ took f n → ComesBefore level m (used ++ take n held) (frames ++ f ∷ [])
+pub ComesBefore-more : (level : Level) (m : Option ℕ) (used held : List ℕ) (frames : List Frame) (f : Frame) (n : ℕ)
+    → ComesBefore level m used frames → verdict level m held ≡ took f n → ComesBefore level m (used ++ take n held) (frames ++ f ∷ [])
 ComesBefore-more level m used held frames f n p e =
     let at = verdict-got_within level m held f n e in
     let goes : (rest : List ℕ) → GoesOn level m (take n held ++ rest) f rest = λ rest.
-    subst (λ (xs : List ℕ). GoesOn level m (take n held ++ rest) f xs) (drop_at (take n held) rest n (length-take-le n held at.1)) (front-got level m (take n held ++ rest) f n (verdict-exact level m held rest f n e)) in
+    subst (λ (xs : List ℕ). GoesOn level m (take n held ++ rest) f xs) (drop_at (take n held) rest n (length-take-le n held at.1))
+    (front-got level m (take n held ++ rest) f n (verdict-exact level m held rest f n e)) in
     record {
-      sequence = λ rest. rw (append_assoc used (take n held) rest, append_assoc frames (f ∷ []) (front level m rest)) (p.sequence (take n held ++ rest) ∙ ap (λ (fs : List Frame). frames ++ fs) (goes rest).sequence);
+      sequence = λ rest.
+          rw (append_assoc used (take n held) rest, append_assoc frames (f ∷ []) (front level m rest))
+          (p.sequence (take n held ++ rest) ∙ ap (λ (fs : List Frame). frames ++ fs) (goes rest).sequence);
       after = λ rest. rw (append_assoc used (take n held) rest) (p.after (take n held ++ rest) ∙ (goes rest).after);
     }
 
+-- In an empty input a frame is incomplete.
 pub verdict-none : (level : Level) (m : Option ℕ) → verdict level m [] ≡ past
 unfolding verdict
 verdict-none level m = ap (judged level) (outer-none m)
@@ -131,9 +146,11 @@ verdict-none level m = ap (judged level) (outer-none m)
 pub stop-none : (level : Level) (m : Option ℕ) → IsStop (verdict level m [])
 stop-none level m = rw (verdict-none level m) tt
 
+-- At the front of an empty input there are no frames.
 pub front-none : (level : Level) (m : Option ℕ) → front level m [] ≡ []
 front-none level m = (front-stop level m [] (stop-none level m)).0
 
+-- After the frames of an empty input nothing comes.
 pub place-none : (level : Level) (m : Option ℕ) → place level m [] ≡ []
 place-none level m = (front-stop level m [] (stop-none level m)).1
 
@@ -142,18 +159,23 @@ pub verdict-more : (level : Level) (m : Option ℕ) (bytes : List ℕ) → outer
 unfolding verdict
 verdict-more level m bytes e = ap (judged level) e
 
+-- A fault of the header scan is the fault of decoding.
 pub verdict-bad : (level : Level) (m : Option ℕ) (bytes : List ℕ) (bad : Fault) → outer m bytes ≡ fault bad → verdict level m bytes ≡ fault bad
 unfolding verdict
 verdict-bad level m bytes bad e = ap (judged level) e
 
-pub verdict-whole : (level : Level) (m : Option ℕ) (bytes : List ℕ) (raw : Raw) (n : ℕ) (f : Frame) → outer m bytes ≡ took raw n → is_at level raw ≡ true → whole raw ≡ Ok f → verdict level m bytes ≡ took f n
+-- Where the header scan takes a frame whose payload is decoded and which has the level, the frame is decoded.
+pub verdict-whole : (level : Level) (m : Option ℕ) (bytes : List ℕ) (raw : Raw) (n : ℕ) (f : Frame)
+    → outer m bytes ≡ took raw n → is_at level raw ≡ true → whole raw ≡ Ok f → verdict level m bytes ≡ took f n
 unfolding verdict
-verdict-whole level m bytes raw n f e at_level is_whole = ap (judged level) e ∙ ap (λ t. judged_frame t (whole raw) n) at_level ∙ ap (λ r. judged_frame true r n) is_whole
+verdict-whole level m bytes raw n f e at_level is_whole =
+    ap (judged level) e ∙ ap (λ t. judged_frame t (whole raw) n) at_level ∙ ap (λ r. judged_frame true r n) is_whole
 
 judged_frame-fault : (at_level : Bool) (read : Result Frame Fault) (n : ℕ) (bad : Fault) → read ≡ Err bad → judged_frame at_level read n ≡ fault bad
 judged_frame-fault true read n bad e = ap (λ r. judged_frame true r n) e
 judged_frame-fault false read n bad e = ap (λ r. judged_frame false r n) e
 
-pub verdict-fault : (level : Level) (m : Option ℕ) (bytes : List ℕ) (raw : Raw) (n : ℕ) (bad : Fault) → outer m bytes ≡ took raw n → whole raw ≡ Err bad → verdict level m bytes ≡ fault bad
+pub verdict-fault : (level : Level) (m : Option ℕ) (bytes : List ℕ) (raw : Raw) (n : ℕ) (bad : Fault)
+    → outer m bytes ≡ took raw n → whole raw ≡ Err bad → verdict level m bytes ≡ fault bad
 unfolding verdict
 verdict-fault level m bytes raw n bad e is_whole = ap (judged level) e ∙ judged_frame-fault (is_at level raw) (whole raw) n bad is_whole

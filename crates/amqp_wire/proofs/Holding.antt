@@ -12,6 +12,7 @@ pub record HeldFields (m : Method) : Type 0 where
   pub known : slots_at m.class m.id ≡ Some slots
   pub held : AreSlotsHeld slots m.items
 
+-- A method that is held has fields in the table, and its items are held in them.
 pub held_fields : (m : Method) → IsHeldMethod m → HeldFields m
 held_fields m h = by_slots (slots_at m.class m.id) refl h
   where

@@ -61,9 +61,11 @@ inside_fault errors.NoMemory h = h
 
 -- ---- what a whole payload is, where decoding it is lawful
 
-module _ {A : Type 0} (judge : Judge A) (Spells : Level → List ℕ → A → Type 0) (canonical : A → List ℕ) (is_tidy : List ℕ → Bool) (lawful : IsLawful judge Spells canonical) (decides : IsDecidedBy judge (Spells tidy) is_tidy) (inside : FailsInside judge) where
+module _ {A : Type 0} (judge : Judge A) (Spells : Level → List ℕ → A → Type 0) (canonical : A → List ℕ) (is_tidy : List ℕ → Bool)
+    (lawful : IsLawful judge Spells canonical) (decides : IsDecidedBy judge (Spells tidy) is_tidy) (inside : FailsInside judge) where
   -- all of the payload was used
-  is_all : (payload : List ℕ) (found : Judgement) → IsBytes payload → found.used ≡ length payload → TakesTidily (λ bytes x. bytes ≡ canonical x) (Spells tidy) found payload (judge payload)
+  is_all : (payload : List ℕ) (found : Judgement) → IsBytes payload → found.used ≡ length payload
+      → TakesTidily (λ bytes x. bytes ≡ canonical x) (Spells tidy) found payload (judge payload)
       → IsAll judge canonical is_tidy payload (record { canonical = found.canonical; tidy = found.tidy })
   is_all payload found fits all h =
       let is : all_of judge payload ≡ Ok h.thing = payloads.fills_all (length payload) found.used (judge payload) h.thing h.is all in
@@ -72,43 +74,75 @@ module _ {A : Type 0} (judge : Judge A) (Spells : Level → List ℕ → A → T
       record {
         thing = h.thing;
         is = is;
-        canonical_is = same_test found.canonical (bytes_eq payload (canonical h.thing)) (λ e. written.1 (sym used ∙ h.canonical.0 e)) (λ e. h.canonical.1 (used ∙ written.0 e));
+        canonical_is =
+            same_test found.canonical (bytes_eq payload (canonical h.thing))
+            (λ e. written.1 (sym used ∙ h.canonical.0 e)) (λ e. h.canonical.1 (used ∙ written.0 e));
         tidy_is = same_test found.tidy (is_tidy payload)
-            (λ e. payloads.spelled_at judge Spells canonical is_tidy lawful decides tidy payload h.thing (subst (λ bytes. Spells tidy bytes h.thing) used (h.tidy.0 e)))
-            (λ e. h.tidy.1 (subst (λ bytes. Spells tidy bytes h.thing) (sym used) (payloads.whole_spells judge Spells canonical is_tidy lawful decides tidy payload h.thing fits is e)));
+            (λ e.
+            payloads.spelled_at judge Spells canonical is_tidy lawful decides tidy payload h.thing
+            (subst (λ bytes. Spells tidy bytes h.thing) used (h.tidy.0 e)))
+            (λ e.
+            h.tidy.1 (subst (λ bytes. Spells tidy bytes h.thing) (sym used)
+            (payloads.whole_spells judge Spells canonical is_tidy lawful decides tidy payload h.thing fits is e)));
       }
 
   -- a refusal of what is decoded
-  is_refused : (payload : List ℕ) (error : ParserError) → MayRefuse error × Refuses error (judge payload) → JudgesAll judge canonical is_tidy payload (Err (inside_error error))
+  is_refused : (payload : List ℕ) (error : ParserError) → MayRefuse error × Refuses error (judge payload)
+      → JudgesAll judge canonical is_tidy payload (Err (inside_error error))
   is_refused payload error h =
-      let refused = payloads.refused_all error (length payload) (judge payload) h.1 in
-      ((error_whole (inside_error error) (all_of judge payload) (λ bad e. filling_fails (length payload) (judge payload) bad (inside payload) e) refused, inside_fault error h.0), refused)
+      let refused = payloads.refused_all error (length payload) (judge payload) h.1 in (
+        (
+          error_whole (inside_error error) (all_of judge payload) (λ bad e. filling_fails (length payload) (judge payload) bad (inside payload) e) refused,
+          inside_fault error h.0,
+        ),
+        refused,
+      )
 
   -- bytes are left
-  is_trailing : (payload : List ℕ) (found : Judgement) → found.used < length payload → TakesTidily (λ bytes x. bytes ≡ canonical x) (Spells tidy) found payload (judge payload) → JudgesAll judge canonical is_tidy payload (Err errors.TrailingBytes)
+  is_trailing : (payload : List ℕ) (found : Judgement) → found.used < length payload
+      → TakesTidily (λ bytes x. bytes ≡ canonical x) (Spells tidy) found payload (judge payload)
+      → JudgesAll judge canonical is_tidy payload (Err errors.TrailingBytes)
   is_trailing payload found less h = ((tt, λ e. cc), payloads.fills_less (length payload) found.used (judge payload) h.thing h.is less)
 
-pub method_all : (payload : List ℕ) (found : Judgement) → IsBytes payload → found.used ≡ length payload → JudgesPayload payload (Ok found) → JudgesAll judge_payload payload_bytes is_tidy_payload payload (Ok (record { canonical = found.canonical; tidy = found.tidy }))
+-- The payload of a method that was decoded to its end, with no memory, is decoded whole.
+pub method_all : (payload : List ℕ) (found : Judgement) → IsBytes payload → found.used ≡ length payload → JudgesPayload payload (Ok found)
+    → JudgesAll judge_payload payload_bytes is_tidy_payload payload (Ok (record { canonical = found.canonical; tidy = found.tidy }))
 method_all = is_all judge_payload SpellsPayload payload_bytes is_tidy_payload payloads_lawful payloads_decided payloads_inside
 
-pub method_refused : (payload : List ℕ) (error : ParserError) → JudgesPayload payload (Err error) → JudgesAll judge_payload payload_bytes is_tidy_payload payload (Err (inside_error error))
+-- The fault of decoding a method is that of its whole payload, in which an incomplete one is short.
+pub method_refused : (payload : List ℕ) (error : ParserError) → JudgesPayload payload (Err error)
+    → JudgesAll judge_payload payload_bytes is_tidy_payload payload (Err (inside_error error))
 method_refused = is_refused judge_payload SpellsPayload payload_bytes is_tidy_payload payloads_lawful payloads_decided payloads_inside
 
-pub method_trailing : (payload : List ℕ) (found : Judgement) → found.used < length payload → JudgesPayload payload (Ok found) → JudgesAll judge_payload payload_bytes is_tidy_payload payload (Err errors.TrailingBytes)
+pub method_trailing : (payload : List ℕ) (found : Judgement) → found.used < length payload → JudgesPayload payload (Ok found)
+    → JudgesAll judge_payload payload_bytes is_tidy_payload payload (Err errors.TrailingBytes)
 method_trailing = is_trailing judge_payload SpellsPayload payload_bytes is_tidy_payload payloads_lawful payloads_decided payloads_inside
 
-pub header_all : (payload : List ℕ) (found : Judgement) → IsBytes payload → found.used ≡ length payload → JudgesContentHeader payload (Ok found) → JudgesAll judge_content_header content_header_bytes is_tidy_content_header payload (Ok (record { canonical = found.canonical; tidy = found.tidy }))
-header_all = is_all judge_content_header SpellsContentHeader content_header_bytes is_tidy_content_header content_headers_lawful content_headers_decided content_headers_inside
+-- A content header that was decoded to the end of its payload, with no memory, is decoded whole.
+pub header_all : (payload : List ℕ) (found : Judgement) → IsBytes payload → found.used ≡ length payload → JudgesContentHeader payload (Ok found)
+    → JudgesAll judge_content_header content_header_bytes is_tidy_content_header payload (Ok (record { canonical = found.canonical; tidy = found.tidy }))
+header_all =
+    is_all judge_content_header SpellsContentHeader content_header_bytes is_tidy_content_header
+    content_headers_lawful content_headers_decided content_headers_inside
 
-pub header_refused : (payload : List ℕ) (error : ParserError) → JudgesContentHeader payload (Err error) → JudgesAll judge_content_header content_header_bytes is_tidy_content_header payload (Err (inside_error error))
-header_refused = is_refused judge_content_header SpellsContentHeader content_header_bytes is_tidy_content_header content_headers_lawful content_headers_decided content_headers_inside
+-- The fault of decoding a content header is that of its whole payload, in which an incomplete one is short.
+pub header_refused : (payload : List ℕ) (error : ParserError) → JudgesContentHeader payload (Err error)
+    → JudgesAll judge_content_header content_header_bytes is_tidy_content_header payload (Err (inside_error error))
+header_refused =
+    is_refused judge_content_header SpellsContentHeader content_header_bytes
+    is_tidy_content_header content_headers_lawful content_headers_decided content_headers_inside
 
-pub header_trailing : (payload : List ℕ) (found : Judgement) → found.used < length payload → JudgesContentHeader payload (Ok found) → JudgesAll judge_content_header content_header_bytes is_tidy_content_header payload (Err errors.TrailingBytes)
-header_trailing = is_trailing judge_content_header SpellsContentHeader content_header_bytes is_tidy_content_header content_headers_lawful content_headers_decided content_headers_inside
+pub header_trailing : (payload : List ℕ) (found : Judgement) → found.used < length payload → JudgesContentHeader payload (Ok found)
+    → JudgesAll judge_content_header content_header_bytes is_tidy_content_header payload (Err errors.TrailingBytes)
+header_trailing =
+    is_trailing judge_content_header SpellsContentHeader content_header_bytes
+    is_tidy_content_header content_headers_lawful content_headers_decided content_headers_inside
 
 -- ---- frames
 
-pub method_frame : (channel : ℕ) (payload : List ℕ) (r : Result FrameJudgement ParserError) → JudgesAll judge_payload payload_bytes is_tidy_payload payload r → JudgesFrame (raw_as kinds.Method channel payload) r
+-- What is found of the payload of a method is found of its frame.
+pub method_frame : (channel : ℕ) (payload : List ℕ) (r : Result FrameJudgement ParserError)
+    → JudgesAll judge_payload payload_bytes is_tidy_payload payload r → JudgesFrame (raw_as kinds.Method channel payload) r
 unfolding whole_as is_tidy_as
 method_frame channel payload (Ok found) h = record {
   frame = Meth channel h.thing;
@@ -118,7 +152,9 @@ method_frame channel payload (Ok found) h = record {
 }
 method_frame channel payload (Err error) h = (h.0, payloads.refused_map error (λ m. Meth channel m) (all_of judge_payload payload) h.1)
 
-pub header_frame : (channel : ℕ) (payload : List ℕ) (r : Result FrameJudgement ParserError) → JudgesAll judge_content_header content_header_bytes is_tidy_content_header payload r → JudgesFrame (raw_as kinds.Header channel payload) r
+-- What is found of the payload of a content header is found of its frame.
+pub header_frame : (channel : ℕ) (payload : List ℕ) (r : Result FrameJudgement ParserError)
+    → JudgesAll judge_content_header content_header_bytes is_tidy_content_header payload r → JudgesFrame (raw_as kinds.Header channel payload) r
 unfolding whole_as is_tidy_as
 header_frame channel payload (Ok found) h = record {
   frame = Head channel h.thing;
@@ -131,6 +167,7 @@ header_frame channel payload (Err error) h = (h.0, payloads.refused_map error (�
 same_bytes : (bytes : List ℕ) → true ≡ bytes_eq bytes bytes
 same_bytes bytes = sym ((bytes_eq-Decides bytes bytes).1 refl)
 
+-- A body frame is canonical and tidy.
 pub body_frame : (channel : ℕ) (payload : List ℕ) → JudgesFrame (raw_as kinds.Body channel payload) (Ok (record { canonical = true; tidy = true }))
 unfolding whole_as is_tidy_as
 body_frame channel payload = record { frame = Body channel payload; is = refl; canonical = same_bytes payload; tidy = refl }
@@ -145,7 +182,9 @@ payload_of-beat channel = elim (cases_eq channel 0) [
   | inr some ↦ rw (ne_eqb channel 0 some) refl
 ]
 
-pub beat_frame : (channel : ℕ) (payload : List ℕ) (empty : Bool) → empty ≡ eqb (length payload) 0 → JudgesFrame (raw_as kinds.Heartbeat channel payload) (Ok (record { canonical = empty; tidy = empty }))
+-- A heartbeat is canonical and tidy exactly where it has no payload.
+pub beat_frame : (channel : ℕ) (payload : List ℕ) (empty : Bool) → empty ≡ eqb (length payload) 0
+    → JudgesFrame (raw_as kinds.Heartbeat channel payload) (Ok (record { canonical = empty; tidy = empty }))
 unfolding whole_as is_tidy_as
 beat_frame channel payload empty e = record {
   frame = beat_on channel;
@@ -154,7 +193,9 @@ beat_frame channel payload empty e = record {
   tidy = e;
 }
 
-pub proto_frame : (channel : ℕ) (payload : List ℕ) (v : ProtocolVersion) → whole_as kinds.ProtocolHeader channel payload ≡ Ok (Proto v.major v.minor v.revision) → JudgesFrame (raw_as kinds.ProtocolHeader channel payload) (Ok (record { canonical = true; tidy = true }))
+-- A protocol header whose version is decoded is canonical and tidy.
+pub proto_frame : (channel : ℕ) (payload : List ℕ) (v : ProtocolVersion) → whole_as kinds.ProtocolHeader channel payload ≡ Ok (Proto v.major v.minor v.revision)
+    → JudgesFrame (raw_as kinds.ProtocolHeader channel payload) (Ok (record { canonical = true; tidy = true }))
 unfolding whole_as is_tidy_as
 proto_frame channel [] v is = absurd cc
 proto_frame channel (a ∷ []) v is = absurd cc
@@ -163,11 +204,13 @@ proto_frame channel (a ∷ b ∷ c ∷ []) v is = record { frame = Proto a b c; 
 proto_frame channel (a ∷ b ∷ c ∷ d ∷ more) v is = absurd cc
 
 -- the same of a type that is this one
-pub judged_as : (kind other : AMQPFrameType) (channel : ℕ) (payload : List ℕ) (r : Result FrameJudgement ParserError) → kind ≡ other → JudgesFrame (raw_as other channel payload) r → JudgesFrame (raw_as kind channel payload) r
+pub judged_as : (kind other : AMQPFrameType) (channel : ℕ) (payload : List ℕ) (r : Result FrameJudgement ParserError)
+    → kind ≡ other → JudgesFrame (raw_as other channel payload) r → JudgesFrame (raw_as kind channel payload) r
 judged_as kind other channel payload r is h = let P : AMQPFrameType → Type 0 = λ k. JudgesFrame (raw_as k channel payload) r in subst P (sym is) h
 
 -- a test says exactly what is tidy, as it was decoded
-pub tidy_decided : (kind : AMQPFrameType) (channel : ℕ) (payload : List ℕ) (frame : Frame) (found : FrameJudgement) → IsBytes payload → channel < 2 ^ 16 → length payload < 2 ^ 32 → whole_as kind channel payload ≡ Ok frame → IsJudged (raw_as kind channel payload) found
+pub tidy_decided : (kind : AMQPFrameType) (channel : ℕ) (payload : List ℕ) (frame : Frame) (found : FrameJudgement) → IsBytes payload
+    → channel < 2 ^ 16 → length payload < 2 ^ 32 → whole_as kind channel payload ≡ Ok frame → IsJudged (raw_as kind channel payload) found
     → IsTrue found.tidy ↔ Spells tidy (bytes_as kind channel payload) frame
 tidy_decided kind channel payload frame found fits on few is h =
     let decides = frame_decided kind channel payload frame fits on few is in

@@ -8,6 +8,7 @@ use Rattle.amqp_wire.specs.Frames.{Raw}
 use Rattle.amqp_wire.specs.Looks.{looked, looked_behind, laid_out_behind, IsBehind}
 use Rattle.amqp_wire.proofs.OuterLook.{behind_byte}
 
+-- a frame with this payload whose type and channel are those of a layout
 abbrev pub raw_with : FrameLayout → List ℕ → Raw
 raw_with layout payload = record { kind = layout.frame_type; channel = layout.channel_id; payload = payload }
 

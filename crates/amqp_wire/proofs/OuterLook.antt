@@ -1,5 +1,6 @@
 -- The header scan, where more bytes come and where there are just enough.
-use Rattle.std.proofs.Common.{◌≡◌, ◌≢◌, ℕ, zero, suc, ◌+◌, ◌<◌, ◌≤◌, true, false, ◌&&◌, eqb, ltb, List, [], ◌∷◌, ◌++◌, length, get_or, take, drop, Option, Some, None, refl, sym, ap, subst, ◌∙◌, arith, inl, inr, max}
+use Rattle.std.proofs.Common.{◌≡◌, ◌≢◌, ℕ, zero, suc, ◌+◌, ◌<◌, ◌≤◌, true, false, ◌&&◌, eqb, ltb, List, [], ◌∷◌, ◌++◌, length, get_or, take, drop, Option, Some}
+use Rattle.std.proofs.Common.{None, refl, sym, ap, subst, ◌∙◌, arith, inl, inr, max}
 use Rattle.std.proofs.lemmas.Bool.{cases_lt, cases_Bool, le-ltb, lt-ltb, ltb-false}
 use Rattle.std.proofs.lemmas.List.{length-append, take-append-le, drop-append-le, length-drop, length-take-le, take-append-drop, get_or_append_left}
 use Rattle.std.specs.Int.{w32, from_be_bytes}
@@ -8,7 +9,8 @@ use Rattle.amqp_types.specs.Constants.{protocol_mark}
 use Rattle.amqp_wire.specs.declared.frame_type.AMQPFrameType.{AMQPFrameType}
 use Rattle.amqp_wire.specs.declared.frame_type.AMQPFrameType.TheVariants as kinds
 use Rattle.amqp_wire.specs.Frames.{Raw}
-use Rattle.amqp_wire.specs.Outer.{type_of, begins_as, is_above, payload_length, judge_version, version_raw, version_at, ended_payload, judge_raw, behind_type, outer}
+use Rattle.amqp_wire.specs.Outer.{type_of, begins_as, is_above, payload_length, judge_version, version_raw, version_at, ended_payload}
+use Rattle.amqp_wire.specs.Outer.{judge_raw, behind_type, outer}
 
 -- ---- the first byte, and what is after it
 
@@ -26,9 +28,11 @@ unfolding outer
 typed_by m (Some kind) b bytes e = rw e refl
 typed_by m None b bytes e = rw e refl
 
+-- The header scan of some bytes is that of what follows the first one, under the type that this names.
 pub outer-typed : (m : Option ℕ) (b : ℕ) (bytes : List ℕ) → outer m (b ∷ bytes) ≡ typed m (type_of b) bytes
 outer-typed m b bytes = typed_by m (type_of b) b bytes refl
 
+-- The header scan of an empty input is incomplete.
 pub outer-none : (m : Option ℕ) → outer m [] ≡ past
 unfolding outer
 outer-none m = refl
@@ -39,6 +43,7 @@ pub record IsOneMore (j : Judged Raw) (raw : Raw) (n : ℕ) : Type 0 where
   pub found : j ≡ took raw used
   pub count : n ≡ 1 + used
 
+-- What is taken with a byte in front is what was taken after it, with one byte more.
 pub behind_byte-took : (j : Judged Raw) (raw : Raw) (n : ℕ) → behind_byte j ≡ took raw n → IsOneMore j raw n
 behind_byte-took (took x k) raw n e = record { used = k; found = cc; count = cc }
 behind_byte-took past raw n e = absurd cc
@@ -76,10 +81,11 @@ begins_as-append (b ∷ bytes) more (w ∷ wanted) h = elim (eqb b w) as (λ t. 
 begins_as-false : (bytes more wanted : List ℕ) → begins_as bytes wanted ≡ false → begins_as (bytes ++ more) wanted ≡ false
 begins_as-false [] more wanted h = absurd cc
 begins_as-false (b ∷ bytes) more [] h = absurd cc
-begins_as-false (b ∷ bytes) more (w ∷ wanted) h = elim (eqb b w) as (λ t. (t && begins_as bytes wanted) ≡ false → (t && begins_as (bytes ++ more) wanted) ≡ false) [
-  | true ↦ λ e. begins_as-false bytes more wanted e
-  | false ↦ λ e. refl
-] h
+begins_as-false (b ∷ bytes) more (w ∷ wanted) h =
+    elim (eqb b w) as (λ t. (t && begins_as bytes wanted) ≡ false → (t && begins_as (bytes ++ more) wanted) ≡ false) [
+      | true ↦ λ e. begins_as-false bytes more wanted e
+      | false ↦ λ e. refl
+    ] h
 
 judge_version-append : (bytes more : List ℕ) → judge_version bytes ≢ past → judge_version (bytes ++ more) ≡ judge_version bytes
 unfolding judge_version
@@ -98,9 +104,11 @@ judge_version-append bytes more h = elim (cases_Bool (begins_as bytes protocol_m
 ]
 
 version_at-append : (bytes more : List ℕ) → version_at bytes ≢ past → version_at (bytes ++ more) ≡ version_at bytes
-version_at-append bytes more h = ap (λ j. j >>= λ v. took (version_raw v.0) v.1) (judge_version-append bytes more (λ e. h (ap (λ j. j >>= λ v. took (version_raw v.0) v.1) e)))
+version_at-append bytes more h =
+    ap (λ j. j >>= λ v. took (version_raw v.0) v.1) (judge_version-append bytes more (λ e. h (ap (λ j. j >>= λ v. took (version_raw v.0) v.1) e)))
 
-ended_payload-append : (kind : AMQPFrameType) (bytes more : List ℕ) (n : ℕ) → ended_payload kind bytes n ≢ past → ended_payload kind (bytes ++ more) n ≡ ended_payload kind bytes n
+ended_payload-append : (kind : AMQPFrameType) (bytes more : List ℕ) (n : ℕ)
+    → ended_payload kind bytes n ≢ past → ended_payload kind (bytes ++ more) n ≡ ended_payload kind bytes n
 unfolding ended_payload
 ended_payload-append kind bytes more n h = elim (cases_lt (length bytes) (n + 7)) [
   | inl few ↦ absurd (h (rw (lt-ltb (length bytes) (n + 7) few) refl))
@@ -112,7 +120,8 @@ ended_payload-append kind bytes more n h = elim (cases_lt (length bytes) (n + 7)
       rw (enough-more, payload, channel, end, le-ltb (length bytes) (n + 7) enough) refl
 ]
 
-judge_raw-append : (m : Option ℕ) (kind : AMQPFrameType) (bytes more : List ℕ) → judge_raw m kind bytes ≢ past → judge_raw m kind (bytes ++ more) ≡ judge_raw m kind bytes
+judge_raw-append : (m : Option ℕ) (kind : AMQPFrameType) (bytes more : List ℕ)
+    → judge_raw m kind bytes ≢ past → judge_raw m kind (bytes ++ more) ≡ judge_raw m kind bytes
 unfolding judge_raw
 judge_raw-append m kind bytes more h = elim (cases_lt (length bytes) 6) [
   | inl few ↦ absurd (h (rw (lt-ltb (length bytes) 6 few) refl))
@@ -127,7 +136,8 @@ judge_raw-append m kind bytes more h = elim (cases_lt (length bytes) 6) [
       ]
 ]
 
-behind_type-append : (m : Option ℕ) (kind : AMQPFrameType) (bytes more : List ℕ) → behind_type m kind bytes ≢ past → behind_type m kind (bytes ++ more) ≡ behind_type m kind bytes
+behind_type-append : (m : Option ℕ) (kind : AMQPFrameType) (bytes more : List ℕ)
+    → behind_type m kind bytes ≢ past → behind_type m kind (bytes ++ more) ≡ behind_type m kind bytes
 unfolding behind_type
 behind_type-append m kinds.ProtocolHeader bytes more h = version_at-append bytes more h
 behind_type-append m kinds.Method bytes more h = judge_raw-append m kinds.Method bytes more h
@@ -139,6 +149,7 @@ typed-append : (m : Option ℕ) (o : Option AMQPFrameType) (bytes more : List �
 typed-append m (Some kind) bytes more h = ap behind_byte (behind_type-append m kind bytes more (behind_byte-decided (behind_type m kind bytes) h))
 typed-append m None bytes more h = refl
 
+-- A header scan that is not incomplete gives the same where more bytes come.
 pub outer-append : (m : Option ℕ) (bytes more : List ℕ) → outer m bytes ≢ past → outer m (bytes ++ more) ≡ outer m bytes
 outer-append m [] more h = absurd (h (outer-none m))
 outer-append m (b ∷ bytes) more h =
@@ -169,7 +180,8 @@ unfolding judge_version
 version_at-fits m bytes = elim (cases_Bool (begins_as bytes protocol_mark)) [
   | inl holds ↦ elim (cases_lt (length bytes) 7) [
     | inl few ↦ rw (holds, lt-ltb (length bytes) 7 few) (λ k e. omega arith)
-    | inr enough ↦ rw (holds, le-ltb (length bytes) 7 enough) (record { least = omega arith; within = enough; payload = λ k e. omega arith; limit = λ k e. omega arith })
+    | inr enough ↦
+        rw (holds, le-ltb (length bytes) 7 enough) (record { least = omega arith; within = enough; payload = λ k e. omega arith; limit = λ k e. omega arith })
   ]
   | inr fails ↦ rw fails tt
 ]
@@ -179,7 +191,12 @@ unfolding ended_payload
 ended_payload-fits m kind bytes n within = elim (cases_lt (length bytes) (n + 7)) [
   | inl few ↦ rw (lt-ltb (length bytes) (n + 7) few) (λ k e. omega (arith, below_limit m n k within e))
   | inr enough ↦ elim (cases_Bool (eqb (get_or bytes (n + 6) 0) 206)) [
-    | inl holds ↦ rw (le-ltb (length bytes) (n + 7) enough, holds) (record { least = omega arith; within = enough; payload = λ k e. omega (arith, below_limit m n k within e, length-take-le n (drop 6 bytes) (omega (arith, length-drop 6 bytes))); limit = λ k e. omega (arith, below_limit m n k within e) })
+    | inl holds ↦ rw (le-ltb (length bytes) (n + 7) enough, holds) (record {
+      least = omega arith;
+      within = enough;
+      payload = λ k e. omega (arith, below_limit m n k within e, length-take-le n (drop 6 bytes) (omega (arith, length-drop 6 bytes)));
+      limit = λ k e. omega (arith, below_limit m n k within e);
+    })
     | inr fails ↦ rw (le-ltb (length bytes) (n + 7) enough, fails) tt
   ]
 ]
@@ -209,7 +226,8 @@ pub record IsInBounds (m : Option ℕ) (bytes : List ℕ) (raw : Raw) (n : ℕ) 
   pub payload : (k : ℕ) → m ≡ Some k → length raw.payload ≤ max 3 k
   pub limit : (k : ℕ) → m ≡ Some k → n ≤ k + 8
 
-typed-fits : (m : Option ℕ) (o : Option AMQPFrameType) (b : ℕ) (bytes : List ℕ) (raw : Raw) (n : ℕ) → typed m o bytes ≡ took raw n → IsInBounds m (b ∷ bytes) raw n
+typed-fits : (m : Option ℕ) (o : Option AMQPFrameType) (b : ℕ) (bytes : List ℕ) (raw : Raw) (n : ℕ)
+    → typed m o bytes ≡ took raw n → IsInBounds m (b ∷ bytes) raw n
 typed-fits m (Some kind) b bytes raw n e =
     let one = behind_byte-took (behind_type m kind bytes) raw n e in
     let fits : IsBounded m bytes raw one.used = subst (Fits_in m bytes) one.found (behind_type-fits m kind bytes) in
@@ -221,13 +239,15 @@ typed-fits m (Some kind) b bytes raw n e =
     }
 typed-fits m None b bytes raw n e = absurd cc
 
+-- A frame that the header scan takes has at least eight bytes, all of which are there, and is within the limit.
 pub outer-in_bounds : (m : Option ℕ) (bytes : List ℕ) (raw : Raw) (n : ℕ) → outer m bytes ≡ took raw n → IsInBounds m bytes raw n
 outer-in_bounds m [] raw n e = absurd (let none = outer-none m in cc)
 outer-in_bounds m (b ∷ bytes) raw n e = typed-fits m (type_of b) b bytes raw n (sym (outer-typed m b bytes) ∙ e)
 
 typed-past_few : (m : ℕ) (o : Option AMQPFrameType) (b : ℕ) (bytes : List ℕ) → typed (Some m) o bytes ≡ past → length (b ∷ bytes) < m + 8
 typed-past_few m (Some kind) b bytes e =
-    let fits : Fits_in (Some m) bytes past = subst (Fits_in (Some m) bytes) (behind_byte-past (behind_type (Some m) kind bytes) e) (behind_type-fits (Some m) kind bytes) in
+    let fits : Fits_in (Some m) bytes past =
+    subst (Fits_in (Some m) bytes) (behind_byte-past (behind_type (Some m) kind bytes) e) (behind_type-fits (Some m) kind bytes) in
     omega (arith, fits m refl)
 typed-past_few m None b bytes e = absurd cc
 
@@ -260,6 +280,7 @@ judge_raw-not_large kind bytes = elim (cases_lt (length bytes) 6) [
   | inr enough ↦ rw (le-ltb (length bytes) 6 enough) (ended_payload-not_large kind bytes (payload_length bytes))
 ]
 
+-- Without a limit no payload is too large.
 pub raw_never_large : (kind : AMQPFrameType) (bytes : List ℕ) → judge_raw None kind bytes ≡ fault too_large → ⊥
 raw_never_large kind bytes e = (subst IsNotLarge e (judge_raw-not_large kind bytes)) refl
 
@@ -290,6 +311,7 @@ typed-not_large : (o : Option AMQPFrameType) (bytes : List ℕ) → IsNotLarge (
 typed-not_large (Some kind) bytes = behind_byte-not_large (behind_type None kind bytes) (behind_type-not_large kind bytes)
 typed-not_large None bytes = λ e. absurd cc
 
+-- Without a limit the header scan finds no payload that is too large.
 pub never_large : (bytes : List ℕ) → outer None bytes ≡ fault too_large → ⊥
 never_large [] e = absurd (let none = outer-none None in cc)
 never_large (b ∷ bytes) e = (subst IsNotLarge (sym (outer-typed None b bytes) ∙ e) (typed-not_large (type_of b) bytes)) refl
@@ -337,16 +359,19 @@ judge_raw-used m kind bytes raw k e = elim (cases_lt (length bytes) 6) [
   ]
 ]
 
-judge_raw-take : (m : Option ℕ) (kind : AMQPFrameType) (bytes : List ℕ) (raw : Raw) (n : ℕ) → n ≤ length bytes → judge_raw m kind bytes ≡ took raw n → judge_raw m kind (take n bytes) ≢ past
+judge_raw-take : (m : Option ℕ) (kind : AMQPFrameType) (bytes : List ℕ) (raw : Raw) (n : ℕ)
+    → n ≤ length bytes → judge_raw m kind bytes ≡ took raw n → judge_raw m kind (take n bytes) ≢ past
 judge_raw-take m kind bytes raw n within e =
     let size = judge_raw-used m kind bytes raw n e in
     let len = length-take-le n bytes within in
     let joined : take n bytes ++ drop n bytes ≡ bytes = take-append-drop n bytes in
-    let piece : take 4 (drop 2 bytes) ≡ take 4 (drop 2 (take n bytes)) = ap (λ (xs : List ℕ). take 4 (drop 2 xs)) (sym joined) ∙ piece-append 2 4 (take n bytes) (drop n bytes) (omega arith) in
+    let piece : take 4 (drop 2 bytes) ≡ take 4 (drop 2 (take n bytes)) =
+    ap (λ (xs : List ℕ). take 4 (drop 2 xs)) (sym joined) ∙ piece-append 2 4 (take n bytes) (drop n bytes) (omega arith) in
     let same : payload_length (take n bytes) ≡ payload_length bytes = sym (ap (from_be_bytes w32) piece) in
     judge_raw-enough m kind (take n bytes) (omega arith)
 
-behind_type-take : (m : Option ℕ) (kind : AMQPFrameType) (bytes : List ℕ) (raw : Raw) (n : ℕ) → 7 ≤ n → n ≤ length bytes → behind_type m kind bytes ≡ took raw n → behind_type m kind (take n bytes) ≢ past
+behind_type-take : (m : Option ℕ) (kind : AMQPFrameType) (bytes : List ℕ) (raw : Raw) (n : ℕ) → 7 ≤ n
+    → n ≤ length bytes → behind_type m kind bytes ≡ took raw n → behind_type m kind (take n bytes) ≢ past
 unfolding behind_type
 behind_type-take m kinds.ProtocolHeader bytes raw n least within e = version_at-enough (take n bytes) (omega (arith, length-take-le n bytes within))
 behind_type-take m kinds.Method bytes raw n least within e = judge_raw-take m kinds.Method bytes raw n within e
@@ -357,7 +382,8 @@ behind_type-take m kinds.Heartbeat bytes raw n least within e = judge_raw-take m
 behind_byte-not_past : (j : Judged Raw) → j ≢ past → behind_byte j ≢ past
 behind_byte-not_past j h e = h (behind_byte-past j e)
 
-typed-take : (m : Option ℕ) (o : Option AMQPFrameType) (bytes : List ℕ) (raw : Raw) (n : ℕ) → typed m o bytes ≡ took raw (1 + n) → typed m o (take n bytes) ≢ past
+typed-take : (m : Option ℕ) (o : Option AMQPFrameType) (bytes : List ℕ) (raw : Raw) (n : ℕ)
+    → typed m o bytes ≡ took raw (1 + n) → typed m o (take n bytes) ≢ past
 typed-take m (Some kind) bytes raw n e =
     let one = behind_byte-took (behind_type m kind bytes) raw (1 + n) e in
     let same : one.used ≡ n = omega (arith, one.count) in

@@ -40,7 +40,8 @@ pub record HasIds (payload : List ℕ) (m : Method) (slot_bytes : List ℕ) : Ty
 
 pub ids_spelled : (payload : List ℕ) (m : Method) (h : SpellsPayload plain payload m) → HasIds payload m h.slot_bytes
 ids_spelled payload m h =
-    let are : payload ≡ number_bytes bytes2 m.class ++ (number_bytes bytes2 m.id ++ h.slot_bytes) = h.bytes_are ∙ ap₂ (λ xs ys. xs ++ (ys ++ h.slot_bytes)) h.class_is.bytes_are h.id_is.bytes_are in
+    let are : payload ≡ number_bytes bytes2 m.class ++ (number_bytes bytes2 m.id ++ h.slot_bytes) =
+    h.bytes_are ∙ ap₂ (λ xs ys. xs ++ (ys ++ h.slot_bytes)) h.class_is.bytes_are h.id_is.bytes_are in
     record {
       enough = omega (arith, ap length are);
       class_is = ap (short_at 0) are ∙ from_be_bytes-to_be_bytes_2 m.class h.class_is.fits;
@@ -62,6 +63,7 @@ pub record HasFront {level : Level} {payload : List ℕ} {header : ContentHeader
   pub header_is : header ≡ record { class_id = class; body_size = size; options = h.two }
   pub bytes_are : payload ≡ number_bytes bytes2 class ++ (number_bytes bytes2 weight ++ (number_bytes bytes8 size ++ h.behind))
 
+-- The class, the weight and the body size of a content header stand at the front of its payload.
 pub header_front : {level : Level} {payload : List ℕ} {header : ContentHeader} (h : SpellsContentHeader level payload header) → HasFront h
 unfolding header_slots
 header_front h =
@@ -71,8 +73,13 @@ header_front h =
     let one = class.first_is in
     let two = weight.first_is in
     let three = size.first_is in
-    let items : h.one ≡ number_item one.thing ∷ number_item three.thing ∷ [] = class.joined ∙ ap₂ (λ xs ys. xs ++ ys) one.made (weight.joined ∙ ap₂ (λ xs ys. xs ++ ys) two.none (size.joined ∙ ap₂ (λ xs ys. xs ++ ys) three.made size.second_is.1)) in
-    let front = class.bytes_are ∙ ap₂ (λ xs ys. xs ++ ys) one.spelled.bytes_are (weight.bytes_are ∙ ap₂ (λ xs ys. xs ++ ys) two.spelled.spelled.bytes_are (size.bytes_are ∙ ap₂ (λ xs ys. xs ++ ys) three.spelled.bytes_are size.second_is.0)) in
+    let items : h.one ≡ number_item one.thing ∷ number_item three.thing ∷ [] =
+    class.joined
+    ∙ ap₂ (λ xs ys. xs ++ ys) one.made (weight.joined ∙ ap₂ (λ xs ys. xs ++ ys) two.none (size.joined ∙ ap₂ (λ xs ys. xs ++ ys) three.made size.second_is.1)) in
+    let front =
+    class.bytes_are
+    ∙ ap₂ (λ xs ys. xs ++ ys) one.spelled.bytes_are (weight.bytes_are
+    ∙ ap₂ (λ xs ys. xs ++ ys) two.spelled.spelled.bytes_are (size.bytes_are ∙ ap₂ (λ xs ys. xs ++ ys) three.spelled.bytes_are size.second_is.0)) in
     record {
       class = one.thing;
       weight = two.spelled.thing;
@@ -92,7 +99,8 @@ pub record IsOutlined (kind : AMQPFrameType) (channel : ℕ) (payload : List ℕ
   pub enough : IsEnough kind payload
   pub outline_is : outline_at kind channel payload ≡ outline_of frame
 
-proto_outlined : (channel : ℕ) (payload : List ℕ) (frame : Frame) → whole_as kinds.ProtocolHeader channel payload ≡ Ok frame → IsOutlined kinds.ProtocolHeader channel payload frame
+proto_outlined : (channel : ℕ) (payload : List ℕ) (frame : Frame)
+    → whole_as kinds.ProtocolHeader channel payload ≡ Ok frame → IsOutlined kinds.ProtocolHeader channel payload frame
 unfolding whole_as
 proto_outlined channel [] frame h = absurd cc
 proto_outlined channel (a ∷ []) frame h = absurd cc
@@ -102,20 +110,25 @@ proto_outlined channel (a ∷ b ∷ c ∷ []) frame h =
     record { enough = tt; outline_is = ap outline_of is }
 proto_outlined channel (a ∷ b ∷ c ∷ d ∷ more) frame h = absurd cc
 
-method_outlined : (channel : ℕ) (payload : List ℕ) (frame : Frame) → IsBytes payload → whole_as kinds.Method channel payload ≡ Ok frame → IsOutlined kinds.Method channel payload frame
+method_outlined : (channel : ℕ) (payload : List ℕ) (frame : Frame) → IsBytes payload
+    → whole_as kinds.Method channel payload ≡ Ok frame → IsOutlined kinds.Method channel payload frame
 unfolding whole_as
 method_outlined channel payload frame fits h =
     let read = read_as (λ x. Meth channel x) (all_of judge_payload payload) frame h in
     let ids = ids_spelled payload read.0 (method_spells plain payload read.0 fits read.1 refl) in
     record { enough = ids.enough; outline_is = ap₂ (λ class id. outlines.Method channel class id) ids.class_is ids.id_is ∙ ap outline_of read.2 }
 
-header_outlined : (channel : ℕ) (payload : List ℕ) (frame : Frame) → IsBytes payload → whole_as kinds.Header channel payload ≡ Ok frame → IsOutlined kinds.Header channel payload frame
+header_outlined : (channel : ℕ) (payload : List ℕ) (frame : Frame) → IsBytes payload
+    → whole_as kinds.Header channel payload ≡ Ok frame → IsOutlined kinds.Header channel payload frame
 unfolding whole_as
 header_outlined channel payload frame fits h =
     let read = read_as (λ x. Head channel x) (all_of judge_content_header payload) frame h in
     let front = header_front (header_spells plain payload read.0 fits read.1 refl) in
-    let class : short_at 0 payload ≡ read.0.class_id = ap (short_at 0) front.bytes_are ∙ from_be_bytes-to_be_bytes_2 front.class front.class_fits ∙ sym (ap (λ (x : ContentHeader). x.class_id) front.header_is) in
-    let size : long_long_at 4 payload ≡ read.0.body_size = ap (long_long_at 4) front.bytes_are ∙ from_be_bytes-to_be_bytes_8 front.size front.size_fits ∙ sym (ap (λ (x : ContentHeader). x.body_size) front.header_is) in
+    let class : short_at 0 payload ≡ read.0.class_id =
+    ap (short_at 0) front.bytes_are ∙ from_be_bytes-to_be_bytes_2 front.class front.class_fits ∙ sym (ap (λ (x : ContentHeader). x.class_id) front.header_is) in
+    let size : long_long_at 4 payload ≡ read.0.body_size =
+    ap (long_long_at 4) front.bytes_are ∙ from_be_bytes-to_be_bytes_8 front.size front.size_fits
+    ∙ sym (ap (λ (x : ContentHeader). x.body_size) front.header_is) in
     record { enough = omega (arith, ap length front.bytes_are); outline_is = ap₂ (λ c s. outlines.Header channel c s) class size ∙ ap outline_of read.2 }
 
 beat_outline : (channel : ℕ) → outlines.Heartbeat channel ≡ outline_of (beat_on channel)
@@ -124,7 +137,9 @@ beat_outline channel = elim (cases_eq channel 0) [
   | inr some ↦ rw (ne_eqb channel 0 some) refl
 ]
 
-pub outlined : (kind : AMQPFrameType) (channel : ℕ) (payload : List ℕ) (frame : Frame) → IsBytes payload → whole_as kind channel payload ≡ Ok frame → IsOutlined kind channel payload frame
+-- The ids and sizes of a frame that is decoded can be read at the front of its payload.
+pub outlined : (kind : AMQPFrameType) (channel : ℕ) (payload : List ℕ) (frame : Frame)
+    → IsBytes payload → whole_as kind channel payload ≡ Ok frame → IsOutlined kind channel payload frame
 unfolding whole_as
 outlined kinds.ProtocolHeader channel payload frame fits h = proto_outlined channel payload frame h
 outlined kinds.Method channel payload frame fits h = method_outlined channel payload frame fits h
@@ -137,6 +152,7 @@ outlined kinds.Heartbeat channel payload frame fits h =
     record { enough = tt; outline_is = beat_outline channel ∙ ap outline_of is }
 
 -- ids and sizes stand in each payload that is a frame
-pub enough_whole : (kind : AMQPFrameType) (channel : ℕ) (payload : List ℕ) (read : Result Frame Fault) → IsBytes payload → whole_as kind channel payload ≡ read → IsOk read → IsEnough kind payload
+pub enough_whole : (kind : AMQPFrameType) (channel : ℕ) (payload : List ℕ) (read : Result Frame Fault)
+    → IsBytes payload → whole_as kind channel payload ≡ read → IsOk read → IsEnough kind payload
 enough_whole kind channel payload (Ok frame) fits is h = (outlined kind channel payload frame fits is).enough
 enough_whole kind channel payload (Err bad) fits is h = absurd (cc)

@@ -16,7 +16,8 @@ unfolding outer
 type_unknown [] bad e = absurd cc
 type_unknown (b ∷ bytes) bad e = rw e refl
 
-behind : (byte : ℕ) (bytes : List ℕ) (kind : AMQPFrameType) → judge_frame_type (byte ∷ bytes) ≡ took kind 1 → outer None (byte ∷ bytes) ≡ behind_first (behind_type None kind bytes)
+behind : (byte : ℕ) (bytes : List ℕ) (kind : AMQPFrameType) → judge_frame_type (byte ∷ bytes) ≡ took kind 1
+    → outer None (byte ∷ bytes) ≡ behind_first (behind_type None kind bytes)
 behind byte bytes kind e = outer-typed None byte bytes ∙ ap (λ o. typed None o bytes) (type_known (type_of byte) kind 1 e)
 
 raw_behind : (kind : AMQPFrameType) (bytes : List ℕ) → kind ≢ kinds.ProtocolHeader → behind_type None kind bytes ≡ judge_raw None kind bytes
@@ -27,6 +28,7 @@ raw_behind kinds.Header bytes other = refl
 raw_behind kinds.Body bytes other = refl
 raw_behind kinds.Heartbeat bytes other = refl
 
+-- The header scan without a limit is put together of its parts.
 pub outer_parts : OuterLookIsItsParts
 unfolding behind_type
 outer_parts = record {

@@ -49,16 +49,20 @@ refused_all errors.UnknownTag n j h = ap (filling n) h
 refused_all errors.TooDeep n j h = ap (filling n) h
 refused_all errors.NoMemory n j h = tt
 
-pub refused_map : {A B : Type 0} (error : ParserError) (make : A → B) (read : Result A Fault) → RefusesWhole error read → RefusesWhole error (read_map make read)
+-- An error that says why something is not read says so of what would be made of it.
+pub refused_map : {A B : Type 0} (error : ParserError) (make : A → B) (read : Result A Fault)
+    → RefusesWhole error read → RefusesWhole error (read_map make read)
 refused_map = RefusesWhole-map
 
 -- what was decoded used less than all, or all
 pub fills_less : {A : Type 0} (n used : ℕ) (j : Judged A) (x : A) → j ≡ took x used → used < n → filling n j ≡ Err trailing_bytes
 fills_less n used j x e less = ap (filling n) e ∙ rw (ne_eqb used n (λ h. absurd (omega arith))) refl
 
+-- What is taken to the end of a payload is what the whole payload is decoded to.
 pub fills_all : {A : Type 0} (n used : ℕ) (j : Judged A) (x : A) → j ≡ took x used → used ≡ n → filling n j ≡ Ok x
 fills_all n used j x e same = ap (filling n) e ∙ rw (eq-eqb used n same) refl
 
+-- What a payload is decoded to whole was taken from it, to its end.
 pub filled_took : {A : Type 0} (n : ℕ) (j : Judged A) (x : A) → filling n j ≡ Ok x → j ≡ took x n
 filled_took n past x h = absurd cc
 filled_took n (fault bad) x h = absurd cc
@@ -69,10 +73,12 @@ filled_took n (took y used) x h = elim (cases_eq used n) [
 
 -- ---- what a whole payload encodes, where decoding it is lawful
 
+-- whether two byte lists are equal
 abbrev pub same_bytes : List ℕ → List ℕ → Bool
 same_bytes = bytes_eq
 
-module _ {A : Type 0} (judge : Judge A) (Spells : Level → List ℕ → A → Type 0) (canonical : A → List ℕ) (is_tidy : List ℕ → Bool) (lawful : IsLawful judge Spells canonical) (decides : IsDecidedBy judge (Spells tidy) is_tidy) where
+module _ {A : Type 0} (judge : Judge A) (Spells : Level → List ℕ → A → Type 0) (canonical : A → List ℕ) (is_tidy : List ℕ → Bool)
+    (lawful : IsLawful judge Spells canonical) (decides : IsDecidedBy judge (Spells tidy) is_tidy) where
   -- whether a payload that is decoded to be x is encoded at the level
   abbrev pub spells_at : Level → List ℕ → A → Bool
   spells_at plain payload x = true
@@ -84,7 +90,8 @@ module _ {A : Type 0} (judge : Judge A) (Spells : Level → List ℕ → A → T
       let P : List ℕ → Type 0 = λ bytes. Spells plain bytes x in
       subst P (take_all (length payload) payload (omega arith)) (lawful.exact.spelled payload x (length payload) fits e).0
 
-  at_level : (level : Level) (payload : List ℕ) (x : A) → IsBytes payload → judge payload ≡ took x (length payload) → spells_at level payload x ≡ true → Spells level payload x
+  at_level : (level : Level) (payload : List ℕ) (x : A) → IsBytes payload
+      → judge payload ≡ took x (length payload) → spells_at level payload x ≡ true → Spells level payload x
   at_level plain payload x fits e h = whole_is_plain payload x fits e
   at_level tidy payload x fits e h =
       let P : List ℕ → Type 0 = λ bytes. Spells tidy bytes x in
@@ -93,17 +100,23 @@ module _ {A : Type 0} (judge : Judge A) (Spells : Level → List ℕ → A → T
       let P : List ℕ → Type 0 = λ bytes. Spells strict bytes x in
       subst P (sym ((bytes_eq-Decides payload (canonical x)).0 h)) (lawful.canonical_is_strict payload x (whole_is_plain payload x fits e))
 
-  pub whole_spells : (level : Level) (payload : List ℕ) (x : A) → IsBytes payload → all_of judge payload ≡ Ok x → spells_at level payload x ≡ true → Spells level payload x
+  -- A whole payload that is decoded, and passes the test of a level, encodes what is decoded at this level.
+  pub whole_spells : (level : Level) (payload : List ℕ) (x : A) → IsBytes payload
+      → all_of judge payload ≡ Ok x → spells_at level payload x ≡ true → Spells level payload x
   whole_spells level payload x fits e h = at_level level payload x fits (filled_took (length payload) (judge payload) x e) h
 
+  -- A payload that encodes a value at any level encodes it at plain.
   pub into_plain : (level : Level) (payload : List ℕ) (x : A) → Spells level payload x → Spells plain payload x
   into_plain = is_plain Spells lawful.strict_is_tidy lawful.tidy_is_plain
 
+  -- A payload that encodes a value at any level is decoded to be that value, to its end.
   pub spelled_whole : (level : Level) (payload : List ℕ) (x : A) → Spells level payload x → all_of judge payload ≡ Ok x
   spelled_whole level payload x s =
-      let judged : judge payload ≡ took x (length payload) = ap judge (sym (append-nil payload)) ∙ lawful.exact.taken payload [] x (into_plain level payload x s) in
+      let judged : judge payload ≡ took x (length payload) =
+      ap judge (sym (append-nil payload)) ∙ lawful.exact.taken payload [] x (into_plain level payload x s) in
       fills_all (length payload) (length payload) (judge payload) x judged refl
 
+  -- A payload that encodes a value at a level passes the test of that level.
   pub spelled_at : (level : Level) (payload : List ℕ) (x : A) → Spells level payload x → spells_at level payload x ≡ true
   spelled_at plain payload x s = refl
   spelled_at tidy payload x s = ap is_tidy (sym (append-nil payload)) ∙ decides.tested payload [] x s

@@ -51,7 +51,8 @@ canon_spells (BadBeat channel) held deep long = elim (cases_eq channel 0) [
 ]
 
 -- a front that is decoded is not shorter than what all the bytes are decoded to be
-judged_front : (level : Level) (first rest : List ℕ) (f : Frame) (j : Judged Frame) → verdict level None first ≡ j → verdict level None (first ++ rest) ≡ took f (length (first ++ rest)) → rest ≢ [] → j ≡ past
+judged_front : (level : Level) (first rest : List ℕ) (f : Frame) (j : Judged Frame) → verdict level None first ≡ j
+    → verdict level None (first ++ rest) ≡ took f (length (first ++ rest)) → rest ≢ [] → j ≡ past
 judged_front level first rest f past e whole some = refl
 judged_front level first rest f (fault bad) e whole some = absurd (let same = verdict-append level None first rest (λ h. absurd cc) in cc)
 judged_front level first rest f (took g n) e whole some =
@@ -60,16 +61,20 @@ judged_front level first rest f (took g n) e whole some =
     let within = (verdict-got_within level None first g n e).1 in
     absurd (some (nil_from_length rest (omega (arith, length-append first rest, count, within))))
 
+-- Canonical bytes of a frame that is neither long nor too deep are decoded to it, whatever follows; fewer are incomplete.
 pub reads_back : (level : Level) (f : Frame) → IsFrameHeld f → size_of f ≡ Ok (length (canon f)) → ReadsBack level f
 unfolding size_of
 reads_back level f held size =
     let ok = sized (is_deep f) (is_long f) (canon f) size in
     let spelled = canon_spells f held ok.0 ok.1 in
-    let whole : (rest : List ℕ) → verdict level None (canon f ++ rest) ≡ took (read_back f) (length (canon f)) = λ rest. verdict-spelled_before level None (canon f) rest (read_back f) (frame_from_strict level (canon f) (read_back f) spelled) tt in
+    let whole : (rest : List ℕ) → verdict level None (canon f ++ rest) ≡ took (read_back f) (length (canon f)) =
+    λ rest. verdict-spelled_before level None (canon f) rest (read_back f) (frame_from_strict level (canon f) (read_back f) spelled) tt in
     record {
       whole = whole;
       fewer = λ first rest parts some.
-          let all : verdict level None (first ++ rest) ≡ took (read_back f) (length (first ++ rest)) = subst (λ (xs : List ℕ). verdict level None xs ≡ took (read_back f) (length xs)) parts (subst (λ (xs : List ℕ). verdict level None xs ≡ took (read_back f) (length (canon f))) (append-nil (canon f)) (whole [])) in
+          let all : verdict level None (first ++ rest) ≡ took (read_back f) (length (first ++ rest)) =
+          subst (λ (xs : List ℕ). verdict level None xs ≡ took (read_back f) (length xs)) parts
+          (subst (λ (xs : List ℕ). verdict level None xs ≡ took (read_back f) (length (canon f))) (append-nil (canon f)) (whole [])) in
           judged_front level first rest (read_back f) (verdict level None first) refl all some;
     }
 

@@ -1,5 +1,6 @@
 -- What encodes a frame is decoded to be it.
-use Rattle.std.proofs.Common.{◌≡◌, ℕ, ◌+◌, ◌^◌, ◌<◌, true, false, List, [], ◌∷◌, ◌++◌, length, get_or, take, drop, append_assoc, Option, Some, None, Ok, refl, sym, ap, subst, ◌∙◌, arith}
+use Rattle.std.proofs.Common.{◌≡◌, ℕ, ◌+◌, ◌^◌, ◌<◌, true, false, List, [], ◌∷◌, ◌++◌, length, get_or, take, drop, append_assoc, Option, Some, None, Ok}
+use Rattle.std.proofs.Common.{refl, sym, ap, subst, ◌∙◌, arith}
 use Rattle.std.proofs.lemmas.Bool.{le-ltb, ne_eqb}
 use Rattle.std.proofs.lemmas.List.{length-append, take_at, take_all, get_or_at}
 use Rattle.std.proofs.lemmas.Slice.Eq.{bytes_eq-Decides}
@@ -33,7 +34,8 @@ above-none (Some m) n bytes e h = le-ltb m n (omega arith)
 abbrev rest_of : ℕ → List ℕ → List ℕ
 rest_of channel payload = (number_bytes bytes2 channel ++ number_bytes bytes4 (length payload)) ++ (payload ++ 206 ∷ [])
 
-judge_raw-spelled : (m : Option ℕ) (kind : AMQPFrameType) (type channel : ℕ) (payload : List ℕ) → channel < 2 ^ 16 → length payload < 2 ^ 32 → IsWithin m (framed type channel payload) → judge_raw m kind (rest_of channel payload) ≡ took (raw_as kind channel payload) (length payload + 7)
+judge_raw-spelled : (m : Option ℕ) (kind : AMQPFrameType) (type channel : ℕ) (payload : List ℕ) → channel < 2 ^ 16 → length payload < 2 ^ 32
+    → IsWithin m (framed type channel payload) → judge_raw m kind (rest_of channel payload) ≡ took (raw_as kind channel payload) (length payload + 7)
 unfolding judge_raw ended_payload
 judge_raw-spelled m kind type channel payload channel_fits length_fits within =
     let rest = rest_of channel payload in
@@ -42,12 +44,16 @@ judge_raw-spelled m kind type channel payload channel_fits length_fits within =
     let size : payload_length rest ≡ length payload = from_be_bytes-to_be_bytes_4 (length payload) length_fits in
     let low : is_above (length payload) m ≡ false = above-none m (length payload) (framed type channel payload) (framed_length type channel payload) within in
     let on : from_be_bytes w16 (take 2 rest) ≡ channel = from_be_bytes-to_be_bytes_2 channel channel_fits in
-    let end : get_or rest (length payload + 6) 0 ≡ 206 = ap (λ (xs : List ℕ). get_or xs (length payload + 6) 0) (sym (append_assoc six payload (206 ∷ []))) ∙ get_or_at (six ++ payload) 206 [] 0 (length payload + 6) (omega (arith, length-append six payload)) in
+    let end : get_or rest (length payload + 6) 0 ≡ 206 =
+    ap (λ (xs : List ℕ). get_or xs (length payload + 6) 0) (sym (append_assoc six payload (206 ∷ [])))
+    ∙ get_or_at (six ++ payload) 206 [] 0 (length payload + 6) (omega (arith, length-append six payload)) in
     let content : take (length payload) (drop 6 rest) ≡ payload = take_at payload (206 ∷ []) (length payload) refl in
     rw (le-ltb (length rest) 6 (omega arith), size, low, le-ltb (length rest) (length payload + 7) (omega arith), end, on, content) refl
 
 -- a frame of this type stands at the front of its encoding
-outer-spelled : (m : Option ℕ) (kind : AMQPFrameType) (type channel : ℕ) (bytes payload : List ℕ) → type_of type ≡ Some kind → ((rest : List ℕ) → behind_type m kind rest ≡ judge_raw m kind rest) → IsFramed bytes type channel payload → IsWithin m bytes → outer m bytes ≡ took (raw_as kind channel payload) (length bytes)
+outer-spelled : (m : Option ℕ) (kind : AMQPFrameType) (type channel : ℕ) (bytes payload : List ℕ)
+    → type_of type ≡ Some kind → ((rest : List ℕ) → behind_type m kind rest ≡ judge_raw m kind rest)
+    → IsFramed bytes type channel payload → IsWithin m bytes → outer m bytes ≡ took (raw_as kind channel payload) (length bytes)
 outer-spelled m kind type channel bytes payload is_type is_raw f within =
     let in_limit : IsWithin m (framed type channel payload) = subst (IsWithin m) f.bytes_are within in
     let count : 1 + (length payload + 7) ≡ length bytes = omega (arith, ap length f.bytes_are, framed_length type channel payload) in
@@ -73,19 +79,28 @@ beat_is_raw : (m : Option ℕ) (rest : List ℕ) → behind_type m kinds.Heartbe
 unfolding behind_type
 beat_is_raw m rest = refl
 
-pub outer-method : (m : Option ℕ) (bytes : List ℕ) (channel : ℕ) (payload : List ℕ) → IsFramed bytes 1 channel payload → IsWithin m bytes → outer m bytes ≡ took (raw_as kinds.Method channel payload) (length bytes)
+-- The header scan takes the frame of a method from the bytes that encode it within the limit.
+pub outer-method : (m : Option ℕ) (bytes : List ℕ) (channel : ℕ) (payload : List ℕ) → IsFramed bytes 1 channel payload
+    → IsWithin m bytes → outer m bytes ≡ took (raw_as kinds.Method channel payload) (length bytes)
 outer-method m bytes channel payload f within = outer-spelled m kinds.Method 1 channel bytes payload refl (method_is_raw m) f within
 
-pub outer-header : (m : Option ℕ) (bytes : List ℕ) (channel : ℕ) (payload : List ℕ) → IsFramed bytes 2 channel payload → IsWithin m bytes → outer m bytes ≡ took (raw_as kinds.Header channel payload) (length bytes)
+-- The header scan takes the frame of a content header from the bytes that encode it within the limit.
+pub outer-header : (m : Option ℕ) (bytes : List ℕ) (channel : ℕ) (payload : List ℕ) → IsFramed bytes 2 channel payload
+    → IsWithin m bytes → outer m bytes ≡ took (raw_as kinds.Header channel payload) (length bytes)
 outer-header m bytes channel payload f within = outer-spelled m kinds.Header 2 channel bytes payload refl (header_is_raw m) f within
 
-pub outer-body : (m : Option ℕ) (bytes : List ℕ) (channel : ℕ) (payload : List ℕ) → IsFramed bytes 3 channel payload → IsWithin m bytes → outer m bytes ≡ took (raw_as kinds.Body channel payload) (length bytes)
+-- The header scan takes the frame of a body from the bytes that encode it within the limit.
+pub outer-body : (m : Option ℕ) (bytes : List ℕ) (channel : ℕ) (payload : List ℕ) → IsFramed bytes 3 channel payload
+    → IsWithin m bytes → outer m bytes ≡ took (raw_as kinds.Body channel payload) (length bytes)
 outer-body m bytes channel payload f within = outer-spelled m kinds.Body 3 channel bytes payload refl (body_is_raw m) f within
 
-pub outer-beat : (m : Option ℕ) (bytes : List ℕ) (channel : ℕ) (payload : List ℕ) → IsFramed bytes 8 channel payload → IsWithin m bytes → outer m bytes ≡ took (raw_as kinds.Heartbeat channel payload) (length bytes)
+-- The header scan takes the frame of a heartbeat from the bytes that encode it within the limit.
+pub outer-beat : (m : Option ℕ) (bytes : List ℕ) (channel : ℕ) (payload : List ℕ) → IsFramed bytes 8 channel payload
+    → IsWithin m bytes → outer m bytes ≡ took (raw_as kinds.Heartbeat channel payload) (length bytes)
 outer-beat m bytes channel payload f within = outer-spelled m kinds.Heartbeat 8 channel bytes payload refl (beat_is_raw m) f within
 
-outer-proto : (m : Option ℕ) (major minor revision : ℕ) → outer m (proto major minor revision) ≡ took (raw_as kinds.ProtocolHeader 0 (major ∷ minor ∷ revision ∷ [])) 8
+outer-proto : (m : Option ℕ) (major minor revision : ℕ)
+    → outer m (proto major minor revision) ≡ took (raw_as kinds.ProtocolHeader 0 (major ∷ minor ∷ revision ∷ [])) 8
 unfolding outer behind_type judge_version
 outer-proto m major minor revision = refl
 
@@ -94,7 +109,9 @@ outer-proto m major minor revision = refl
 same_itself : (bytes : List ℕ) → bytes_eq bytes bytes ≡ true
 same_itself bytes = (bytes_eq-Decides bytes bytes).1 refl
 
-pub beat_at : (level : Level) (channel : ℕ) (payload : List ℕ) (f : Frame) → whole_as kinds.Heartbeat channel payload ≡ Ok f → payload_of f ≡ [] → IsBeatPayload level payload → is_at level (raw_as kinds.Heartbeat channel payload) ≡ true
+-- A heartbeat whose payload is encoded at a level passes the test of that level.
+pub beat_at : (level : Level) (channel : ℕ) (payload : List ℕ) (f : Frame) → whole_as kinds.Heartbeat channel payload ≡ Ok f
+    → payload_of f ≡ [] → IsBeatPayload level payload → is_at level (raw_as kinds.Heartbeat channel payload) ≡ true
 unfolding is_tidy_as
 beat_at plain channel payload f w none h = refl
 beat_at tidy channel payload f w none h = rw h refl
@@ -112,51 +129,72 @@ proto_at plain a b c = refl
 proto_at tidy a b c = refl
 proto_at strict a b c = same_itself (a ∷ b ∷ c ∷ [])
 
-method_as_whole : (level : Level) (channel : ℕ) (payload : List ℕ) (m : Method) → SpellsPayload level payload m → whole_as kinds.Method channel payload ≡ Ok (Meth channel m)
+method_as_whole : (level : Level) (channel : ℕ) (payload : List ℕ) (m : Method)
+    → SpellsPayload level payload m → whole_as kinds.Method channel payload ≡ Ok (Meth channel m)
 unfolding whole_as
 method_as_whole level channel payload m s = ap (read_map (λ x. Meth channel x)) (method_whole level payload m s)
 
-method_at : (level : Level) (channel : ℕ) (payload : List ℕ) (m : Method) → SpellsPayload level payload m → is_at level (raw_as kinds.Method channel payload) ≡ true
+method_at : (level : Level) (channel : ℕ) (payload : List ℕ) (m : Method)
+    → SpellsPayload level payload m → is_at level (raw_as kinds.Method channel payload) ≡ true
 unfolding is_tidy_as
 method_at plain channel payload m s = refl
 method_at tidy channel payload m s = method_is_at tidy payload m s
 method_at strict channel payload m s = ap (λ read. is_written_for read payload) (method_as_whole strict channel payload m s) ∙ method_is_at strict payload m s
 
-header_as_whole : (level : Level) (channel : ℕ) (payload : List ℕ) (header : ContentHeader) → SpellsContentHeader level payload header → whole_as kinds.Header channel payload ≡ Ok (Head channel header)
+header_as_whole : (level : Level) (channel : ℕ) (payload : List ℕ) (header : ContentHeader)
+    → SpellsContentHeader level payload header → whole_as kinds.Header channel payload ≡ Ok (Head channel header)
 unfolding whole_as
 header_as_whole level channel payload header s = ap (read_map (λ x. Head channel x)) (header_whole level payload header s)
 
-header_at : (level : Level) (channel : ℕ) (payload : List ℕ) (header : ContentHeader) → SpellsContentHeader level payload header → is_at level (raw_as kinds.Header channel payload) ≡ true
+header_at : (level : Level) (channel : ℕ) (payload : List ℕ) (header : ContentHeader)
+    → SpellsContentHeader level payload header → is_at level (raw_as kinds.Header channel payload) ≡ true
 unfolding is_tidy_as
 header_at plain channel payload header s = refl
 header_at tidy channel payload header s = header_is_at tidy payload header s
-header_at strict channel payload header s = ap (λ read. is_written_for read payload) (header_as_whole strict channel payload header s) ∙ header_is_at strict payload header s
+header_at strict channel payload header s =
+    ap (λ read. is_written_for read payload) (header_as_whole strict channel payload header s) ∙ header_is_at strict payload header s
 
 -- a decoding by its parts
-judged-parts : (level : Level) (raw : Raw) (n : ℕ) (f : Frame) → is_at level raw ≡ true → whole_as raw.kind raw.channel raw.payload ≡ Ok f → judged level (took raw n) ≡ took f n
-judged-parts level raw n f at_level is_whole = ap (λ t. judged_frame t (whole_as raw.kind raw.channel raw.payload) n) at_level ∙ ap (λ r. judged_frame true r n) is_whole
+judged-parts : (level : Level) (raw : Raw) (n : ℕ) (f : Frame) → is_at level raw ≡ true
+    → whole_as raw.kind raw.channel raw.payload ≡ Ok f → judged level (took raw n) ≡ took f n
+judged-parts level raw n f at_level is_whole =
+    ap (λ t. judged_frame t (whole_as raw.kind raw.channel raw.payload) n) at_level ∙ ap (λ r. judged_frame true r n) is_whole
 
 beat_on-some : (channel : ℕ) → 0 < channel → beat_on channel ≡ BadBeat channel
 beat_on-some channel some = rw (ne_eqb channel 0 (λ e. absurd (omega arith))) refl
 
-pub verdict-spelled : (level : Level) (m : Option ℕ) (bytes : List ℕ) (f : Frame) → Spells level bytes f → IsWithin m bytes → verdict level m bytes ≡ took f (length bytes)
+-- Bytes that encode a frame within the limit are decoded to it.
+pub verdict-spelled : (level : Level) (m : Option ℕ) (bytes : List ℕ) (f : Frame)
+    → Spells level bytes f → IsWithin m bytes → verdict level m bytes ≡ took f (length bytes)
 unfolding verdict whole_as
 verdict-spelled level m bytes (Proto major minor revision) s within =
     ap (verdict level m) s
     ∙ ap (judged level) (outer-proto m major minor revision)
-    ∙ judged-parts level (raw_as kinds.ProtocolHeader 0 (major ∷ minor ∷ revision ∷ [])) 8 (Proto major minor revision) (proto_at level major minor revision) refl
+    ∙ judged-parts level (raw_as kinds.ProtocolHeader 0 (major ∷ minor ∷ revision ∷ [])) 8
+    (Proto major minor revision) (proto_at level major minor revision) refl
     ∙ ap (λ (xs : List ℕ). took (Proto major minor revision) (length xs)) (sym s)
 verdict-spelled level m bytes (Meth channel x) s within =
-    ap (judged level) (outer-method m bytes channel s.payload s.is_framed within) ∙ judged-parts level (raw_as kinds.Method channel s.payload) (length bytes) (Meth channel x) (method_at level channel s.payload x s.spelled) (method_as_whole level channel s.payload x s.spelled)
+    ap (judged level) (outer-method m bytes channel s.payload s.is_framed within)
+    ∙ judged-parts level (raw_as kinds.Method channel s.payload) (length bytes) (Meth channel x)
+    (method_at level channel s.payload x s.spelled) (method_as_whole level channel s.payload x s.spelled)
 verdict-spelled level m bytes (Head channel header) s within =
-    ap (judged level) (outer-header m bytes channel s.payload s.is_framed within) ∙ judged-parts level (raw_as kinds.Header channel s.payload) (length bytes) (Head channel header) (header_at level channel s.payload header s.spelled) (header_as_whole level channel s.payload header s.spelled)
+    ap (judged level) (outer-header m bytes channel s.payload s.is_framed within)
+    ∙ judged-parts level (raw_as kinds.Header channel s.payload) (length bytes) (Head channel header)
+    (header_at level channel s.payload header s.spelled) (header_as_whole level channel s.payload header s.spelled)
 verdict-spelled level m bytes (Body channel content) s within =
-    ap (judged level) (outer-body m bytes channel content s within) ∙ judged-parts level (raw_as kinds.Body channel content) (length bytes) (Body channel content) (body_at level channel content) refl
+    ap (judged level) (outer-body m bytes channel content s within)
+    ∙ judged-parts level (raw_as kinds.Body channel content) (length bytes) (Body channel content) (body_at level channel content) refl
 verdict-spelled level m bytes Beat s within =
-    ap (judged level) (outer-beat m bytes 0 s.payload s.is_framed within) ∙ judged-parts level (raw_as kinds.Heartbeat 0 s.payload) (length bytes) Beat (beat_at level 0 s.payload Beat refl refl s.at_level) refl
+    ap (judged level) (outer-beat m bytes 0 s.payload s.is_framed within)
+    ∙ judged-parts level (raw_as kinds.Heartbeat 0 s.payload) (length bytes) Beat (beat_at level 0 s.payload Beat refl refl s.at_level) refl
 verdict-spelled level m bytes (BadBeat channel) s within =
-    ap (judged level) (outer-beat m bytes channel s.1.payload s.1.is_framed within) ∙ judged-parts level (raw_as kinds.Heartbeat channel s.1.payload) (length bytes) (BadBeat channel) (beat_at level channel s.1.payload (BadBeat channel) (ap Ok (beat_on-some channel s.0)) refl s.1.at_level) (ap Ok (beat_on-some channel s.0))
+    ap (judged level) (outer-beat m bytes channel s.1.payload s.1.is_framed within)
+    ∙ judged-parts level (raw_as kinds.Heartbeat channel s.1.payload) (length bytes) (BadBeat channel)
+    (beat_at level channel s.1.payload (BadBeat channel) (ap Ok (beat_on-some channel s.0)) refl s.1.at_level) (ap Ok (beat_on-some channel s.0))
 
 -- whatever follows
-pub verdict-spelled_before : (level : Level) (m : Option ℕ) (first rest : List ℕ) (f : Frame) → Spells level first f → IsWithin m first → verdict level m (first ++ rest) ≡ took f (length first)
-verdict-spelled_before level m first rest f s within = subst (λ (xs : List ℕ). verdict level m (xs ++ rest) ≡ took f (length first)) (take_all (length first) first (omega arith)) (verdict-exact level m first rest f (length first) (verdict-spelled level m first f s within))
+pub verdict-spelled_before : (level : Level) (m : Option ℕ) (first rest : List ℕ) (f : Frame)
+    → Spells level first f → IsWithin m first → verdict level m (first ++ rest) ≡ took f (length first)
+verdict-spelled_before level m first rest f s within =
+    subst (λ (xs : List ℕ). verdict level m (xs ++ rest) ≡ took f (length first)) (take_all (length first) first (omega arith))
+    (verdict-exact level m first rest f (length first) (verdict-spelled level m first f s within))

@@ -11,15 +11,21 @@ use Rattle.amqp_wire.specs.Verdicts.{whole_as, is_tidy_as, is_at, judged, judged
 use Rattle.amqp_wire.proofs.Encoded.{spells_as, judged_frame-is}
 use Rattle.amqp_wire.proofs.Spelled.{outer-method, outer-header, outer-body, outer-beat, verdict-spelled}
 
-outer-bytes : (kind : AMQPFrameType) (channel : ℕ) (payload : List ℕ) → kind ≢ kinds.ProtocolHeader → channel < 2 ^ 16 → length payload < 2 ^ 32 → outer None (bytes_as kind channel payload) ≡ took (raw_as kind channel payload) (length (bytes_as kind channel payload))
+outer-bytes : (kind : AMQPFrameType) (channel : ℕ) (payload : List ℕ) → kind ≢ kinds.ProtocolHeader → channel < 2 ^ 16 → length payload < 2 ^ 32
+    → outer None (bytes_as kind channel payload) ≡ took (raw_as kind channel payload) (length (bytes_as kind channel payload))
 outer-bytes kinds.ProtocolHeader channel payload other on few = absurd (other refl)
-outer-bytes kinds.Method channel payload other on few = outer-method None (framed 1 channel payload) channel payload (record { channel_fits = on; length_fits = few; bytes_are = refl }) tt
-outer-bytes kinds.Header channel payload other on few = outer-header None (framed 2 channel payload) channel payload (record { channel_fits = on; length_fits = few; bytes_are = refl }) tt
-outer-bytes kinds.Body channel payload other on few = outer-body None (framed 3 channel payload) channel payload (record { channel_fits = on; length_fits = few; bytes_are = refl }) tt
-outer-bytes kinds.Heartbeat channel payload other on few = outer-beat None (framed 8 channel payload) channel payload (record { channel_fits = on; length_fits = few; bytes_are = refl }) tt
+outer-bytes kinds.Method channel payload other on few =
+    outer-method None (framed 1 channel payload) channel payload (record { channel_fits = on; length_fits = few; bytes_are = refl }) tt
+outer-bytes kinds.Header channel payload other on few =
+    outer-header None (framed 2 channel payload) channel payload (record { channel_fits = on; length_fits = few; bytes_are = refl }) tt
+outer-bytes kinds.Body channel payload other on few =
+    outer-body None (framed 3 channel payload) channel payload (record { channel_fits = on; length_fits = few; bytes_are = refl }) tt
+outer-bytes kinds.Heartbeat channel payload other on few =
+    outer-beat None (framed 8 channel payload) channel payload (record { channel_fits = on; length_fits = few; bytes_are = refl }) tt
 
 -- a frame is encoded tidily by its bytes exactly where the test holds
-framed_decided : (kind : AMQPFrameType) (channel : ℕ) (payload : List ℕ) (frame : Frame) → kind ≢ kinds.ProtocolHeader → IsBytes payload → channel < 2 ^ 16 → length payload < 2 ^ 32
+framed_decided : (kind : AMQPFrameType) (channel : ℕ) (payload : List ℕ) (frame : Frame)
+    → kind ≢ kinds.ProtocolHeader → IsBytes payload → channel < 2 ^ 16 → length payload < 2 ^ 32
     → IsFramed (bytes_as kind channel payload) (byte_of kind) channel payload → whole_as kind channel payload ≡ Ok frame
     → (is_at tidy (raw_as kind channel payload) ≡ true) ↔ Spells tidy (bytes_as kind channel payload) frame
 unfolding verdict
@@ -28,11 +34,13 @@ framed_decided kind channel payload frame other fits on few is_framed is =
     let raw = raw_as kind channel payload in (
       λ at. spells_as tidy bytes kind channel payload frame fits is_framed is at other,
       λ s.
-          let judged_is : judged_frame (is_at tidy raw) (whole_as kind channel payload) (length bytes) ≡ took frame (length bytes) = ap (judged tidy) (sym (outer-bytes kind channel payload other on few)) ∙ verdict-spelled tidy None bytes frame s tt in
+          let judged_is : judged_frame (is_at tidy raw) (whole_as kind channel payload) (length bytes) ≡ took frame (length bytes) =
+          ap (judged tidy) (sym (outer-bytes kind channel payload other on few)) ∙ verdict-spelled tidy None bytes frame s tt in
           (judged_frame-is (is_at tidy raw) (whole_as kind channel payload) (length bytes) frame (length bytes) judged_is).0,
     )
 
-proto_decided : (channel : ℕ) (payload : List ℕ) (frame : Frame) → whole_as kinds.ProtocolHeader channel payload ≡ Ok frame → (is_at tidy (raw_as kinds.ProtocolHeader channel payload) ≡ true) ↔ Spells tidy (bytes_as kinds.ProtocolHeader channel payload) frame
+proto_decided : (channel : ℕ) (payload : List ℕ) (frame : Frame) → whole_as kinds.ProtocolHeader channel payload ≡ Ok frame
+    → (is_at tidy (raw_as kinds.ProtocolHeader channel payload) ≡ true) ↔ Spells tidy (bytes_as kinds.ProtocolHeader channel payload) frame
 unfolding whole_as is_tidy_as
 proto_decided channel [] frame is = absurd cc
 proto_decided channel (a ∷ []) frame is = absurd cc
@@ -42,10 +50,16 @@ proto_decided channel (a ∷ b ∷ c ∷ []) frame is =
     (λ _. subst (Spells tidy (proto a b c)) same refl, λ _. refl)
 proto_decided channel (a ∷ b ∷ c ∷ d ∷ more) frame is = absurd cc
 
-pub frame_decided : (kind : AMQPFrameType) (channel : ℕ) (payload : List ℕ) (frame : Frame) → IsBytes payload → channel < 2 ^ 16 → length payload < 2 ^ 32 → whole_as kind channel payload ≡ Ok frame
+-- The test of a whole frame that was decoded decides whether its encoding is tidy.
+pub frame_decided : (kind : AMQPFrameType) (channel : ℕ) (payload : List ℕ) (frame : Frame)
+    → IsBytes payload → channel < 2 ^ 16 → length payload < 2 ^ 32 → whole_as kind channel payload ≡ Ok frame
     → (is_at tidy (raw_as kind channel payload) ≡ true) ↔ Spells tidy (bytes_as kind channel payload) frame
 frame_decided kinds.ProtocolHeader channel payload frame fits on few is = proto_decided channel payload frame is
-frame_decided kinds.Method channel payload frame fits on few is = framed_decided kinds.Method channel payload frame (λ e. absurd cc) fits on few (record { channel_fits = on; length_fits = few; bytes_are = refl }) is
-frame_decided kinds.Header channel payload frame fits on few is = framed_decided kinds.Header channel payload frame (λ e. absurd cc) fits on few (record { channel_fits = on; length_fits = few; bytes_are = refl }) is
-frame_decided kinds.Body channel payload frame fits on few is = framed_decided kinds.Body channel payload frame (λ e. absurd cc) fits on few (record { channel_fits = on; length_fits = few; bytes_are = refl }) is
-frame_decided kinds.Heartbeat channel payload frame fits on few is = framed_decided kinds.Heartbeat channel payload frame (λ e. absurd cc) fits on few (record { channel_fits = on; length_fits = few; bytes_are = refl }) is
+frame_decided kinds.Method channel payload frame fits on few is =
+    framed_decided kinds.Method channel payload frame (λ e. absurd cc) fits on few (record { channel_fits = on; length_fits = few; bytes_are = refl }) is
+frame_decided kinds.Header channel payload frame fits on few is =
+    framed_decided kinds.Header channel payload frame (λ e. absurd cc) fits on few (record { channel_fits = on; length_fits = few; bytes_are = refl }) is
+frame_decided kinds.Body channel payload frame fits on few is =
+    framed_decided kinds.Body channel payload frame (λ e. absurd cc) fits on few (record { channel_fits = on; length_fits = few; bytes_are = refl }) is
+frame_decided kinds.Heartbeat channel payload frame fits on few is =
+    framed_decided kinds.Heartbeat channel payload frame (λ e. absurd cc) fits on few (record { channel_fits = on; length_fits = few; bytes_are = refl }) is

@@ -3,7 +3,8 @@ use Rattle.std.proofs.Common.{◌≡◌, ℕ, ◌+◌, ◌^◌, ◌<◌, List, [
 use Rattle.std.proofs.lemmas.Bool.{cases_eq, eq-eqb, ne_eqb}
 use Rattle.std.proofs.lemmas.List.{length-take-le}
 use Rattle.amqp_types.specs.Levels.{plain}
-use Rattle.amqp_types.specs.Judging.{Fault, Judged, past, fault, took, trailing_bytes, short_payload, unknown_frame_type, bad_protocol_header, bad_frame_end, IsBytes}
+use Rattle.amqp_types.specs.Judging.{Fault, Judged, past, fault, took, trailing_bytes, short_payload, unknown_frame_type}
+use Rattle.amqp_types.specs.Judging.{bad_protocol_header, bad_frame_end, IsBytes}
 use Rattle.amqp_types.specs.Answers.{RefusesWhole}
 use Rattle.amqp_types.specs.PayloadFaults.{IsInside}
 use Rattle.amqp_types.specs.ValueJudging.{read_map}
@@ -28,7 +29,8 @@ use Rattle.amqp_wire.proofs.Sizes.{framed_length}
 -- ---- sizes
 
 -- a frame around the payload is encoded by eight bytes more
-around : (kind : AMQPFrameType) (channel : ℕ) (payload : List ℕ) (f : Frame) → (kind ≡ kinds.ProtocolHeader → ⊥) → channel < 2 ^ 16 → IsBytes payload → length payload < 2 ^ 32 → whole_as kind channel payload ≡ Ok f → IsSizedWithin (size_of f) (canon f) (length payload + 8)
+around : (kind : AMQPFrameType) (channel : ℕ) (payload : List ℕ) (f : Frame) → (kind ≡ kinds.ProtocolHeader → ⊥) → channel < 2 ^ 16
+    → IsBytes payload → length payload < 2 ^ 32 → whole_as kind channel payload ≡ Ok f → IsSizedWithin (size_of f) (canon f) (length payload + 8)
 around kind channel payload f other on fits few e =
     let bytes = framed (byte_of kind) channel payload in
     let spelled = spells_as plain bytes kind channel payload f fits (record { channel_fits = on; length_fits = few; bytes_are = refl }) e refl other in
@@ -39,7 +41,9 @@ header_sized a b c f same =
     let sized = spelled_sized (proto a b c) (Proto a b c) refl in
     subst (λ g. IsSizedWithin (size_of g) (canon g) 11) same (record { sized = sized.sized; shorter = omega (arith, sized.shorter) })
 
-pub whole_sized : (kind : AMQPFrameType) (channel : ℕ) (payload : List ℕ) (f : Frame) → channel < 2 ^ 16 → IsBytes payload → length payload < 2 ^ 32 → whole_as kind channel payload ≡ Ok f → IsSizedWithin (size_of f) (canon f) (length payload + 8)
+-- A frame that was decoded from a whole payload has a size, which is at most that of the payload and eight bytes.
+pub whole_sized : (kind : AMQPFrameType) (channel : ℕ) (payload : List ℕ) (f : Frame) → channel < 2 ^ 16 → IsBytes payload
+    → length payload < 2 ^ 32 → whole_as kind channel payload ≡ Ok f → IsSizedWithin (size_of f) (canon f) (length payload + 8)
 unfolding whole_as
 whole_sized kinds.ProtocolHeader channel [] f on fits few e = absurd cc
 whole_sized kinds.ProtocolHeader channel (a ∷ []) f on fits few e = absurd cc
@@ -51,10 +55,12 @@ whole_sized kinds.Header channel payload f on fits few e = around kinds.Header c
 whole_sized kinds.Body channel payload f on fits few e = around kinds.Body channel payload f (λ h. absurd cc) on fits few e
 whole_sized kinds.Heartbeat channel payload f on fits few e = around kinds.Heartbeat channel payload f (λ h. absurd cc) on fits few e
 
+-- A frame that was decoded at level plain has a size, which is no more than the bytes that it used.
 pub verdict_sized : (bytes : List ℕ) (f : Frame) (n : ℕ) → IsBytes bytes → verdict plain None bytes ≡ took f n → IsSizedWithin (size_of f) (canon f) n
 verdict_sized bytes f n fits e =
     let spelled = verdict-spells plain None bytes f n fits e in
-    subst (IsSizedWithin (size_of f) (canon f)) (length-take-le n bytes (verdict-got_within plain None bytes f n e).1) (spelled_sized (take n bytes) f spelled.0)
+    subst (IsSizedWithin (size_of f) (canon f))
+    (length-take-le n bytes (verdict-got_within plain None bytes f n e).1) (spelled_sized (take n bytes) f spelled.0)
 
 -- ---- errors
 
@@ -67,6 +73,7 @@ inside_whole : (bad : Fault) → IsInside bad → IsWhole bad
 inside_whole trailing_bytes h = tt
 inside_whole bad h = h
 
+-- A payload that is not decoded whole has a fault of its inside, or trailing bytes.
 pub filling_fails : {A : Type 0} (n : ℕ) (j : Judged A) (bad : Fault) → ((one : Fault) → j ≡ fault one → IsInside one) → filling n j ≡ Err bad → IsWhole bad
 filling_fails n past bad inside h = let same : short_payload ≡ bad = cc in subst IsWhole same tt
 filling_fails n (fault one) bad inside h = let same : one ≡ bad = cc in subst IsWhole same (inside_whole one (inside one refl))
@@ -79,6 +86,7 @@ map_fails : {A B : Type 0} (make : A → B) (r : Result A Fault) (bad : Fault) �
 map_fails make (Ok x) bad h = absurd cc
 map_fails make (Err one) bad h = let same : one ≡ bad = cc in ap Err same
 
+-- A whole payload is refused for what stands inside it, or for trailing bytes.
 pub whole_fails : (kind : AMQPFrameType) (channel : ℕ) (payload : List ℕ) (bad : Fault) → whole_as kind channel payload ≡ Err bad → IsWhole bad
 unfolding whole_as
 whole_fails kinds.ProtocolHeader channel [] bad h = let same : short_payload ≡ bad = cc in subst IsWhole same tt
@@ -86,12 +94,17 @@ whole_fails kinds.ProtocolHeader channel (a ∷ []) bad h = let same : short_pay
 whole_fails kinds.ProtocolHeader channel (a ∷ b ∷ []) bad h = let same : short_payload ≡ bad = cc in subst IsWhole same tt
 whole_fails kinds.ProtocolHeader channel (a ∷ b ∷ c ∷ []) bad h = absurd cc
 whole_fails kinds.ProtocolHeader channel (a ∷ b ∷ c ∷ d ∷ more) bad h = let same : trailing_bytes ≡ bad = cc in subst IsWhole same tt
-whole_fails kinds.Method channel payload bad h = filling_fails (length payload) (judge_payload payload) bad (payloads_inside payload) (map_fails (λ m. Meth channel m) (all_of judge_payload payload) bad h)
-whole_fails kinds.Header channel payload bad h = filling_fails (length payload) (judge_content_header payload) bad (content_headers_inside payload) (map_fails (λ header. Head channel header) (all_of judge_content_header payload) bad h)
+whole_fails kinds.Method channel payload bad h =
+    filling_fails (length payload) (judge_payload payload) bad (payloads_inside payload) (map_fails (λ m. Meth channel m) (all_of judge_payload payload) bad h)
+whole_fails kinds.Header channel payload bad h =
+    filling_fails (length payload) (judge_content_header payload) bad (content_headers_inside payload)
+    (map_fails (λ header. Head channel header) (all_of judge_content_header payload) bad h)
 whole_fails kinds.Body channel payload bad h = absurd cc
 whole_fails kinds.Heartbeat channel payload bad h = absurd cc
 
-pub error_whole : {A : Type 0} (error : ParserError) (read : Result A Fault) → ((bad : Fault) → read ≡ Err bad → IsWhole bad) → RefusesWhole error read → IsPayloadError error
+-- An error that says why a whole payload is refused is one of the errors of a payload.
+pub error_whole : {A : Type 0} (error : ParserError) (read : Result A Fault)
+    → ((bad : Fault) → read ≡ Err bad → IsWhole bad) → RefusesWhole error read → IsPayloadError error
 error_whole errors.Incomplete read fails h = h
 error_whole errors.UnknownFrameType read fails h = fails unknown_frame_type h
 error_whole errors.BadProtocolHeader read fails h = fails bad_protocol_header h

@@ -1,5 +1,6 @@
 -- The canonical bytes of frames, how many they are, and which frames are not written.
-use Rattle.std.specs.Prelude.{◌≡◌, ℕ, ◌-◌, ◌+◌, ◌^◌, ◌<◌, nat_lt, Bool, false, ◌||◌, List, [], ◌∷◌, length, if◌then◌else◌, Result, Ok, Err}
+use Rattle.std.specs.Prelude.{◌≡◌, ℕ, ◌-◌, ◌+◌, ◌^◌, ◌<◌, nat_lt, Bool, false, ◌||◌, List, [], ◌∷◌}
+use Rattle.std.specs.Prelude.{length, if◌then◌else◌, Result, Ok, Err}
 use Rattle.std.specs.List.{flat_map}
 use Rattle.amqp_types.specs.Sizes.{measured}
 use Rattle.amqp_types.specs.Writing.{written}
@@ -48,7 +49,8 @@ is_long_for bytes = nat_lt (2 ^ 32 - 1) (length bytes)
 -- something in the frame has such a length, or its payload has
 abbrev pub is_long : Frame → Bool
 is_long (Meth channel m) = any_long m.items || is_long_for (payload_bytes m)
-is_long (Head channel header) = any_long_option header.options || is_long_for (content_header_bytes header)
+is_long (Head channel header) =
+    any_long_option header.options || is_long_for (content_header_bytes header)
 is_long (Body channel content) = is_long_for content
 is_long frame = false
 
@@ -61,14 +63,18 @@ abbrev pub framed_size : Result ℕ GenError → Result ℕ GenError
 framed_size (Ok n) = if nat_lt (2 ^ 32 - 1) n then Err errors.TooLong else Ok (n + 8)
 framed_size (Err error) = Err error
 
--- The frame that the canonical bytes are decoded to: a bad heartbeat on channel 0 is written as a heartbeat.
+-- The frame that the canonical bytes are decoded to: a bad heartbeat on channel 0 is written
+-- as a heartbeat.
 abbrev pub read_back : Frame → Frame
 read_back (BadBeat channel) = beat_on channel
 read_back frame = frame
 
--- What a call that puts canonical bytes at the front of a slice returns, and what it leaves in the slice.
+-- What a call that puts canonical bytes at the front of a slice returns, and what it
+-- leaves in the slice.
 abbrev pub SliceAnswers : List ℕ → List ℕ → Result ℕ GenError → List ℕ → Result ℕ GenError → Type 0
-SliceAnswers old new size bytes (Ok n) = (size ≡ Ok n) × (n ≡ length bytes) × (new ≡ written old 0 bytes)
-SliceAnswers old new size bytes (Err errors.BufferTooSmall) = (size ≡ Ok (length bytes)) × (length old < length bytes) × (new ≡ old)
+SliceAnswers old new size bytes (Ok n) =
+    (size ≡ Ok n) × (n ≡ length bytes) × (new ≡ written old 0 bytes)
+SliceAnswers old new size bytes (Err errors.BufferTooSmall) =
+    (size ≡ Ok (length bytes)) × (length old < length bytes) × (new ≡ old)
 SliceAnswers old new size bytes (Err errors.NoMemory) = ⊥
 SliceAnswers old new size bytes (Err error) = (size ≡ Err error) × (new ≡ old)

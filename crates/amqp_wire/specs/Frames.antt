@@ -6,7 +6,8 @@ use Rattle.amqp_wire.specs.declared.frame_type.AMQPFrameType.{AMQPFrameType}
 use Rattle.amqp_wire.specs.declared.frame_type.AMQPFrameType.TheVariants as kinds
 use Rattle.amqp_wire.specs.declared.raw_frame.AMQPRawFrame.{AMQPRawFrame}
 
--- A protocol header, a method, a content header, a body, a heartbeat on channel 0, and a heartbeat on a channel where none belongs.
+-- A protocol header, a method, a content header, a body, a heartbeat on channel 0, and a heartbeat
+-- on a channel where none belongs.
 pub data Frame : Type 0 where
   Proto : (major minor revision : ℕ) → Frame
   Meth : (channel : ℕ) (m : Method) → Frame

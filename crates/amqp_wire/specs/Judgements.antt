@@ -10,21 +10,27 @@ use Rattle.amqp_wire.specs.declared.judging.FrameJudgement.{FrameJudgement}
 use Rattle.amqp_wire.specs.Frames.{Frame, Raw}
 use Rattle.amqp_wire.specs.Verdicts.{IsPayloadError, all_of, is_at, whole}
 
--- the faults of a whole payload: none is of the frame around it or incomplete, and memory never runs out
+-- the faults of a whole payload: none is of the frame around it or incomplete, and
+-- memory never runs out
 abbrev pub IsPayloadFault : ParserError → Type 0
 IsPayloadFault error = IsPayloadError error × (error ≢ errors.NoMemory)
 
--- The payload encodes a thing, and it is said exactly whether it is its canonical bytes, and whether it is tidy.
-pub record IsAll {A : Type 0} (judge : Judge A) (canonical : A → List ℕ) (is_tidy : List ℕ → Bool) (payload : List ℕ) (judgement : FrameJudgement) : Type 0 where
+-- The payload encodes a thing, and it is said exactly whether it is its canonical bytes, and
+-- whether it is tidy.
+pub record IsAll {A : Type 0} (judge : Judge A) (canonical : A → List ℕ)
+    (is_tidy : List ℕ → Bool) (payload : List ℕ) (judgement : FrameJudgement) : Type 0 where
   pub thing : A
   pub is : all_of judge payload ≡ Ok thing
   pub canonical_is : judgement.canonical ≡ bytes_eq payload (canonical thing)
   pub tidy_is : judgement.tidy ≡ is_tidy payload
 
 -- a payload decoded whole, or its fault
-abbrev pub JudgesAll : {A : Type 0} → Judge A → (A → List ℕ) → (List ℕ → Bool) → List ℕ → Result FrameJudgement ParserError → Type 0
-JudgesAll judge canonical is_tidy payload (Ok judgement) = IsAll judge canonical is_tidy payload judgement
-JudgesAll judge canonical is_tidy payload (Err error) = IsPayloadFault error × RefusesWhole error (all_of judge payload)
+abbrev pub JudgesAll : {A : Type 0} → Judge A → (A → List ℕ)
+    → (List ℕ → Bool) → List ℕ → Result FrameJudgement ParserError → Type 0
+JudgesAll judge canonical is_tidy payload (Ok judgement) =
+    IsAll judge canonical is_tidy payload judgement
+JudgesAll judge canonical is_tidy payload (Err error) =
+    IsPayloadFault error × RefusesWhole error (all_of judge payload)
 
 -- The payload encodes a frame, and it is said exactly at which levels.
 pub record IsJudged (raw : Raw) (judgement : FrameJudgement) : Type 0 where

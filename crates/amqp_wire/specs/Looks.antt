@@ -1,6 +1,7 @@
 -- What a header scan returns.
 use Rattle.std.specs.Prelude.{◌≡◌, ℕ, ◌+◌, ◌-◌, ◌^◌, ◌<◌, ◌≤◌, List, length, take, drop}
-use Rattle.amqp_types.specs.Judging.{Judged, took, past, fault, unknown_frame_type, bad_protocol_header, too_large, bad_frame_end}
+use Rattle.amqp_types.specs.Judging.{Judged, took, past, fault, unknown_frame_type}
+use Rattle.amqp_types.specs.Judging.{bad_protocol_header, too_large, bad_frame_end}
 use Rattle.amqp_wire.specs.declared.frame_type.AMQPFrameType.{AMQPFrameType}
 use Rattle.amqp_wire.specs.declared.frame_type.AMQPFrameType.TheVariants as kinds
 use Rattle.amqp_wire.specs.declared.looking.Look.{Look}
@@ -19,7 +20,11 @@ looked_by frame (looks.Whole layout) = frame layout
 
 -- the frame with this layout in some bytes
 abbrev pub laid_out : FrameLayout → List ℕ → Raw
-laid_out layout bytes = record { kind = layout.frame_type; channel = layout.channel_id; payload = take layout.payload_len (drop layout.payload_start bytes) }
+laid_out layout bytes = record {
+  kind = layout.frame_type;
+  channel = layout.channel_id;
+  payload = take layout.payload_len (drop layout.payload_start bytes);
+}
 
 -- what a scan of these bytes says
 abbrev pub looked : Look → List ℕ → Judged Raw
@@ -27,7 +32,8 @@ looked look bytes = looked_by (λ layout. took (laid_out layout bytes) layout.fr
 
 -- a frame and its payload lie within the bytes
 abbrev pub IsWithinBytes : ℕ → FrameLayout → Type 0
-IsWithinBytes count layout = (layout.payload_start + layout.payload_len ≤ layout.frame_len) × (layout.frame_len ≤ count)
+IsWithinBytes count layout =
+    (layout.payload_start + layout.payload_len ≤ layout.frame_len) × (layout.frame_len ≤ count)
 
 -- a frame that was found lies within the bytes
 abbrev pub LiesInside : Look → List ℕ → Type 0
@@ -40,15 +46,21 @@ LiesInside looks.BadFrameEnd bytes = Unit {0}
 
 -- the frame with this layout, of bytes whose first one is left out
 abbrev pub laid_out_behind : FrameLayout → List ℕ → Raw
-laid_out_behind layout rest = record { kind = layout.frame_type; channel = layout.channel_id; payload = take layout.payload_len (drop (layout.payload_start - 1) rest) }
+laid_out_behind layout rest = record {
+  kind = layout.frame_type;
+  channel = layout.channel_id;
+  payload = take layout.payload_len (drop (layout.payload_start - 1) rest);
+}
 
 -- what a scan says of bytes whose first one is left out
 abbrev pub looked_behind : Look → List ℕ → Judged Raw
-looked_behind look rest = looked_by (λ layout. took (laid_out_behind layout rest) (layout.frame_len - 1)) look
+looked_behind look rest =
+    looked_by (λ layout. took (laid_out_behind layout rest) (layout.frame_len - 1)) look
 
 -- a frame that was found lies within the bytes and the first one, which is not in its payload
 abbrev pub IsBehind : Look → List ℕ → Type 0
-IsBehind (looks.Whole layout) rest = (1 ≤ layout.payload_start) × IsWithinBytes (1 + length rest) layout
+IsBehind (looks.Whole layout) rest =
+    (1 ≤ layout.payload_start) × IsWithinBytes (1 + length rest) layout
 IsBehind looks.Incomplete rest = Unit {0}
 IsBehind looks.UnknownFrameType rest = Unit {0}
 IsBehind looks.BadProtocolHeader rest = Unit {0}

@@ -1,12 +1,16 @@
--- The header scan: what stands at the front of some bytes, whatever its payload is (AMQP 0-9-1, sections 4.2.2 and 4.2.3).
-use Rattle.std.specs.Prelude.{◌≡◌, ℕ, ◌+◌, ◌==◌, ◌&&◌, Bool, true, false, List, [], ◌∷◌, length, take, drop, slice_index, nat_lt, if◌then◌else◌, Option, Some, None}
+-- The header scan: what stands at the front of some bytes, whatever its payload is (AMQP 0-9-1,
+-- sections 4.2.2 and 4.2.3).
+use Rattle.std.specs.Prelude.{◌≡◌, ℕ, ◌+◌, ◌==◌, ◌&&◌, Bool, true, false, List, [], ◌∷◌, length}
+use Rattle.std.specs.Prelude.{take, drop, slice_index, nat_lt, if◌then◌else◌, Option, Some, None}
 use Rattle.std.specs.Int.{w16, w32, from_be_bytes}
-use Rattle.amqp_types.specs.Judging.{Judged, Judge, took, past, fault, ◌>>=◌, unknown_frame_type, bad_protocol_header, too_large, bad_frame_end}
+use Rattle.amqp_types.specs.Judging.{Judged, Judge, took, past, fault, ◌>>=◌, unknown_frame_type}
+use Rattle.amqp_types.specs.Judging.{bad_protocol_header, too_large, bad_frame_end}
 use Rattle.amqp_wire.specs.declared.frame_type.AMQPFrameType.{AMQPFrameType}
 use Rattle.amqp_wire.specs.declared.frame_type.AMQPFrameType.TheVariants as kinds
 use Rattle.amqp_wire.specs.declared.version.ProtocolVersion.{ProtocolVersion}
 use Rattle.amqp_wire.specs.Frames.{Raw}
-use Rattle.amqp_types.specs.Constants.{protocol_byte, method_byte, header_byte, body_byte, heartbeat_byte, end_byte, protocol_mark}
+use Rattle.amqp_types.specs.Constants.{protocol_byte, method_byte, header_byte, body_byte}
+use Rattle.amqp_types.specs.Constants.{heartbeat_byte, end_byte, protocol_mark}
 
 -- the type that a frame's first byte names
 abbrev pub type_of : ℕ → Option AMQPFrameType
@@ -41,7 +45,8 @@ version major minor revision = record { major = major; minor = minor; revision =
 unfoldable pub judge_version : Judge ProtocolVersion
 judge_version bytes =
     if begins_as bytes protocol_mark then
-    (if nat_lt (length bytes) 7 then past else took (version (slice_index bytes 4) (slice_index bytes 5) (slice_index bytes 6)) 7)
+    (if nat_lt (length bytes) 7 then past
+    else took (version (slice_index bytes 4) (slice_index bytes 5) (slice_index bytes 6)) 7)
     else fault bad_protocol_header
 
 -- the number is above the limit, if there is one
@@ -58,18 +63,31 @@ unfoldable pub ended_payload : AMQPFrameType → List ℕ → ℕ → Judged Raw
 ended_payload kind bytes n =
     if nat_lt (length bytes) (n + 7) then past
     else (if slice_index bytes (n + 6) == end_byte
-    then took (record { kind = kind; channel = from_be_bytes w16 (take 2 bytes); payload = take n (drop 6 bytes) }) (n + 7)
+    then took
+    (record {
+      kind = kind;
+      channel = from_be_bytes w16 (take 2 bytes);
+      payload = take n (drop 6 bytes);
+    })
+    (n + 7)
     else fault bad_frame_end)
 
--- What follows a type byte: channel, length, payload and the end byte. The limit is tested as soon as the length is there.
+-- What follows a type byte: channel, length, payload and the end byte. The limit is tested as soon
+-- as the length is there.
 unfoldable pub judge_raw : Option ℕ → AMQPFrameType → Judge Raw
 judge_raw m kind bytes =
     if nat_lt (length bytes) 6 then past
-    else (if is_above (payload_length bytes) m then fault too_large else ended_payload kind bytes (payload_length bytes))
+    else (if is_above (payload_length bytes) m then fault too_large
+    else ended_payload kind bytes (payload_length bytes))
 
 -- a protocol header, seen as a frame on channel 0
 abbrev pub version_raw : ProtocolVersion → Raw
-version_raw v = record { kind = kinds.ProtocolHeader; channel = 0; payload = v.major ∷ v.minor ∷ v.revision ∷ [] }
+version_raw v =
+    record {
+      kind = kinds.ProtocolHeader;
+      channel = 0;
+      payload = v.major ∷ v.minor ∷ v.revision ∷ [];
+    }
 
 -- what follows the `A` of a protocol header, seen as a frame
 abbrev pub version_at : Judge Raw
@@ -93,7 +111,8 @@ outer m bytes = do
   took raw.0 (1 + raw.1)
 
 -- the bytes begin with a whole frame of such a type
-pub record BeginsWith (IsSuch : AMQPFrameType → Type 0) (m : Option ℕ) (bytes : List ℕ) : Type 0 where
+pub record BeginsWith (IsSuch : AMQPFrameType → Type 0)
+    (m : Option ℕ) (bytes : List ℕ) : Type 0 where
   pub raw : Raw
   pub used : ℕ
   pub found : outer m bytes ≡ took raw used

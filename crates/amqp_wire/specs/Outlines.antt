@@ -32,12 +32,15 @@ long_long_at place bytes = from_be_bytes w64 (take 8 (drop place bytes))
 -- the outline of a frame of this type, by its payload
 abbrev pub outline_at : AMQPFrameType → ℕ → List ℕ → FrameOutline
 outline_at kinds.ProtocolHeader channel payload = outlines.ProtocolHeader
-outline_at kinds.Method channel payload = outlines.Method channel (short_at 0 payload) (short_at 2 payload)
-outline_at kinds.Header channel payload = outlines.Header channel (short_at 0 payload) (long_long_at 4 payload)
+outline_at kinds.Method channel payload =
+    outlines.Method channel (short_at 0 payload) (short_at 2 payload)
+outline_at kinds.Header channel payload =
+    outlines.Header channel (short_at 0 payload) (long_long_at 4 payload)
 outline_at kinds.Body channel payload = outlines.Body channel (length payload)
 outline_at kinds.Heartbeat channel payload = outlines.Heartbeat channel
 
--- the outline that the front of a borrowed frame's payload gives: of a whole payload, that of the frame
+-- the outline that the front of a borrowed frame's payload gives: of a whole payload,
+-- that of the frame
 abbrev pub outline_front : Raw → FrameOutline
 outline_front raw = outline_at raw.kind raw.channel raw.payload
 

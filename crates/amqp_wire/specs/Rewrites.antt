@@ -7,7 +7,9 @@ use Rattle.amqp_types.specs.declared.errors.ParserError.{ParserError}
 use Rattle.amqp_wire.specs.Frames.{Frame}
 use Rattle.amqp_wire.specs.Canonical.{canon}
 
--- the canonical bytes of the frame are put at the place, or the payload's fault is returned and the slice stays
+-- the canonical bytes of the frame are put at the place, or the payload's fault is returned and
+-- the slice stays
 abbrev pub Rewrites : List ℕ → List ℕ → ℕ → Result Frame Fault → Result ℕ ParserError → Type 0
-Rewrites old new at read (Ok end) = (frame : Frame) × (read ≡ Ok frame) × Puts old new at (canon frame) end
+Rewrites old new at read (Ok end) =
+    (frame : Frame) × (read ≡ Ok frame) × Puts old new at (canon frame) end
 Rewrites old new at read (Err error) = RefusesWhole error read × (new ≡ old)

@@ -1,5 +1,7 @@
--- All the bytes that encode a frame, and a sequence of frames (AMQP 0-9-1, sections 4.2.2 to 4.2.7).
-use Rattle.std.specs.Prelude.{◌≡◌, ℕ, ◌+◌, ◌^◌, ◌<◌, ◌≤◌, List, [], ◌∷◌, ◌++◌, length, Option, Some, None}
+-- All the bytes that encode a frame, and a sequence of frames (AMQP 0-9-1, sections
+-- 4.2.2 to 4.2.7).
+use Rattle.std.specs.Prelude.{◌≡◌, ℕ, ◌+◌, ◌^◌, ◌<◌, ◌≤◌, List, [], ◌∷◌}
+use Rattle.std.specs.Prelude.{◌++◌, length, Option, Some, None}
 use Rattle.amqp_types.specs.Levels.{Level, plain, tidy, strict}
 use Rattle.amqp_types.specs.Numbers.{bytes2, bytes4, number_bytes}
 use Rattle.amqp_types.specs.MethodSpelling.{SpellsPayload}
@@ -7,7 +9,8 @@ use Rattle.amqp_types.specs.ContentHeaders.{SpellsContentHeader}
 use Rattle.amqp_wire.specs.declared.frame_type.AMQPFrameType.{AMQPFrameType}
 use Rattle.amqp_wire.specs.declared.frame_type.AMQPFrameType.TheVariants as kinds
 use Rattle.amqp_wire.specs.Frames.{Frame, Proto, Meth, Head, Body, Beat, BadBeat, Raw}
-use Rattle.amqp_types.specs.Constants.{protocol_byte, method_byte, header_byte, body_byte, heartbeat_byte, end_byte, protocol_mark}
+use Rattle.amqp_types.specs.Constants.{protocol_byte, method_byte, header_byte, body_byte}
+use Rattle.amqp_types.specs.Constants.{heartbeat_byte, end_byte, protocol_mark}
 
 -- type, channel and length, which come before n bytes of payload
 abbrev pub head : ℕ → ℕ → ℕ → List ℕ
@@ -60,7 +63,8 @@ pub record IsBeat (level : Level) (bytes : List ℕ) (channel : ℕ) : Type 0 wh
   pub at_level : IsBeatPayload level payload
 
 -- a frame of this type, whose payload encodes what it carries
-pub record Carries {A : Type 0} (Spelled : List ℕ → A → Type 0) (type : ℕ) (bytes : List ℕ) (channel : ℕ) (carried : A) : Type 0 where
+pub record Carries {A : Type 0} (Spelled : List ℕ → A → Type 0)
+    (type : ℕ) (bytes : List ℕ) (channel : ℕ) (carried : A) : Type 0 where
   pub payload : List ℕ
   pub is_framed : IsFramed bytes type channel payload
   pub spelled : Spelled payload carried
@@ -69,12 +73,14 @@ pub record Carries {A : Type 0} (Spelled : List ℕ → A → Type 0) (type : �
 abbrev pub Spells : Level → List ℕ → Frame → Type 0
 Spells level bytes (Proto major minor revision) = bytes ≡ proto major minor revision
 Spells level bytes (Meth channel m) = Carries (SpellsPayload level) method_byte bytes channel m
-Spells level bytes (Head channel header) = Carries (SpellsContentHeader level) header_byte bytes channel header
+Spells level bytes (Head channel header) =
+    Carries (SpellsContentHeader level) header_byte bytes channel header
 Spells level bytes (Body channel content) = IsFramed bytes body_byte channel content
 Spells level bytes Beat = IsBeat level bytes 0
 Spells level bytes (BadBeat channel) = (0 < channel) × IsBeat level bytes channel
 
--- a frame's payload has at most m bytes: all but 8 bytes are payload, so that a protocol header, of 8 bytes, is always within
+-- a frame's payload has at most m bytes: all but 8 bytes are payload, so that a protocol header, of
+-- 8 bytes, is always within
 abbrev pub IsWithin : Option ℕ → List ℕ → Type 0
 IsWithin None bytes = Unit {0}
 IsWithin (Some m) bytes = length bytes ≤ m + 8
@@ -82,4 +88,6 @@ IsWithin (Some m) bytes = length bytes ≤ m + 8
 -- the bytes encode these frames, one after another, each within the limit
 abbrev pub SpellsFrames : Level → Option ℕ → List ℕ → List Frame → Type 0
 SpellsFrames level m bytes [] = bytes ≡ []
-SpellsFrames level m bytes (f ∷ fs) = (first rest : List ℕ) × (bytes ≡ first ++ rest) × Spells level first f × IsWithin m first × SpellsFrames level m rest fs
+SpellsFrames level m bytes (f ∷ fs) =
+    (first rest : List ℕ) × (bytes ≡ first ++ rest) × Spells level first f
+    × IsWithin m first × SpellsFrames level m rest fs

@@ -1,8 +1,11 @@
--- Verdicts: what a whole payload encodes, and what stands at the front of some bytes, with its payload.
-use Rattle.std.specs.Prelude.{ℕ, ◌==◌, Bool, true, false, List, [], ◌∷◌, length, Option, Result, Ok, Err, if◌then◌else◌}
+-- Verdicts: what a whole payload encodes, and what stands at the front of some bytes,
+-- with its payload.
+use Rattle.std.specs.Prelude.{ℕ, ◌==◌, Bool, true, false, List, [], ◌∷◌, length, Option}
+use Rattle.std.specs.Prelude.{Result, Ok, Err, if◌then◌else◌}
 use Rattle.std.specs.Str.{bytes_eq}
 use Rattle.amqp_types.specs.Levels.{Level, plain, tidy, strict}
-use Rattle.amqp_types.specs.Judging.{Fault, Judged, Judge, took, past, fault, short_payload, trailing_bytes, not_tidy}
+use Rattle.amqp_types.specs.Judging.{Fault, Judged, Judge, took, past, fault}
+use Rattle.amqp_types.specs.Judging.{short_payload, trailing_bytes, not_tidy}
 use Rattle.amqp_types.specs.ValueJudging.{read_map}
 use Rattle.amqp_types.specs.Methods.{judge_payload}
 use Rattle.amqp_types.specs.ContentHeaders.{judge_content_header}
@@ -15,7 +18,8 @@ use Rattle.amqp_wire.specs.Frames.{Frame, Proto, Meth, Head, Body, Raw, beat_on}
 use Rattle.amqp_wire.specs.Canonical.{payload_of}
 use Rattle.amqp_wire.specs.Outer.{outer}
 
--- What a payload of n bytes encodes, all of which are there: what is incomplete is short, and bytes after what was taken trail.
+-- What a payload of n bytes encodes, all of which are there: what is incomplete is short, and bytes
+-- after what was taken trail.
 abbrev pub filling : {A : Type 0} → ℕ → Judged A → Result A Fault
 filling n past = Err short_payload
 filling n (fault bad) = Err bad
@@ -32,8 +36,10 @@ whole_as kinds.ProtocolHeader channel (a ∷ []) = Err short_payload
 whole_as kinds.ProtocolHeader channel (a ∷ b ∷ []) = Err short_payload
 whole_as kinds.ProtocolHeader channel (a ∷ b ∷ c ∷ []) = Ok (Proto a b c)
 whole_as kinds.ProtocolHeader channel (a ∷ b ∷ c ∷ d ∷ more) = Err trailing_bytes
-whole_as kinds.Method channel payload = read_map (λ m. Meth channel m) (all_of judge_payload payload)
-whole_as kinds.Header channel payload = read_map (λ header. Head channel header) (all_of judge_content_header payload)
+whole_as kinds.Method channel payload =
+    read_map (λ m. Meth channel m) (all_of judge_payload payload)
+whole_as kinds.Header channel payload =
+    read_map (λ header. Head channel header) (all_of judge_content_header payload)
 whole_as kinds.Body channel payload = Ok (Body channel payload)
 whole_as kinds.Heartbeat channel payload = Ok (beat_on channel)
 
@@ -57,7 +63,8 @@ is_tidy_as kinds.Header payload = is_tidy_content_header payload
 is_tidy_as kinds.Body payload = true
 is_tidy_as kinds.Heartbeat payload = length payload == 0
 
--- the payload is the one that is written for the frame; where it has a fault, there is none to compare
+-- the payload is the one that is written for the frame; where it has a fault, there is
+-- none to compare
 abbrev pub is_written_for : Result Frame Fault → List ℕ → Bool
 is_written_for (Ok frame) payload = bytes_eq payload (payload_of frame)
 is_written_for (Err bad) payload = true

@@ -42,7 +42,8 @@ fn judge_method(payload: &[u8]) -> Result<FrameJudgement, ParserError>
 
 /// Decodes the content header that fills a payload.
 fn judge_header(payload: &[u8]) -> Result<FrameJudgement, ParserError>
-    ensures { JudgesAll judge_content_header content_header_bytes is_tidy_content_header payload.now result }
+    ensures { JudgesAll judge_content_header content_header_bytes
+        is_tidy_content_header payload.now result }
 {
     match judge_content_header(payload) {
         Err(error) => Err(error.inside()),
@@ -61,7 +62,8 @@ fn judge_as(
     channel_id: ChannelId,
     payload: &[u8],
 ) -> Result<FrameJudgement, ParserError>
-    ensures { JudgesFrame (record { kind = frame_type; channel = channel_id; payload = payload.now }) result }
+    ensures { JudgesFrame
+        (record { kind = frame_type; channel = channel_id; payload = payload.now }) result }
 {
     match frame_type {
         AMQPFrameType::ProtocolHeader => match ProtocolVersion::from_payload(payload) {

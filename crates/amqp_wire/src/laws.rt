@@ -1,6 +1,10 @@
 //! Laws of frames and sequences, each the contract of a function that changes nothing.
 
-ghost use Rattle.amqp_wire.specs.Laws.{OneMeaning, NoFrameBeginsAnother, VerdictsAreSpellings, VerdictsAreStable, LevelsNest, OneCanonicalSpelling, EqualBytesAreEqualFrames, CanonicalBytesReadBack, CanonicalBytesAreShortest, FrontIsLongest, WrittenAgain, OuterLookIsItsParts};
+ghost use Rattle.amqp_wire.specs.Laws.{OneMeaning, NoFrameBeginsAnother, VerdictsAreSpellings};
+ghost use Rattle.amqp_wire.specs.Laws.{VerdictsAreStable, LevelsNest, OneCanonicalSpelling};
+ghost use Rattle.amqp_wire.specs.Laws.{EqualBytesAreEqualFrames, CanonicalBytesReadBack};
+ghost use Rattle.amqp_wire.specs.Laws.{CanonicalBytesAreShortest, FrontIsLongest};
+ghost use Rattle.amqp_wire.specs.Laws.{WrittenAgain, OuterLookIsItsParts};
 
 /// No bytes encode two sequences of frames.
 pub fn one_meaning()

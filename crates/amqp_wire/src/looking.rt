@@ -2,7 +2,8 @@
 
 ghost use Rattle.std.specs.Prelude.{◌≡◌};
 ghost use Rattle.amqp_wire.specs.declared.frame_type.AMQPFrameType.TheVariants as kinds;
-ghost use Rattle.amqp_wire.specs.Looks.{looked, looked_behind, LiesInside, IsBehind, IsPlaced, IsPlacedAt};
+ghost use Rattle.amqp_wire.specs.Looks.{looked, looked_behind, LiesInside};
+ghost use Rattle.amqp_wire.specs.Looks.{IsBehind, IsPlaced, IsPlacedAt};
 ghost use Rattle.amqp_wire.specs.Outer.{outer, judge_raw, version_at, begins_as};
 
 use crate::frame_type::AMQPFrameType;

@@ -3,7 +3,8 @@
 ghost use Rattle.std.specs.Prelude.{◌≡◌, ◌≤◌, ◌↔◌, Some, length, IsOk, IsSome, IsTrue};
 ghost use Rattle.amqp_types.specs.Tidiness.{short_at};
 ghost use Rattle.amqp_wire.specs.Frames.{Frame, raw_of};
-ghost use Rattle.amqp_wire.specs.Outlines.{IsEnough, long_long_at, outline_at, outline_channel, outline_front, outline_of};
+ghost use Rattle.amqp_wire.specs.Outlines.{IsEnough, long_long_at, outline_at};
+ghost use Rattle.amqp_wire.specs.Outlines.{outline_channel, outline_front, outline_of};
 ghost use Rattle.amqp_wire.specs.Verdicts.{whole, whole_as};
 
 use crate::frame_type::AMQPFrameType;
@@ -60,7 +61,8 @@ impl FrameOutline {
 /// The outline of a method, by the front of its payload.
 fn method_outline(channel_id: ChannelId, payload: &[u8]) -> FrameOutline
     requires { 4 ≤ length payload.now }
-    ensures { result ≡ FrameOutline.Method channel_id (short_at 0 payload.now) (short_at 2 payload.now) }
+    ensures { result
+        ≡ FrameOutline.Method channel_id (short_at 0 payload.now) (short_at 2 payload.now) }
 {
     FrameOutline::Method {
         channel_id,
@@ -72,7 +74,8 @@ fn method_outline(channel_id: ChannelId, payload: &[u8]) -> FrameOutline
 /// The outline of a content header, by the front of its payload. The weight is skipped.
 fn header_outline(channel_id: ChannelId, payload: &[u8]) -> FrameOutline
     requires { 12 ≤ length payload.now }
-    ensures { result ≡ FrameOutline.Header channel_id (short_at 0 payload.now) (long_long_at 4 payload.now) }
+    ensures { result
+        ≡ FrameOutline.Header channel_id (short_at 0 payload.now) (long_long_at 4 payload.now) }
 {
     FrameOutline::Header {
         channel_id,
@@ -124,8 +127,10 @@ fn outline_if_enough(
     channel_id: ChannelId,
     payload: &[u8],
 ) -> Option<FrameOutline>
-    ensures whole { (frame : Frame) → whole_as frame_type channel_id payload.now ≡ Ok frame → result ≡ Some (outline_of frame) }
-    ensures enough { IsEnough frame_type payload.now → result ≡ Some (outline_at frame_type channel_id payload.now) }
+    ensures whole { (frame : Frame) → whole_as frame_type channel_id payload.now ≡ Ok frame
+        → result ≡ Some (outline_of frame) }
+    ensures enough { IsEnough frame_type payload.now
+        → result ≡ Some (outline_at frame_type channel_id payload.now) }
     ensures none { IsSome result → IsEnough frame_type payload.now }
 {
     if is_enough(frame_type, payload) {
@@ -138,9 +143,11 @@ fn outline_if_enough(
 /// The outline that the ids and sizes at the front of a payload give, and `None` where they are not there. Of a whole
 /// payload it is the outline of the frame.
 pub fn outline_front(raw: AMQPRawFrame<'_>) -> Option<FrameOutline>
-    ensures whole { (frame : Frame) → whole (raw_of raw.entry) ≡ Ok frame → result ≡ Some (outline_of frame) }
+    ensures whole { (frame : Frame) → whole (raw_of raw.entry) ≡ Ok frame
+        → result ≡ Some (outline_of frame) }
     ensures enough { IsEnough raw.entry.frame_type raw.entry.payload.now
-        → result ≡ Some (outline_at raw.entry.frame_type raw.entry.channel_id raw.entry.payload.now) }
+        → result
+        ≡ Some (outline_at raw.entry.frame_type raw.entry.channel_id raw.entry.payload.now) }
     ensures none { IsSome result → IsEnough raw.entry.frame_type raw.entry.payload.now }
 {
     outline_if_enough(raw.frame_type, raw.channel_id, raw.payload)
@@ -149,7 +156,8 @@ pub fn outline_front(raw: AMQPRawFrame<'_>) -> Option<FrameOutline>
 /// The outline of the frame that a whole payload of this type encodes.
 fn outline_whole(frame_type: AMQPFrameType, channel_id: ChannelId, payload: &[u8]) -> FrameOutline
     requires { IsOk (whole_as frame_type channel_id payload.now) }
-    ensures frame { (frame : Frame) → whole_as frame_type channel_id payload.now ≡ Ok frame → result ≡ outline_of frame }
+    ensures frame { (frame : Frame) → whole_as frame_type channel_id payload.now ≡ Ok frame
+        → result ≡ outline_of frame }
     ensures front { result ≡ outline_at frame_type channel_id payload.now }
 {
     outline_at(frame_type, channel_id, payload)
@@ -159,7 +167,8 @@ fn outline_whole(frame_type: AMQPFrameType, channel_id: ChannelId, payload: &[u8
 /// taken.
 pub fn outline_raw(raw: AMQPRawFrame<'_>) -> FrameOutline
     requires whole { IsOk (whole (raw_of raw)) }
-    ensures frame { (frame : Frame) → whole (raw_of raw.entry) ≡ Ok frame → result ≡ outline_of frame }
+    ensures frame { (frame : Frame) → whole (raw_of raw.entry) ≡ Ok frame
+        → result ≡ outline_of frame }
     ensures front { result ≡ outline_front (raw_of raw.entry) }
 {
     outline_whole(raw.frame_type, raw.channel_id, raw.payload)

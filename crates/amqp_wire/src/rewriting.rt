@@ -1,6 +1,7 @@
 //! Putting the canonical bytes of a borrowed frame, without memory. Most frames come in them, and are copied.
 
-ghost use Rattle.std.specs.Prelude.{◌≡◌, ◌≢◌, ◌+◌, ◌^◌, ◌<◌, ◌≤◌, ℕ, List, Ok, Err, length, IfOk, IfErr};
+ghost use Rattle.std.specs.Prelude.{◌≡◌, ◌≢◌, ◌+◌, ◌^◌, ◌<◌, ◌≤◌, ℕ};
+ghost use Rattle.std.specs.Prelude.{List, Ok, Err, length, IfOk, IfErr};
 ghost use Rattle.amqp_types.specs.Methods.{judge_payload};
 ghost use Rattle.amqp_types.specs.ContentHeaders.{judge_content_header};
 ghost use Rattle.amqp_types.specs.Writing.{Puts};
@@ -31,7 +32,8 @@ fn put_method(
     requires read { IsRead (judge_payload payload.now) }
     requires few { length payload.now < 2 ^ 32 }
     requires room { at + length payload.now + 8 ≤ length buf.old }
-    ensures { Puts buf.old buf.new at (framed method_byte channel_id (canonical_method payload.now)) result }
+    ensures { Puts buf.old buf.new at
+        (framed method_byte channel_id (canonical_method payload.now)) result }
 {
     let end = put_payload(buf, at + 7, scratch, payload);
     put_around(buf, at, end, FRAME_METHOD, channel_id)
@@ -48,7 +50,8 @@ fn put_header(
     requires read { IsRead (judge_content_header payload.now) }
     requires few { length payload.now < 2 ^ 32 }
     requires room { at + length payload.now + 8 ≤ length buf.old }
-    ensures { Puts buf.old buf.new at (framed header_byte channel_id (canonical_header payload.now)) result }
+    ensures { Puts buf.old buf.new at
+        (framed header_byte channel_id (canonical_header payload.now)) result }
 {
     let end = put_content_header(buf, at + 7, scratch, payload);
     put_around(buf, at, end, FRAME_HEADER, channel_id)
@@ -66,10 +69,12 @@ pub fn put_judged(
     payload: &[u8],
     judged: FrameJudgement,
 ) -> usize
-    requires whole { JudgesFrame (record { kind = frame_type; channel = channel_id; payload = payload.now }) (Ok judged) }
+    requires whole { JudgesFrame
+        (record { kind = frame_type; channel = channel_id; payload = payload.now }) (Ok judged) }
     requires few { length payload.now < 2 ^ 32 }
     requires room { at + length_around frame_type (length payload.now) ≤ length buf.old }
-    ensures puts { Rewrites buf.old buf.new at (whole_as frame_type channel_id payload.now) (Ok result) }
+    ensures puts { Rewrites buf.old buf.new at
+        (whole_as frame_type channel_id payload.now) (Ok result) }
 
     // No more bytes are put than the frame has.
     ensures within { result ≤ at + length_around frame_type (length payload.now) }

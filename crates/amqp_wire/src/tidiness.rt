@@ -36,7 +36,8 @@ pub fn is_tidy(raw: AMQPRawFrame<'_>) -> bool
     requires whole { IsOk (whole (raw_of raw)) }
     requires few { length raw.payload.now < 2 ^ 32 }
     ensures value { result ≡ is_at tidy (raw_of raw.entry) }
-    ensures spelled { (frame : Frame) → whole (raw_of raw.entry) ≡ Ok frame → IsTrue result ↔ Spells tidy (raw_bytes (raw_of raw.entry)) frame }
+    ensures spelled { (frame : Frame) → whole (raw_of raw.entry) ≡ Ok frame
+        → IsTrue result ↔ Spells tidy (raw_bytes (raw_of raw.entry)) frame }
 {
     is_tidy_whole(raw.frame_type, raw.channel_id, raw.payload)
 }

@@ -39,7 +39,8 @@ impl ProtocolVersion {
     /// `TrailingBytes`.
     #[tactic(auto, unfolding(crate::specs::Verdicts::whole_as))]
     pub fn from_payload(payload: &[u8]) -> Result<Self, ParserError>
-        ensures whole { (channel : ℕ) → AnswersWhole (λ version. Proto version.major version.minor version.revision) result
+        ensures whole { (channel : ℕ)
+            → AnswersWhole (λ version. Proto version.major version.minor version.revision) result
             (whole_as kinds.ProtocolHeader channel payload.now) }
         ensures found { (major minor revision : ℕ) → payload.now ≡ major ∷ minor ∷ revision ∷ []
             → result ≡ Ok (record { major = major; minor = minor; revision = revision }) }

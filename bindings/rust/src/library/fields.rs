@@ -1,7 +1,7 @@
 //! The fields of a payload that the library has read: numbers, and where strings and tables lie.
 
 use crate::error::Error;
-use crate::field::{kind, MOST_FIELDS};
+use crate::field::MOST_FIELDS;
 use crate::frame::{FrameType, Summary};
 use crate::properties::Properties;
 use crate::sys::{self, Node};
@@ -17,8 +17,8 @@ const UNFIT: Error = Error::Incompatible(0);
 struct Slots {
     /// A number of at most four bytes, or where in the payload a string or table begins.
     numbers: [u32; MOST_FIELDS],
-    /// The number of eight bytes: no method has two, and of the properties one is such.
-    long_long: u64,
+    /// The upper half of the number of eight bytes: no method has two, and of the properties one is such.
+    upper: u64,
     /// Of a content header, a bit for each property that is set, the first one lowest; else the kinds of the fields, four bits each.
     found: u64,
 }
@@ -27,19 +27,19 @@ impl Slots {
     /// Takes as many nodes as a frame other than a content header has.
     #[inline]
     fn in_order(&mut self, nodes: &[Node]) {
-        let (mut number, mut kinds) = (0, 0);
+        let (mut upper, mut kinds) = (0, 0);
         for (place, (slot, node)) in self.numbers.iter_mut().zip(nodes).enumerate() {
             *slot = packed(node);
-            number |= long_long(node);
+            upper |= node.number >> 32;
             kinds |= u64::from(node.kind & 15) << (4 * place);
         }
-        (self.long_long, self.found) = (number, kinds);
+        (self.upper, self.found) = (upper, kinds);
     }
 
     /// Takes the properties that are set.
     #[inline]
     fn by_place(&mut self, nodes: &[Node]) -> Result<(), Error> {
-        let (mut number, mut set) = (0, 0);
+        let (mut upper, mut set) = (0, 0);
         for node in nodes {
             let place = usize::from(node.place);
             let (Some(slot), Some(kind)) = (self.numbers.get_mut(place), Properties::KINDS.get(place)) else { return Err(UNFIT) };
@@ -47,29 +47,19 @@ impl Slots {
                 return Err(UNFIT);
             }
             *slot = packed(node);
-            number |= long_long(node);
+            upper |= node.number >> 32;
             set |= 1 << place;
         }
-        (self.long_long, self.found) = (number, set);
+        (self.upper, self.found) = (upper, set);
         Ok(())
     }
 }
 
-/// A node is a number, and then it has no span, or a span and no number. One of eight bytes is kept elsewhere.
+/// A node is a number, and then it has no span, or a span and no number. Of a number the upper half is kept elsewhere.
 #[inline]
 #[allow(clippy::cast_possible_truncation)]
 fn packed(node: &Node) -> u32 {
     node.number as u32 | node.start
-}
-
-/// The number of a node that has eight bytes, else 0.
-#[inline]
-fn long_long(node: &Node) -> u64 {
-    if node.kind == kind::LONG_LONG {
-        node.number
-    } else {
-        0
-    }
 }
 
 /// A frame with the fields of its payload. They are none until the library has read it, so short strings are UTF-8.
@@ -212,10 +202,10 @@ impl<'a> Fields<'a> {
         self.long(place) as u16
     }
 
-    /// The one number of eight bytes, at whichever place.
+    /// The one number of eight bytes.
     #[inline]
-    pub fn long_long(&self, _: usize) -> u64 {
-        self.slots.long_long
+    pub fn long_long(&self, place: usize) -> u64 {
+        self.slots.upper << 32 | u64::from(self.long(place))
     }
 
     #[inline]
@@ -228,7 +218,7 @@ impl<'a> Fields<'a> {
     pub fn short_string(&self, place: usize) -> &'a str {
         let (payload, start) = (self.payload(), self.start(place));
         let length = payload.get(start.wrapping_sub(1)).copied().unwrap_or_default();
-        let span = payload.get(start..).and_then(|rest| rest.get(..length.into())).unwrap_or_default();
+        let span = payload.get(start..start.saturating_add(length.into())).unwrap_or_default();
         // SAFETY: it begins where a short string does in a payload that the library has read, and has as many bytes as stands before it,
         // so it is that string, which is UTF-8.
         unsafe { std::str::from_utf8_unchecked(span) }
@@ -239,7 +229,7 @@ impl<'a> Fields<'a> {
         let (payload, start) = (self.payload(), self.start(place));
         let Some(&[a, b, c, d]) = payload.get(start.wrapping_sub(4)..start) else { return &[] };
         let length = usize::try_from(u32::from_be_bytes([a, b, c, d])).unwrap_or(usize::MAX);
-        payload.get(start..).and_then(|rest| rest.get(..length)).unwrap_or_default()
+        payload.get(start..start.saturating_add(length)).unwrap_or_default()
     }
 
     /// Where a string or table begins.

@@ -6,7 +6,8 @@ ghost use Rattle.amqp_types.specs.Calls.{Parses, NeedsNoMemory, Measures, HasRoo
 ghost use Rattle.amqp_types.specs.Writing.{Puts, Appends};
 ghost use Rattle.amqp_types.specs.Methods.{judge_method, method_bytes, method_size, method};
 ghost use Rattle.amqp_values.specs.MethodFields.{ListsMethod};
-ghost use Rattle.amqp_basic.specs.Basic.{ack_method, reject_method, recover_async_method, recover_method, recover_ok_method, nack_method};
+ghost use Rattle.amqp_basic.specs.Basic.{ack_method, reject_method, recover_async_method};
+ghost use Rattle.amqp_basic.specs.Basic.{recover_method, recover_ok_method, nack_method};
 
 use amqp_values::{
     Boolean, Field, GenError, Identifier, LongLongUInt, ParserError, SlotReader, byte_of_flags,
@@ -90,7 +91,8 @@ pub fn size_ack(method: &Ack) -> Result<u64, GenError>
 
 /// Puts the method id and the fields of `Ack` at a place of a slice, and returns the place after.
 pub fn put_ack(buf: &mut [u8], at: usize, method: &Ack) -> usize
-    requires { HasRoom buf.old at (method_size (ack_method method.now)) (method_bytes (ack_method method.now)) }
+    requires { HasRoom buf.old at (method_size (ack_method method.now))
+        (method_bytes (ack_method method.now)) }
     ensures { Puts buf.old buf.new at (method_bytes (ack_method method.now)) result }
 {
     put_fields(buf, at, &ack_fields(method)[1..])
@@ -98,7 +100,8 @@ pub fn put_ack(buf: &mut [u8], at: usize, method: &Ack) -> usize
 
 /// Appends the method id and the fields of `Ack` to a vector.
 pub fn gen_ack(_alloc: Global, out: &mut Vec<u8>, method: &Ack) -> Result<(), GenError>
-    ensures { Appends out.old.items out.new.items (method_size (ack_method method.now)) (method_bytes (ack_method method.now)) result }
+    ensures { Appends out.old.items out.new.items (method_size (ack_method method.now))
+        (method_bytes (ack_method method.now)) result }
 {
     gen_fields(out, &ack_fields(method)[1..])
 }
@@ -179,7 +182,8 @@ pub fn size_reject(method: &Reject) -> Result<u64, GenError>
 
 /// Puts the method id and the fields of `Reject` at a place of a slice, and returns the place after.
 pub fn put_reject(buf: &mut [u8], at: usize, method: &Reject) -> usize
-    requires { HasRoom buf.old at (method_size (reject_method method.now)) (method_bytes (reject_method method.now)) }
+    requires { HasRoom buf.old at (method_size (reject_method method.now))
+        (method_bytes (reject_method method.now)) }
     ensures { Puts buf.old buf.new at (method_bytes (reject_method method.now)) result }
 {
     put_fields(buf, at, &reject_fields(method)[1..])
@@ -187,7 +191,8 @@ pub fn put_reject(buf: &mut [u8], at: usize, method: &Reject) -> usize
 
 /// Appends the method id and the fields of `Reject` to a vector.
 pub fn gen_reject(_alloc: Global, out: &mut Vec<u8>, method: &Reject) -> Result<(), GenError>
-    ensures { Appends out.old.items out.new.items (method_size (reject_method method.now)) (method_bytes (reject_method method.now)) result }
+    ensures { Appends out.old.items out.new.items (method_size (reject_method method.now))
+        (method_bytes (reject_method method.now)) result }
 {
     gen_fields(out, &reject_fields(method)[1..])
 }
@@ -259,7 +264,8 @@ pub fn size_recover_async(method: &RecoverAsync) -> Result<u64, GenError>
 
 /// Puts the method id and the fields of `RecoverAsync` at a place of a slice, and returns the place after.
 pub fn put_recover_async(buf: &mut [u8], at: usize, method: &RecoverAsync) -> usize
-    requires { HasRoom buf.old at (method_size (recover_async_method method.now)) (method_bytes (recover_async_method method.now)) }
+    requires { HasRoom buf.old at (method_size (recover_async_method method.now))
+        (method_bytes (recover_async_method method.now)) }
     ensures { Puts buf.old buf.new at (method_bytes (recover_async_method method.now)) result }
 {
     put_fields(buf, at, &recover_async_fields(method)[1..])
@@ -271,7 +277,8 @@ pub fn gen_recover_async(
     out: &mut Vec<u8>,
     method: &RecoverAsync,
 ) -> Result<(), GenError>
-    ensures { Appends out.old.items out.new.items (method_size (recover_async_method method.now)) (method_bytes (recover_async_method method.now)) result }
+    ensures { Appends out.old.items out.new.items (method_size (recover_async_method method.now))
+        (method_bytes (recover_async_method method.now)) result }
 {
     gen_fields(out, &recover_async_fields(method)[1..])
 }
@@ -343,7 +350,8 @@ pub fn size_recover(method: &Recover) -> Result<u64, GenError>
 
 /// Puts the method id and the fields of `Recover` at a place of a slice, and returns the place after.
 pub fn put_recover(buf: &mut [u8], at: usize, method: &Recover) -> usize
-    requires { HasRoom buf.old at (method_size (recover_method method.now)) (method_bytes (recover_method method.now)) }
+    requires { HasRoom buf.old at (method_size (recover_method method.now))
+        (method_bytes (recover_method method.now)) }
     ensures { Puts buf.old buf.new at (method_bytes (recover_method method.now)) result }
 {
     put_fields(buf, at, &recover_fields(method)[1..])
@@ -351,7 +359,8 @@ pub fn put_recover(buf: &mut [u8], at: usize, method: &Recover) -> usize
 
 /// Appends the method id and the fields of `Recover` to a vector.
 pub fn gen_recover(_alloc: Global, out: &mut Vec<u8>, method: &Recover) -> Result<(), GenError>
-    ensures { Appends out.old.items out.new.items (method_size (recover_method method.now)) (method_bytes (recover_method method.now)) result }
+    ensures { Appends out.old.items out.new.items (method_size (recover_method method.now))
+        (method_bytes (recover_method method.now)) result }
 {
     gen_fields(out, &recover_fields(method)[1..])
 }
@@ -403,7 +412,8 @@ pub fn size_recover_ok(method: &RecoverOk) -> Result<u64, GenError>
 
 /// Puts the method id and the fields of `RecoverOk` at a place of a slice, and returns the place after.
 pub fn put_recover_ok(buf: &mut [u8], at: usize, method: &RecoverOk) -> usize
-    requires { HasRoom buf.old at (method_size (recover_ok_method method.now)) (method_bytes (recover_ok_method method.now)) }
+    requires { HasRoom buf.old at (method_size (recover_ok_method method.now))
+        (method_bytes (recover_ok_method method.now)) }
     ensures { Puts buf.old buf.new at (method_bytes (recover_ok_method method.now)) result }
 {
     put_fields(buf, at, &recover_ok_fields(method)[1..])
@@ -411,7 +421,8 @@ pub fn put_recover_ok(buf: &mut [u8], at: usize, method: &RecoverOk) -> usize
 
 /// Appends the method id and the fields of `RecoverOk` to a vector.
 pub fn gen_recover_ok(_alloc: Global, out: &mut Vec<u8>, method: &RecoverOk) -> Result<(), GenError>
-    ensures { Appends out.old.items out.new.items (method_size (recover_ok_method method.now)) (method_bytes (recover_ok_method method.now)) result }
+    ensures { Appends out.old.items out.new.items (method_size (recover_ok_method method.now))
+        (method_bytes (recover_ok_method method.now)) result }
 {
     gen_fields(out, &recover_ok_fields(method)[1..])
 }
@@ -432,7 +443,8 @@ pub struct Nack {
 impl Default for Nack {
     /// The method whose numbers are 0 and whose flags are false.
     fn default() -> Nack
-        ensures { nack_method result ≡ method 60 120 (number_item 0 ∷ flag_item false ∷ flag_item false ∷ []) }
+        ensures { nack_method result
+            ≡ method 60 120 (number_item 0 ∷ flag_item false ∷ flag_item false ∷ []) }
     {
         Nack {
             delivery_tag: 0,
@@ -497,7 +509,8 @@ pub fn size_nack(method: &Nack) -> Result<u64, GenError>
 
 /// Puts the method id and the fields of `Nack` at a place of a slice, and returns the place after.
 pub fn put_nack(buf: &mut [u8], at: usize, method: &Nack) -> usize
-    requires { HasRoom buf.old at (method_size (nack_method method.now)) (method_bytes (nack_method method.now)) }
+    requires { HasRoom buf.old at (method_size (nack_method method.now))
+        (method_bytes (nack_method method.now)) }
     ensures { Puts buf.old buf.new at (method_bytes (nack_method method.now)) result }
 {
     put_fields(buf, at, &nack_fields(method)[1..])
@@ -505,7 +518,8 @@ pub fn put_nack(buf: &mut [u8], at: usize, method: &Nack) -> usize
 
 /// Appends the method id and the fields of `Nack` to a vector.
 pub fn gen_nack(_alloc: Global, out: &mut Vec<u8>, method: &Nack) -> Result<(), GenError>
-    ensures { Appends out.old.items out.new.items (method_size (nack_method method.now)) (method_bytes (nack_method method.now)) result }
+    ensures { Appends out.old.items out.new.items (method_size (nack_method method.now))
+        (method_bytes (nack_method method.now)) result }
 {
     gen_fields(out, &nack_fields(method)[1..])
 }

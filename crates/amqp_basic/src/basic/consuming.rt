@@ -6,7 +6,8 @@ ghost use Rattle.amqp_types.specs.Calls.{Parses, NeedsNoMemory, Measures, HasRoo
 ghost use Rattle.amqp_types.specs.Writing.{Puts, Appends};
 ghost use Rattle.amqp_types.specs.Methods.{method, judge_method, method_bytes, method_size};
 ghost use Rattle.amqp_values.specs.MethodFields.{ListsMethod};
-ghost use Rattle.amqp_basic.specs.Basic.{qos_method, qos_ok_method, consume_method, consume_ok_method, cancel_method, cancel_ok_method};
+ghost use Rattle.amqp_basic.specs.Basic.{qos_method, qos_ok_method, consume_method};
+ghost use Rattle.amqp_basic.specs.Basic.{consume_ok_method, cancel_method, cancel_ok_method};
 
 use amqp_values::{
     Boolean, Field, FieldTable, Flags, GenError, Identifier, NoMemory, ParserError,
@@ -94,7 +95,8 @@ pub fn size_qos(method: &Qos) -> Result<u64, GenError>
 
 /// Puts the method id and the fields of `Qos` at a place of a slice, and returns the place after.
 pub fn put_qos(buf: &mut [u8], at: usize, method: &Qos) -> usize
-    requires { HasRoom buf.old at (method_size (qos_method method.now)) (method_bytes (qos_method method.now)) }
+    requires { HasRoom buf.old at (method_size (qos_method method.now))
+        (method_bytes (qos_method method.now)) }
     ensures { Puts buf.old buf.new at (method_bytes (qos_method method.now)) result }
 {
     put_fields(buf, at, &qos_fields(method)[1..])
@@ -102,7 +104,8 @@ pub fn put_qos(buf: &mut [u8], at: usize, method: &Qos) -> usize
 
 /// Appends the method id and the fields of `Qos` to a vector.
 pub fn gen_qos(_alloc: Global, out: &mut Vec<u8>, method: &Qos) -> Result<(), GenError>
-    ensures { Appends out.old.items out.new.items (method_size (qos_method method.now)) (method_bytes (qos_method method.now)) result }
+    ensures { Appends out.old.items out.new.items (method_size (qos_method method.now))
+        (method_bytes (qos_method method.now)) result }
 {
     gen_fields(out, &qos_fields(method)[1..])
 }
@@ -154,7 +157,8 @@ pub fn size_qos_ok(method: &QosOk) -> Result<u64, GenError>
 
 /// Puts the method id and the fields of `QosOk` at a place of a slice, and returns the place after.
 pub fn put_qos_ok(buf: &mut [u8], at: usize, method: &QosOk) -> usize
-    requires { HasRoom buf.old at (method_size (qos_ok_method method.now)) (method_bytes (qos_ok_method method.now)) }
+    requires { HasRoom buf.old at (method_size (qos_ok_method method.now))
+        (method_bytes (qos_ok_method method.now)) }
     ensures { Puts buf.old buf.new at (method_bytes (qos_ok_method method.now)) result }
 {
     put_fields(buf, at, &qos_ok_fields(method)[1..])
@@ -162,7 +166,8 @@ pub fn put_qos_ok(buf: &mut [u8], at: usize, method: &QosOk) -> usize
 
 /// Appends the method id and the fields of `QosOk` to a vector.
 pub fn gen_qos_ok(_alloc: Global, out: &mut Vec<u8>, method: &QosOk) -> Result<(), GenError>
-    ensures { Appends out.old.items out.new.items (method_size (qos_ok_method method.now)) (method_bytes (qos_ok_method method.now)) result }
+    ensures { Appends out.old.items out.new.items (method_size (qos_ok_method method.now))
+        (method_bytes (qos_ok_method method.now)) result }
 {
     gen_fields(out, &qos_ok_fields(method)[1..])
 }
@@ -210,7 +215,8 @@ impl Consume {
     /// The method whose fields are empty, zero and false.
     pub fn empty(alloc: Global) -> Consume
         ensures { consume_method result ≡ method 60 20
-            (text_item [] ∷ text_item [] ∷ flag_item false ∷ flag_item false ∷ flag_item false ∷ flag_item false ∷ entries_item [] ∷ []) }
+            (text_item [] ∷ text_item [] ∷ flag_item false ∷ flag_item false
+            ∷ flag_item false ∷ flag_item false ∷ entries_item [] ∷ []) }
     {
         Consume {
             queue: ShortString::empty(alloc),
@@ -290,7 +296,8 @@ pub fn size_consume(method: &Consume) -> Result<u64, GenError>
 
 /// Puts the method id and the fields of `Consume` at a place of a slice, and returns the place after.
 pub fn put_consume(buf: &mut [u8], at: usize, method: &Consume) -> usize
-    requires { HasRoom buf.old at (method_size (consume_method method.now)) (method_bytes (consume_method method.now)) }
+    requires { HasRoom buf.old at (method_size (consume_method method.now))
+        (method_bytes (consume_method method.now)) }
     ensures { Puts buf.old buf.new at (method_bytes (consume_method method.now)) result }
 {
     put_fields(buf, at, &consume_fields(method)[1..])
@@ -298,7 +305,8 @@ pub fn put_consume(buf: &mut [u8], at: usize, method: &Consume) -> usize
 
 /// Appends the method id and the fields of `Consume` to a vector.
 pub fn gen_consume(_alloc: Global, out: &mut Vec<u8>, method: &Consume) -> Result<(), GenError>
-    ensures { Appends out.old.items out.new.items (method_size (consume_method method.now)) (method_bytes (consume_method method.now)) result }
+    ensures { Appends out.old.items out.new.items (method_size (consume_method method.now))
+        (method_bytes (consume_method method.now)) result }
 {
     gen_fields(out, &consume_fields(method)[1..])
 }
@@ -376,7 +384,8 @@ pub fn size_consume_ok(method: &ConsumeOk) -> Result<u64, GenError>
 
 /// Puts the method id and the fields of `ConsumeOk` at a place of a slice, and returns the place after.
 pub fn put_consume_ok(buf: &mut [u8], at: usize, method: &ConsumeOk) -> usize
-    requires { HasRoom buf.old at (method_size (consume_ok_method method.now)) (method_bytes (consume_ok_method method.now)) }
+    requires { HasRoom buf.old at (method_size (consume_ok_method method.now))
+        (method_bytes (consume_ok_method method.now)) }
     ensures { Puts buf.old buf.new at (method_bytes (consume_ok_method method.now)) result }
 {
     put_fields(buf, at, &consume_ok_fields(method)[1..])
@@ -384,7 +393,8 @@ pub fn put_consume_ok(buf: &mut [u8], at: usize, method: &ConsumeOk) -> usize
 
 /// Appends the method id and the fields of `ConsumeOk` to a vector.
 pub fn gen_consume_ok(_alloc: Global, out: &mut Vec<u8>, method: &ConsumeOk) -> Result<(), GenError>
-    ensures { Appends out.old.items out.new.items (method_size (consume_ok_method method.now)) (method_bytes (consume_ok_method method.now)) result }
+    ensures { Appends out.old.items out.new.items (method_size (consume_ok_method method.now))
+        (method_bytes (consume_ok_method method.now)) result }
 {
     gen_fields(out, &consume_ok_fields(method)[1..])
 }
@@ -471,7 +481,8 @@ pub fn size_cancel(method: &Cancel) -> Result<u64, GenError>
 
 /// Puts the method id and the fields of `Cancel` at a place of a slice, and returns the place after.
 pub fn put_cancel(buf: &mut [u8], at: usize, method: &Cancel) -> usize
-    requires { HasRoom buf.old at (method_size (cancel_method method.now)) (method_bytes (cancel_method method.now)) }
+    requires { HasRoom buf.old at (method_size (cancel_method method.now))
+        (method_bytes (cancel_method method.now)) }
     ensures { Puts buf.old buf.new at (method_bytes (cancel_method method.now)) result }
 {
     put_fields(buf, at, &cancel_fields(method)[1..])
@@ -479,7 +490,8 @@ pub fn put_cancel(buf: &mut [u8], at: usize, method: &Cancel) -> usize
 
 /// Appends the method id and the fields of `Cancel` to a vector.
 pub fn gen_cancel(_alloc: Global, out: &mut Vec<u8>, method: &Cancel) -> Result<(), GenError>
-    ensures { Appends out.old.items out.new.items (method_size (cancel_method method.now)) (method_bytes (cancel_method method.now)) result }
+    ensures { Appends out.old.items out.new.items (method_size (cancel_method method.now))
+        (method_bytes (cancel_method method.now)) result }
 {
     gen_fields(out, &cancel_fields(method)[1..])
 }
@@ -557,7 +569,8 @@ pub fn size_cancel_ok(method: &CancelOk) -> Result<u64, GenError>
 
 /// Puts the method id and the fields of `CancelOk` at a place of a slice, and returns the place after.
 pub fn put_cancel_ok(buf: &mut [u8], at: usize, method: &CancelOk) -> usize
-    requires { HasRoom buf.old at (method_size (cancel_ok_method method.now)) (method_bytes (cancel_ok_method method.now)) }
+    requires { HasRoom buf.old at (method_size (cancel_ok_method method.now))
+        (method_bytes (cancel_ok_method method.now)) }
     ensures { Puts buf.old buf.new at (method_bytes (cancel_ok_method method.now)) result }
 {
     put_fields(buf, at, &cancel_ok_fields(method)[1..])
@@ -565,7 +578,8 @@ pub fn put_cancel_ok(buf: &mut [u8], at: usize, method: &CancelOk) -> usize
 
 /// Appends the method id and the fields of `CancelOk` to a vector.
 pub fn gen_cancel_ok(_alloc: Global, out: &mut Vec<u8>, method: &CancelOk) -> Result<(), GenError>
-    ensures { Appends out.old.items out.new.items (method_size (cancel_ok_method method.now)) (method_bytes (cancel_ok_method method.now)) result }
+    ensures { Appends out.old.items out.new.items (method_size (cancel_ok_method method.now))
+        (method_bytes (cancel_ok_method method.now)) result }
 {
     gen_fields(out, &cancel_ok_fields(method)[1..])
 }

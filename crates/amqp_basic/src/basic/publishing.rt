@@ -6,7 +6,8 @@ ghost use Rattle.amqp_types.specs.Calls.{Parses, NeedsNoMemory, Measures, HasRoo
 ghost use Rattle.amqp_types.specs.Writing.{Puts, Appends};
 ghost use Rattle.amqp_types.specs.Methods.{method, judge_method, method_bytes, method_size};
 ghost use Rattle.amqp_values.specs.MethodFields.{ListsMethod};
-ghost use Rattle.amqp_basic.specs.Basic.{publish_method, return_method, deliver_method, get_method, get_ok_method, get_empty_method};
+ghost use Rattle.amqp_basic.specs.Basic.{publish_method, return_method, deliver_method, get_method};
+ghost use Rattle.amqp_basic.specs.Basic.{get_ok_method, get_empty_method};
 
 use amqp_values::{
     Boolean, Field, Flags, GenError, Identifier, LongLongUInt, LongUInt, NoMemory, ParserError,
@@ -48,7 +49,8 @@ impl Publish {
 
     /// The method whose fields are empty, zero and false.
     pub fn empty(alloc: Global) -> Publish
-        ensures { publish_method result ≡ method 60 40 (text_item [] ∷ text_item [] ∷ flag_item false ∷ flag_item false ∷ []) }
+        ensures { publish_method result
+            ≡ method 60 40 (text_item [] ∷ text_item [] ∷ flag_item false ∷ flag_item false ∷ []) }
     {
         Publish {
             exchange: ShortString::empty(alloc),
@@ -113,7 +115,8 @@ pub fn size_publish(method: &Publish) -> Result<u64, GenError>
 
 /// Puts the method id and the fields of `Publish` at a place of a slice, and returns the place after.
 pub fn put_publish(buf: &mut [u8], at: usize, method: &Publish) -> usize
-    requires { HasRoom buf.old at (method_size (publish_method method.now)) (method_bytes (publish_method method.now)) }
+    requires { HasRoom buf.old at (method_size (publish_method method.now))
+        (method_bytes (publish_method method.now)) }
     ensures { Puts buf.old buf.new at (method_bytes (publish_method method.now)) result }
 {
     put_fields(buf, at, &publish_fields(method)[1..])
@@ -121,7 +124,8 @@ pub fn put_publish(buf: &mut [u8], at: usize, method: &Publish) -> usize
 
 /// Appends the method id and the fields of `Publish` to a vector.
 pub fn gen_publish(_alloc: Global, out: &mut Vec<u8>, method: &Publish) -> Result<(), GenError>
-    ensures { Appends out.old.items out.new.items (method_size (publish_method method.now)) (method_bytes (publish_method method.now)) result }
+    ensures { Appends out.old.items out.new.items (method_size (publish_method method.now))
+        (method_bytes (publish_method method.now)) result }
 {
     gen_fields(out, &publish_fields(method)[1..])
 }
@@ -159,7 +163,8 @@ impl Return {
 
     /// The method whose fields are empty, zero and false.
     pub fn empty(alloc: Global) -> Return
-        ensures { return_method result ≡ method 60 50 (number_item 0 ∷ text_item [] ∷ text_item [] ∷ text_item [] ∷ []) }
+        ensures { return_method result
+            ≡ method 60 50 (number_item 0 ∷ text_item [] ∷ text_item [] ∷ text_item [] ∷ []) }
     {
         Return {
             reply_code: 0,
@@ -222,7 +227,8 @@ pub fn size_return(method: &Return) -> Result<u64, GenError>
 
 /// Puts the method id and the fields of `Return` at a place of a slice, and returns the place after.
 pub fn put_return(buf: &mut [u8], at: usize, method: &Return) -> usize
-    requires { HasRoom buf.old at (method_size (return_method method.now)) (method_bytes (return_method method.now)) }
+    requires { HasRoom buf.old at (method_size (return_method method.now))
+        (method_bytes (return_method method.now)) }
     ensures { Puts buf.old buf.new at (method_bytes (return_method method.now)) result }
 {
     put_fields(buf, at, &return_fields(method)[1..])
@@ -230,7 +236,8 @@ pub fn put_return(buf: &mut [u8], at: usize, method: &Return) -> usize
 
 /// Appends the method id and the fields of `Return` to a vector.
 pub fn gen_return(_alloc: Global, out: &mut Vec<u8>, method: &Return) -> Result<(), GenError>
-    ensures { Appends out.old.items out.new.items (method_size (return_method method.now)) (method_bytes (return_method method.now)) result }
+    ensures { Appends out.old.items out.new.items (method_size (return_method method.now))
+        (method_bytes (return_method method.now)) result }
 {
     gen_fields(out, &return_fields(method)[1..])
 }
@@ -271,7 +278,9 @@ impl Deliver {
 
     /// The method whose fields are empty, zero and false.
     pub fn empty(alloc: Global) -> Deliver
-        ensures { deliver_method result ≡ method 60 60 (text_item [] ∷ number_item 0 ∷ flag_item false ∷ text_item [] ∷ text_item [] ∷ []) }
+        ensures { deliver_method result
+            ≡ method 60 60
+            (text_item [] ∷ number_item 0 ∷ flag_item false ∷ text_item [] ∷ text_item [] ∷ []) }
     {
         Deliver {
             consumer_tag: ShortString::empty(alloc),
@@ -340,7 +349,8 @@ pub fn size_deliver(method: &Deliver) -> Result<u64, GenError>
 
 /// Puts the method id and the fields of `Deliver` at a place of a slice, and returns the place after.
 pub fn put_deliver(buf: &mut [u8], at: usize, method: &Deliver) -> usize
-    requires { HasRoom buf.old at (method_size (deliver_method method.now)) (method_bytes (deliver_method method.now)) }
+    requires { HasRoom buf.old at (method_size (deliver_method method.now))
+        (method_bytes (deliver_method method.now)) }
     ensures { Puts buf.old buf.new at (method_bytes (deliver_method method.now)) result }
 {
     put_fields(buf, at, &deliver_fields(method)[1..])
@@ -348,7 +358,8 @@ pub fn put_deliver(buf: &mut [u8], at: usize, method: &Deliver) -> usize
 
 /// Appends the method id and the fields of `Deliver` to a vector.
 pub fn gen_deliver(_alloc: Global, out: &mut Vec<u8>, method: &Deliver) -> Result<(), GenError>
-    ensures { Appends out.old.items out.new.items (method_size (deliver_method method.now)) (method_bytes (deliver_method method.now)) result }
+    ensures { Appends out.old.items out.new.items (method_size (deliver_method method.now))
+        (method_bytes (deliver_method method.now)) result }
 {
     gen_fields(out, &deliver_fields(method)[1..])
 }
@@ -436,7 +447,8 @@ pub fn size_get(method: &Get) -> Result<u64, GenError>
 
 /// Puts the method id and the fields of `Get` at a place of a slice, and returns the place after.
 pub fn put_get(buf: &mut [u8], at: usize, method: &Get) -> usize
-    requires { HasRoom buf.old at (method_size (get_method method.now)) (method_bytes (get_method method.now)) }
+    requires { HasRoom buf.old at (method_size (get_method method.now))
+        (method_bytes (get_method method.now)) }
     ensures { Puts buf.old buf.new at (method_bytes (get_method method.now)) result }
 {
     put_fields(buf, at, &get_fields(method)[1..])
@@ -444,7 +456,8 @@ pub fn put_get(buf: &mut [u8], at: usize, method: &Get) -> usize
 
 /// Appends the method id and the fields of `Get` to a vector.
 pub fn gen_get(_alloc: Global, out: &mut Vec<u8>, method: &Get) -> Result<(), GenError>
-    ensures { Appends out.old.items out.new.items (method_size (get_method method.now)) (method_bytes (get_method method.now)) result }
+    ensures { Appends out.old.items out.new.items (method_size (get_method method.now))
+        (method_bytes (get_method method.now)) result }
 {
     gen_fields(out, &get_fields(method)[1..])
 }
@@ -485,7 +498,9 @@ impl GetOk {
 
     /// The method whose fields are empty, zero and false.
     pub fn empty(alloc: Global) -> GetOk
-        ensures { get_ok_method result ≡ method 60 71 (number_item 0 ∷ flag_item false ∷ text_item [] ∷ text_item [] ∷ number_item 0 ∷ []) }
+        ensures { get_ok_method result
+            ≡ method 60 71
+            (number_item 0 ∷ flag_item false ∷ text_item [] ∷ text_item [] ∷ number_item 0 ∷ []) }
     {
         GetOk {
             delivery_tag: 0,
@@ -554,7 +569,8 @@ pub fn size_get_ok(method: &GetOk) -> Result<u64, GenError>
 
 /// Puts the method id and the fields of `GetOk` at a place of a slice, and returns the place after.
 pub fn put_get_ok(buf: &mut [u8], at: usize, method: &GetOk) -> usize
-    requires { HasRoom buf.old at (method_size (get_ok_method method.now)) (method_bytes (get_ok_method method.now)) }
+    requires { HasRoom buf.old at (method_size (get_ok_method method.now))
+        (method_bytes (get_ok_method method.now)) }
     ensures { Puts buf.old buf.new at (method_bytes (get_ok_method method.now)) result }
 {
     put_fields(buf, at, &get_ok_fields(method)[1..])
@@ -562,7 +578,8 @@ pub fn put_get_ok(buf: &mut [u8], at: usize, method: &GetOk) -> usize
 
 /// Appends the method id and the fields of `GetOk` to a vector.
 pub fn gen_get_ok(_alloc: Global, out: &mut Vec<u8>, method: &GetOk) -> Result<(), GenError>
-    ensures { Appends out.old.items out.new.items (method_size (get_ok_method method.now)) (method_bytes (get_ok_method method.now)) result }
+    ensures { Appends out.old.items out.new.items (method_size (get_ok_method method.now))
+        (method_bytes (get_ok_method method.now)) result }
 {
     gen_fields(out, &get_ok_fields(method)[1..])
 }
@@ -619,7 +636,8 @@ pub fn size_get_empty(method: &GetEmpty) -> Result<u64, GenError>
 
 /// Puts the method id and the fields of `GetEmpty` at a place of a slice, and returns the place after.
 pub fn put_get_empty(buf: &mut [u8], at: usize, method: &GetEmpty) -> usize
-    requires { HasRoom buf.old at (method_size (get_empty_method method.now)) (method_bytes (get_empty_method method.now)) }
+    requires { HasRoom buf.old at (method_size (get_empty_method method.now))
+        (method_bytes (get_empty_method method.now)) }
     ensures { Puts buf.old buf.new at (method_bytes (get_empty_method method.now)) result }
 {
     put_fields(buf, at, &get_empty_fields(method)[1..])
@@ -627,7 +645,8 @@ pub fn put_get_empty(buf: &mut [u8], at: usize, method: &GetEmpty) -> usize
 
 /// Appends the method id and the fields of `GetEmpty` to a vector.
 pub fn gen_get_empty(_alloc: Global, out: &mut Vec<u8>, method: &GetEmpty) -> Result<(), GenError>
-    ensures { Appends out.old.items out.new.items (method_size (get_empty_method method.now)) (method_bytes (get_empty_method method.now)) result }
+    ensures { Appends out.old.items out.new.items (method_size (get_empty_method method.now))
+        (method_bytes (get_empty_method method.now)) result }
 {
     gen_fields(out, &get_empty_fields(method)[1..])
 }

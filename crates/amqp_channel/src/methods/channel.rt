@@ -5,10 +5,13 @@ ghost use Rattle.std.specs.Prelude.{◌≡◌, ◌∷◌, [], IfOk, false};
 ghost use Rattle.amqp_types.specs.Slots.{number_item, text_item, flag_item};
 ghost use Rattle.amqp_types.specs.Calls.{Parses, NeedsNoMemory, Measures, HasRoom};
 ghost use Rattle.amqp_types.specs.Writing.{Puts, Appends};
-ghost use Rattle.amqp_types.specs.Methods.{method, judge_method, judge_in_class, method_bytes, method_size, payload_bytes, payload_size};
+ghost use Rattle.amqp_types.specs.Methods.{method, judge_method, judge_in_class, method_bytes};
+ghost use Rattle.amqp_types.specs.Methods.{method_size, payload_bytes, payload_size};
 ghost use Rattle.amqp_laws.specs.HeldMethods.{IsHeldMethod};
 ghost use Rattle.amqp_values.specs.MethodFields.{ListsMethod};
-ghost use Rattle.amqp_channel.specs.Channel.{open_method, open_ok_method, flow_method, flow_ok_method, close_method, close_ok_method, method_of};
+ghost use Rattle.amqp_channel.specs.Channel.{open_method, open_ok_method, flow_method};
+ghost use Rattle.amqp_channel.specs.Channel.{flow_ok_method, close_method};
+ghost use Rattle.amqp_channel.specs.Channel.{close_ok_method, method_of};
 
 use amqp_values::{
     Boolean, Field, GenError, Identifier, NoMemory, ParserError, ShortString, ShortUInt,
@@ -69,7 +72,8 @@ pub fn size_open(method: &Open) -> Result<u64, GenError>
 
 /// Puts the method id and the fields of `Open` at a place of a slice, and returns the place after.
 pub fn put_open(buf: &mut [u8], at: usize, method: &Open) -> usize
-    requires { HasRoom buf.old at (method_size (open_method method.now)) (method_bytes (open_method method.now)) }
+    requires { HasRoom buf.old at (method_size (open_method method.now))
+        (method_bytes (open_method method.now)) }
     ensures { Puts buf.old buf.new at (method_bytes (open_method method.now)) result }
 {
     put_fields(buf, at, &open_fields(method)[1..])
@@ -77,7 +81,8 @@ pub fn put_open(buf: &mut [u8], at: usize, method: &Open) -> usize
 
 /// Appends the method id and the fields of `Open` to a vector.
 pub fn gen_open(_alloc: Global, out: &mut Vec<u8>, method: &Open) -> Result<(), GenError>
-    ensures { Appends out.old.items out.new.items (method_size (open_method method.now)) (method_bytes (open_method method.now)) result }
+    ensures { Appends out.old.items out.new.items (method_size (open_method method.now))
+        (method_bytes (open_method method.now)) result }
 {
     gen_fields(out, &open_fields(method)[1..])
 }
@@ -134,7 +139,8 @@ pub fn size_open_ok(method: &OpenOk) -> Result<u64, GenError>
 
 /// Puts the method id and the fields of `OpenOk` at a place of a slice, and returns the place after.
 pub fn put_open_ok(buf: &mut [u8], at: usize, method: &OpenOk) -> usize
-    requires { HasRoom buf.old at (method_size (open_ok_method method.now)) (method_bytes (open_ok_method method.now)) }
+    requires { HasRoom buf.old at (method_size (open_ok_method method.now))
+        (method_bytes (open_ok_method method.now)) }
     ensures { Puts buf.old buf.new at (method_bytes (open_ok_method method.now)) result }
 {
     put_fields(buf, at, &open_ok_fields(method)[1..])
@@ -142,7 +148,8 @@ pub fn put_open_ok(buf: &mut [u8], at: usize, method: &OpenOk) -> usize
 
 /// Appends the method id and the fields of `OpenOk` to a vector.
 pub fn gen_open_ok(_alloc: Global, out: &mut Vec<u8>, method: &OpenOk) -> Result<(), GenError>
-    ensures { Appends out.old.items out.new.items (method_size (open_ok_method method.now)) (method_bytes (open_ok_method method.now)) result }
+    ensures { Appends out.old.items out.new.items (method_size (open_ok_method method.now))
+        (method_bytes (open_ok_method method.now)) result }
 {
     gen_fields(out, &open_ok_fields(method)[1..])
 }
@@ -214,7 +221,8 @@ pub fn size_flow(method: &Flow) -> Result<u64, GenError>
 
 /// Puts the method id and the fields of `Flow` at a place of a slice, and returns the place after.
 pub fn put_flow(buf: &mut [u8], at: usize, method: &Flow) -> usize
-    requires { HasRoom buf.old at (method_size (flow_method method.now)) (method_bytes (flow_method method.now)) }
+    requires { HasRoom buf.old at (method_size (flow_method method.now))
+        (method_bytes (flow_method method.now)) }
     ensures { Puts buf.old buf.new at (method_bytes (flow_method method.now)) result }
 {
     put_fields(buf, at, &flow_fields(method)[1..])
@@ -222,7 +230,8 @@ pub fn put_flow(buf: &mut [u8], at: usize, method: &Flow) -> usize
 
 /// Appends the method id and the fields of `Flow` to a vector.
 pub fn gen_flow(_alloc: Global, out: &mut Vec<u8>, method: &Flow) -> Result<(), GenError>
-    ensures { Appends out.old.items out.new.items (method_size (flow_method method.now)) (method_bytes (flow_method method.now)) result }
+    ensures { Appends out.old.items out.new.items (method_size (flow_method method.now))
+        (method_bytes (flow_method method.now)) result }
 {
     gen_fields(out, &flow_fields(method)[1..])
 }
@@ -294,7 +303,8 @@ pub fn size_flow_ok(method: &FlowOk) -> Result<u64, GenError>
 
 /// Puts the method id and the fields of `FlowOk` at a place of a slice, and returns the place after.
 pub fn put_flow_ok(buf: &mut [u8], at: usize, method: &FlowOk) -> usize
-    requires { HasRoom buf.old at (method_size (flow_ok_method method.now)) (method_bytes (flow_ok_method method.now)) }
+    requires { HasRoom buf.old at (method_size (flow_ok_method method.now))
+        (method_bytes (flow_ok_method method.now)) }
     ensures { Puts buf.old buf.new at (method_bytes (flow_ok_method method.now)) result }
 {
     put_fields(buf, at, &flow_ok_fields(method)[1..])
@@ -302,7 +312,8 @@ pub fn put_flow_ok(buf: &mut [u8], at: usize, method: &FlowOk) -> usize
 
 /// Appends the method id and the fields of `FlowOk` to a vector.
 pub fn gen_flow_ok(_alloc: Global, out: &mut Vec<u8>, method: &FlowOk) -> Result<(), GenError>
-    ensures { Appends out.old.items out.new.items (method_size (flow_ok_method method.now)) (method_bytes (flow_ok_method method.now)) result }
+    ensures { Appends out.old.items out.new.items (method_size (flow_ok_method method.now))
+        (method_bytes (flow_ok_method method.now)) result }
 {
     gen_fields(out, &flow_ok_fields(method)[1..])
 }
@@ -340,7 +351,8 @@ impl Close {
 
     /// The method whose fields are empty, zero and false.
     pub fn empty(alloc: Global) -> Close
-        ensures { close_method result ≡ method 20 40 (number_item 0 ∷ text_item [] ∷ number_item 0 ∷ number_item 0 ∷ []) }
+        ensures { close_method result
+            ≡ method 20 40 (number_item 0 ∷ text_item [] ∷ number_item 0 ∷ number_item 0 ∷ []) }
     {
         Close {
             reply_code: 0,
@@ -403,7 +415,8 @@ pub fn size_close(method: &Close) -> Result<u64, GenError>
 
 /// Puts the method id and the fields of `Close` at a place of a slice, and returns the place after.
 pub fn put_close(buf: &mut [u8], at: usize, method: &Close) -> usize
-    requires { HasRoom buf.old at (method_size (close_method method.now)) (method_bytes (close_method method.now)) }
+    requires { HasRoom buf.old at (method_size (close_method method.now))
+        (method_bytes (close_method method.now)) }
     ensures { Puts buf.old buf.new at (method_bytes (close_method method.now)) result }
 {
     put_fields(buf, at, &close_fields(method)[1..])
@@ -411,7 +424,8 @@ pub fn put_close(buf: &mut [u8], at: usize, method: &Close) -> usize
 
 /// Appends the method id and the fields of `Close` to a vector.
 pub fn gen_close(_alloc: Global, out: &mut Vec<u8>, method: &Close) -> Result<(), GenError>
-    ensures { Appends out.old.items out.new.items (method_size (close_method method.now)) (method_bytes (close_method method.now)) result }
+    ensures { Appends out.old.items out.new.items (method_size (close_method method.now))
+        (method_bytes (close_method method.now)) result }
 {
     gen_fields(out, &close_fields(method)[1..])
 }
@@ -463,7 +477,8 @@ pub fn size_close_ok(method: &CloseOk) -> Result<u64, GenError>
 
 /// Puts the method id and the fields of `CloseOk` at a place of a slice, and returns the place after.
 pub fn put_close_ok(buf: &mut [u8], at: usize, method: &CloseOk) -> usize
-    requires { HasRoom buf.old at (method_size (close_ok_method method.now)) (method_bytes (close_ok_method method.now)) }
+    requires { HasRoom buf.old at (method_size (close_ok_method method.now))
+        (method_bytes (close_ok_method method.now)) }
     ensures { Puts buf.old buf.new at (method_bytes (close_ok_method method.now)) result }
 {
     put_fields(buf, at, &close_ok_fields(method)[1..])
@@ -471,7 +486,8 @@ pub fn put_close_ok(buf: &mut [u8], at: usize, method: &CloseOk) -> usize
 
 /// Appends the method id and the fields of `CloseOk` to a vector.
 pub fn gen_close_ok(_alloc: Global, out: &mut Vec<u8>, method: &CloseOk) -> Result<(), GenError>
-    ensures { Appends out.old.items out.new.items (method_size (close_ok_method method.now)) (method_bytes (close_ok_method method.now)) result }
+    ensures { Appends out.old.items out.new.items (method_size (close_ok_method method.now))
+        (method_bytes (close_ok_method method.now)) result }
 {
     gen_fields(out, &close_ok_fields(method)[1..])
 }
@@ -584,7 +600,8 @@ pub fn size_channel(method: &AMQPMethod) -> Result<u64, GenError>
 
 /// Puts the class id, the method id and the fields at a place of a slice, and returns the place after.
 pub fn put_channel(buf: &mut [u8], at: usize, method: &AMQPMethod) -> usize
-    requires { HasRoom buf.old at (payload_size (method_of method.now)) (payload_bytes (method_of method.now)) }
+    requires { HasRoom buf.old at (payload_size (method_of method.now))
+        (payload_bytes (method_of method.now)) }
     ensures { Puts buf.old buf.new at (payload_bytes (method_of method.now)) result }
 {
     with_fields!(method, put_fields(buf, at))
@@ -592,7 +609,8 @@ pub fn put_channel(buf: &mut [u8], at: usize, method: &AMQPMethod) -> usize
 
 /// Appends the class id, the method id and the fields to a vector.
 pub fn gen_channel(_alloc: Global, out: &mut Vec<u8>, method: &AMQPMethod) -> Result<(), GenError>
-    ensures { Appends out.old.items out.new.items (payload_size (method_of method.now)) (payload_bytes (method_of method.now)) result }
+    ensures { Appends out.old.items out.new.items (payload_size (method_of method.now))
+        (payload_bytes (method_of method.now)) result }
 {
     with_fields!(method, gen_fields(out))
 }

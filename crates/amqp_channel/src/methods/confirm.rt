@@ -5,7 +5,8 @@ ghost use Rattle.std.specs.Prelude.{◌≡◌, IfOk, ◌∷◌, [], false};
 ghost use Rattle.amqp_types.specs.Slots.{flag_item};
 ghost use Rattle.amqp_types.specs.Calls.{Parses, NeedsNoMemory, Measures, HasRoom};
 ghost use Rattle.amqp_types.specs.Writing.{Puts, Appends};
-ghost use Rattle.amqp_types.specs.Methods.{judge_method, judge_in_class, method_bytes, method_size, payload_bytes, payload_size, method};
+ghost use Rattle.amqp_types.specs.Methods.{judge_method, judge_in_class, method_bytes, method_size};
+ghost use Rattle.amqp_types.specs.Methods.{payload_bytes, payload_size, method};
 ghost use Rattle.amqp_laws.specs.HeldMethods.{IsHeldMethod};
 ghost use Rattle.amqp_values.specs.MethodFields.{ListsMethod};
 ghost use Rattle.amqp_channel.specs.Confirm.{select_method, select_ok_method, method_of};
@@ -83,7 +84,8 @@ pub fn size_select(method: &Select) -> Result<u64, GenError>
 
 /// Puts the method id and the fields of `Select` at a place of a slice, and returns the place after.
 pub fn put_select(buf: &mut [u8], at: usize, method: &Select) -> usize
-    requires { HasRoom buf.old at (method_size (select_method method.now)) (method_bytes (select_method method.now)) }
+    requires { HasRoom buf.old at (method_size (select_method method.now))
+        (method_bytes (select_method method.now)) }
     ensures { Puts buf.old buf.new at (method_bytes (select_method method.now)) result }
 {
     put_fields(buf, at, &select_fields(method)[1..])
@@ -91,7 +93,8 @@ pub fn put_select(buf: &mut [u8], at: usize, method: &Select) -> usize
 
 /// Appends the method id and the fields of `Select` to a vector.
 pub fn gen_select(_alloc: Global, out: &mut Vec<u8>, method: &Select) -> Result<(), GenError>
-    ensures { Appends out.old.items out.new.items (method_size (select_method method.now)) (method_bytes (select_method method.now)) result }
+    ensures { Appends out.old.items out.new.items (method_size (select_method method.now))
+        (method_bytes (select_method method.now)) result }
 {
     gen_fields(out, &select_fields(method)[1..])
 }
@@ -143,7 +146,8 @@ pub fn size_select_ok(method: &SelectOk) -> Result<u64, GenError>
 
 /// Puts the method id and the fields of `SelectOk` at a place of a slice, and returns the place after.
 pub fn put_select_ok(buf: &mut [u8], at: usize, method: &SelectOk) -> usize
-    requires { HasRoom buf.old at (method_size (select_ok_method method.now)) (method_bytes (select_ok_method method.now)) }
+    requires { HasRoom buf.old at (method_size (select_ok_method method.now))
+        (method_bytes (select_ok_method method.now)) }
     ensures { Puts buf.old buf.new at (method_bytes (select_ok_method method.now)) result }
 {
     put_fields(buf, at, &select_ok_fields(method)[1..])
@@ -151,7 +155,8 @@ pub fn put_select_ok(buf: &mut [u8], at: usize, method: &SelectOk) -> usize
 
 /// Appends the method id and the fields of `SelectOk` to a vector.
 pub fn gen_select_ok(_alloc: Global, out: &mut Vec<u8>, method: &SelectOk) -> Result<(), GenError>
-    ensures { Appends out.old.items out.new.items (method_size (select_ok_method method.now)) (method_bytes (select_ok_method method.now)) result }
+    ensures { Appends out.old.items out.new.items (method_size (select_ok_method method.now))
+        (method_bytes (select_ok_method method.now)) result }
 {
     gen_fields(out, &select_ok_fields(method)[1..])
 }
@@ -238,7 +243,8 @@ pub fn size_confirm(method: &AMQPMethod) -> Result<u64, GenError>
 
 /// Puts the class id, the method id and the fields at a place of a slice, and returns the place after.
 pub fn put_confirm(buf: &mut [u8], at: usize, method: &AMQPMethod) -> usize
-    requires { HasRoom buf.old at (payload_size (method_of method.now)) (payload_bytes (method_of method.now)) }
+    requires { HasRoom buf.old at (payload_size (method_of method.now))
+        (payload_bytes (method_of method.now)) }
     ensures { Puts buf.old buf.new at (payload_bytes (method_of method.now)) result }
 {
     with_fields!(method, put_fields(buf, at))
@@ -246,7 +252,8 @@ pub fn put_confirm(buf: &mut [u8], at: usize, method: &AMQPMethod) -> usize
 
 /// Appends the class id, the method id and the fields to a vector.
 pub fn gen_confirm(_alloc: Global, out: &mut Vec<u8>, method: &AMQPMethod) -> Result<(), GenError>
-    ensures { Appends out.old.items out.new.items (payload_size (method_of method.now)) (payload_bytes (method_of method.now)) result }
+    ensures { Appends out.old.items out.new.items (payload_size (method_of method.now))
+        (payload_bytes (method_of method.now)) result }
 {
     with_fields!(method, gen_fields(out))
 }

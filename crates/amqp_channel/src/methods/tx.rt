@@ -4,10 +4,13 @@
 ghost use Rattle.std.specs.Prelude.{◌≡◌, IfOk};
 ghost use Rattle.amqp_types.specs.Calls.{Parses, NeedsNoMemory, Measures, HasRoom};
 ghost use Rattle.amqp_types.specs.Writing.{Puts, Appends};
-ghost use Rattle.amqp_types.specs.Methods.{judge_method, judge_in_class, method_bytes, method_size, payload_bytes, payload_size};
+ghost use Rattle.amqp_types.specs.Methods.{judge_method, judge_in_class, method_bytes};
+ghost use Rattle.amqp_types.specs.Methods.{method_size, payload_bytes, payload_size};
 ghost use Rattle.amqp_laws.specs.HeldMethods.{IsHeldMethod};
 ghost use Rattle.amqp_values.specs.MethodFields.{ListsMethod};
-ghost use Rattle.amqp_channel.specs.Tx.{select_method, select_ok_method, commit_method, commit_ok_method, rollback_method, rollback_ok_method, method_of};
+ghost use Rattle.amqp_channel.specs.Tx.{select_method, select_ok_method, commit_method};
+ghost use Rattle.amqp_channel.specs.Tx.{commit_ok_method, rollback_method};
+ghost use Rattle.amqp_channel.specs.Tx.{rollback_ok_method, method_of};
 
 use amqp_values::{
     Field, GenError, Identifier, NoMemory, ParserError, SlotReader, fields_held, gen_fields,
@@ -62,7 +65,8 @@ pub fn size_select(method: &Select) -> Result<u64, GenError>
 
 /// Puts the method id and the fields of `Select` at a place of a slice, and returns the place after.
 pub fn put_select(buf: &mut [u8], at: usize, method: &Select) -> usize
-    requires { HasRoom buf.old at (method_size (select_method method.now)) (method_bytes (select_method method.now)) }
+    requires { HasRoom buf.old at (method_size (select_method method.now))
+        (method_bytes (select_method method.now)) }
     ensures { Puts buf.old buf.new at (method_bytes (select_method method.now)) result }
 {
     put_fields(buf, at, &select_fields(method)[1..])
@@ -70,7 +74,8 @@ pub fn put_select(buf: &mut [u8], at: usize, method: &Select) -> usize
 
 /// Appends the method id and the fields of `Select` to a vector.
 pub fn gen_select(_alloc: Global, out: &mut Vec<u8>, method: &Select) -> Result<(), GenError>
-    ensures { Appends out.old.items out.new.items (method_size (select_method method.now)) (method_bytes (select_method method.now)) result }
+    ensures { Appends out.old.items out.new.items (method_size (select_method method.now))
+        (method_bytes (select_method method.now)) result }
 {
     gen_fields(out, &select_fields(method)[1..])
 }
@@ -122,7 +127,8 @@ pub fn size_select_ok(method: &SelectOk) -> Result<u64, GenError>
 
 /// Puts the method id and the fields of `SelectOk` at a place of a slice, and returns the place after.
 pub fn put_select_ok(buf: &mut [u8], at: usize, method: &SelectOk) -> usize
-    requires { HasRoom buf.old at (method_size (select_ok_method method.now)) (method_bytes (select_ok_method method.now)) }
+    requires { HasRoom buf.old at (method_size (select_ok_method method.now))
+        (method_bytes (select_ok_method method.now)) }
     ensures { Puts buf.old buf.new at (method_bytes (select_ok_method method.now)) result }
 {
     put_fields(buf, at, &select_ok_fields(method)[1..])
@@ -130,7 +136,8 @@ pub fn put_select_ok(buf: &mut [u8], at: usize, method: &SelectOk) -> usize
 
 /// Appends the method id and the fields of `SelectOk` to a vector.
 pub fn gen_select_ok(_alloc: Global, out: &mut Vec<u8>, method: &SelectOk) -> Result<(), GenError>
-    ensures { Appends out.old.items out.new.items (method_size (select_ok_method method.now)) (method_bytes (select_ok_method method.now)) result }
+    ensures { Appends out.old.items out.new.items (method_size (select_ok_method method.now))
+        (method_bytes (select_ok_method method.now)) result }
 {
     gen_fields(out, &select_ok_fields(method)[1..])
 }
@@ -182,7 +189,8 @@ pub fn size_commit(method: &Commit) -> Result<u64, GenError>
 
 /// Puts the method id and the fields of `Commit` at a place of a slice, and returns the place after.
 pub fn put_commit(buf: &mut [u8], at: usize, method: &Commit) -> usize
-    requires { HasRoom buf.old at (method_size (commit_method method.now)) (method_bytes (commit_method method.now)) }
+    requires { HasRoom buf.old at (method_size (commit_method method.now))
+        (method_bytes (commit_method method.now)) }
     ensures { Puts buf.old buf.new at (method_bytes (commit_method method.now)) result }
 {
     put_fields(buf, at, &commit_fields(method)[1..])
@@ -190,7 +198,8 @@ pub fn put_commit(buf: &mut [u8], at: usize, method: &Commit) -> usize
 
 /// Appends the method id and the fields of `Commit` to a vector.
 pub fn gen_commit(_alloc: Global, out: &mut Vec<u8>, method: &Commit) -> Result<(), GenError>
-    ensures { Appends out.old.items out.new.items (method_size (commit_method method.now)) (method_bytes (commit_method method.now)) result }
+    ensures { Appends out.old.items out.new.items (method_size (commit_method method.now))
+        (method_bytes (commit_method method.now)) result }
 {
     gen_fields(out, &commit_fields(method)[1..])
 }
@@ -242,7 +251,8 @@ pub fn size_commit_ok(method: &CommitOk) -> Result<u64, GenError>
 
 /// Puts the method id and the fields of `CommitOk` at a place of a slice, and returns the place after.
 pub fn put_commit_ok(buf: &mut [u8], at: usize, method: &CommitOk) -> usize
-    requires { HasRoom buf.old at (method_size (commit_ok_method method.now)) (method_bytes (commit_ok_method method.now)) }
+    requires { HasRoom buf.old at (method_size (commit_ok_method method.now))
+        (method_bytes (commit_ok_method method.now)) }
     ensures { Puts buf.old buf.new at (method_bytes (commit_ok_method method.now)) result }
 {
     put_fields(buf, at, &commit_ok_fields(method)[1..])
@@ -250,7 +260,8 @@ pub fn put_commit_ok(buf: &mut [u8], at: usize, method: &CommitOk) -> usize
 
 /// Appends the method id and the fields of `CommitOk` to a vector.
 pub fn gen_commit_ok(_alloc: Global, out: &mut Vec<u8>, method: &CommitOk) -> Result<(), GenError>
-    ensures { Appends out.old.items out.new.items (method_size (commit_ok_method method.now)) (method_bytes (commit_ok_method method.now)) result }
+    ensures { Appends out.old.items out.new.items (method_size (commit_ok_method method.now))
+        (method_bytes (commit_ok_method method.now)) result }
 {
     gen_fields(out, &commit_ok_fields(method)[1..])
 }
@@ -302,7 +313,8 @@ pub fn size_rollback(method: &Rollback) -> Result<u64, GenError>
 
 /// Puts the method id and the fields of `Rollback` at a place of a slice, and returns the place after.
 pub fn put_rollback(buf: &mut [u8], at: usize, method: &Rollback) -> usize
-    requires { HasRoom buf.old at (method_size (rollback_method method.now)) (method_bytes (rollback_method method.now)) }
+    requires { HasRoom buf.old at (method_size (rollback_method method.now))
+        (method_bytes (rollback_method method.now)) }
     ensures { Puts buf.old buf.new at (method_bytes (rollback_method method.now)) result }
 {
     put_fields(buf, at, &rollback_fields(method)[1..])
@@ -310,7 +322,8 @@ pub fn put_rollback(buf: &mut [u8], at: usize, method: &Rollback) -> usize
 
 /// Appends the method id and the fields of `Rollback` to a vector.
 pub fn gen_rollback(_alloc: Global, out: &mut Vec<u8>, method: &Rollback) -> Result<(), GenError>
-    ensures { Appends out.old.items out.new.items (method_size (rollback_method method.now)) (method_bytes (rollback_method method.now)) result }
+    ensures { Appends out.old.items out.new.items (method_size (rollback_method method.now))
+        (method_bytes (rollback_method method.now)) result }
 {
     gen_fields(out, &rollback_fields(method)[1..])
 }
@@ -362,7 +375,8 @@ pub fn size_rollback_ok(method: &RollbackOk) -> Result<u64, GenError>
 
 /// Puts the method id and the fields of `RollbackOk` at a place of a slice, and returns the place after.
 pub fn put_rollback_ok(buf: &mut [u8], at: usize, method: &RollbackOk) -> usize
-    requires { HasRoom buf.old at (method_size (rollback_ok_method method.now)) (method_bytes (rollback_ok_method method.now)) }
+    requires { HasRoom buf.old at (method_size (rollback_ok_method method.now))
+        (method_bytes (rollback_ok_method method.now)) }
     ensures { Puts buf.old buf.new at (method_bytes (rollback_ok_method method.now)) result }
 {
     put_fields(buf, at, &rollback_ok_fields(method)[1..])
@@ -374,7 +388,8 @@ pub fn gen_rollback_ok(
     out: &mut Vec<u8>,
     method: &RollbackOk,
 ) -> Result<(), GenError>
-    ensures { Appends out.old.items out.new.items (method_size (rollback_ok_method method.now)) (method_bytes (rollback_ok_method method.now)) result }
+    ensures { Appends out.old.items out.new.items (method_size (rollback_ok_method method.now))
+        (method_bytes (rollback_ok_method method.now)) result }
 {
     gen_fields(out, &rollback_ok_fields(method)[1..])
 }
@@ -489,7 +504,8 @@ pub fn size_tx(method: &AMQPMethod) -> Result<u64, GenError>
 
 /// Puts the class id, the method id and the fields at a place of a slice, and returns the place after.
 pub fn put_tx(buf: &mut [u8], at: usize, method: &AMQPMethod) -> usize
-    requires { HasRoom buf.old at (payload_size (method_of method.now)) (payload_bytes (method_of method.now)) }
+    requires { HasRoom buf.old at (payload_size (method_of method.now))
+        (payload_bytes (method_of method.now)) }
     ensures { Puts buf.old buf.new at (payload_bytes (method_of method.now)) result }
 {
     with_fields!(method, put_fields(buf, at))
@@ -497,7 +513,8 @@ pub fn put_tx(buf: &mut [u8], at: usize, method: &AMQPMethod) -> usize
 
 /// Appends the class id, the method id and the fields to a vector.
 pub fn gen_tx(_alloc: Global, out: &mut Vec<u8>, method: &AMQPMethod) -> Result<(), GenError>
-    ensures { Appends out.old.items out.new.items (payload_size (method_of method.now)) (payload_bytes (method_of method.now)) result }
+    ensures { Appends out.old.items out.new.items (payload_size (method_of method.now))
+        (payload_bytes (method_of method.now)) result }
 {
     with_fields!(method, gen_fields(out))
 }

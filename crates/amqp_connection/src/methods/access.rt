@@ -5,7 +5,8 @@ ghost use Rattle.std.specs.Prelude.{◌≡◌, ◌∷◌, [], false, IfOk};
 ghost use Rattle.amqp_types.specs.Slots.{flag_item, text_item};
 ghost use Rattle.amqp_types.specs.Calls.{Parses, NeedsNoMemory, Measures, HasRoom};
 ghost use Rattle.amqp_types.specs.Writing.{Puts, Appends};
-ghost use Rattle.amqp_types.specs.Methods.{method, judge_method, judge_in_class, method_bytes, method_size, payload_bytes, payload_size};
+ghost use Rattle.amqp_types.specs.Methods.{method, judge_method, judge_in_class, method_bytes};
+ghost use Rattle.amqp_types.specs.Methods.{method_size, payload_bytes, payload_size};
 ghost use Rattle.amqp_laws.specs.HeldMethods.{IsHeldMethod};
 ghost use Rattle.amqp_values.specs.MethodFields.{ListsMethod};
 ghost use Rattle.amqp_connection.specs.Access.{request_method, request_ok_method, method_of};
@@ -57,7 +58,8 @@ impl Request {
     /// The method whose fields are empty, zero and false.
     pub fn empty(alloc: Global) -> Request
         ensures { request_method result ≡ method 30 10
-            (text_item [] ∷ flag_item false ∷ flag_item false ∷ flag_item false ∷ flag_item false ∷ flag_item false ∷ []) }
+            (text_item [] ∷ flag_item false ∷ flag_item false
+            ∷ flag_item false ∷ flag_item false ∷ flag_item false ∷ []) }
     {
         Request {
             realm: ShortString::empty(alloc),
@@ -130,7 +132,8 @@ pub fn size_request(method: &Request) -> Result<u64, GenError>
 
 /// Puts the method id and the fields of `Request` at a place of a slice, and returns the place after.
 pub fn put_request(buf: &mut [u8], at: usize, method: &Request) -> usize
-    requires { HasRoom buf.old at (method_size (request_method method.now)) (method_bytes (request_method method.now)) }
+    requires { HasRoom buf.old at (method_size (request_method method.now))
+        (method_bytes (request_method method.now)) }
     ensures { Puts buf.old buf.new at (method_bytes (request_method method.now)) result }
 {
     put_fields(buf, at, &request_fields(method)[1..])
@@ -138,7 +141,8 @@ pub fn put_request(buf: &mut [u8], at: usize, method: &Request) -> usize
 
 /// Appends the method id and the fields of `Request` to a vector.
 pub fn gen_request(_alloc: Global, out: &mut Vec<u8>, method: &Request) -> Result<(), GenError>
-    ensures { Appends out.old.items out.new.items (method_size (request_method method.now)) (method_bytes (request_method method.now)) result }
+    ensures { Appends out.old.items out.new.items (method_size (request_method method.now))
+        (method_bytes (request_method method.now)) result }
 {
     gen_fields(out, &request_fields(method)[1..])
 }
@@ -195,7 +199,8 @@ pub fn size_request_ok(method: &RequestOk) -> Result<u64, GenError>
 
 /// Puts the method id and the fields of `RequestOk` at a place of a slice, and returns the place after.
 pub fn put_request_ok(buf: &mut [u8], at: usize, method: &RequestOk) -> usize
-    requires { HasRoom buf.old at (method_size (request_ok_method method.now)) (method_bytes (request_ok_method method.now)) }
+    requires { HasRoom buf.old at (method_size (request_ok_method method.now))
+        (method_bytes (request_ok_method method.now)) }
     ensures { Puts buf.old buf.new at (method_bytes (request_ok_method method.now)) result }
 {
     put_fields(buf, at, &request_ok_fields(method)[1..])
@@ -203,7 +208,8 @@ pub fn put_request_ok(buf: &mut [u8], at: usize, method: &RequestOk) -> usize
 
 /// Appends the method id and the fields of `RequestOk` to a vector.
 pub fn gen_request_ok(_alloc: Global, out: &mut Vec<u8>, method: &RequestOk) -> Result<(), GenError>
-    ensures { Appends out.old.items out.new.items (method_size (request_ok_method method.now)) (method_bytes (request_ok_method method.now)) result }
+    ensures { Appends out.old.items out.new.items (method_size (request_ok_method method.now))
+        (method_bytes (request_ok_method method.now)) result }
 {
     gen_fields(out, &request_ok_fields(method)[1..])
 }
@@ -288,7 +294,8 @@ pub fn size_access(method: &AMQPMethod) -> Result<u64, GenError>
 
 /// Puts the class id, the method id and the fields at a place of a slice, and returns the place after.
 pub fn put_access(buf: &mut [u8], at: usize, method: &AMQPMethod) -> usize
-    requires { HasRoom buf.old at (payload_size (method_of method.now)) (payload_bytes (method_of method.now)) }
+    requires { HasRoom buf.old at (payload_size (method_of method.now))
+        (payload_bytes (method_of method.now)) }
     ensures { Puts buf.old buf.new at (payload_bytes (method_of method.now)) result }
 {
     with_fields!(method, put_fields(buf, at))
@@ -296,7 +303,8 @@ pub fn put_access(buf: &mut [u8], at: usize, method: &AMQPMethod) -> usize
 
 /// Appends the class id, the method id and the fields to a vector.
 pub fn gen_access(_alloc: Global, out: &mut Vec<u8>, method: &AMQPMethod) -> Result<(), GenError>
-    ensures { Appends out.old.items out.new.items (payload_size (method_of method.now)) (payload_bytes (method_of method.now)) result }
+    ensures { Appends out.old.items out.new.items (payload_size (method_of method.now))
+        (payload_bytes (method_of method.now)) result }
 {
     with_fields!(method, gen_fields(out))
 }

@@ -6,7 +6,8 @@ ghost use Rattle.amqp_types.specs.Calls.{Parses, NeedsNoMemory, Measures, HasRoo
 ghost use Rattle.amqp_types.specs.Writing.{Puts, Appends};
 ghost use Rattle.amqp_types.specs.Methods.{method, judge_method, method_bytes, method_size};
 ghost use Rattle.amqp_values.specs.MethodFields.{ListsMethod};
-ghost use Rattle.amqp_exchange.specs.Exchange.{bind_method, bind_ok_method, unbind_method, unbind_ok_method};
+ghost use Rattle.amqp_exchange.specs.Exchange.{bind_method, bind_ok_method};
+ghost use Rattle.amqp_exchange.specs.Exchange.{unbind_method, unbind_ok_method};
 
 use amqp_values::{
     Boolean, Field, FieldTable, Flags, GenError, Identifier, NoMemory, ParserError,
@@ -51,7 +52,9 @@ impl Bind {
 
     /// The method whose fields are empty, zero and false.
     pub fn empty(alloc: Global) -> Bind
-        ensures { bind_method result ≡ method 40 30 (text_item [] ∷ text_item [] ∷ text_item [] ∷ flag_item false ∷ entries_item [] ∷ []) }
+        ensures { bind_method result
+            ≡ method 40 30
+            (text_item [] ∷ text_item [] ∷ text_item [] ∷ flag_item false ∷ entries_item [] ∷ []) }
     {
         Bind {
             destination: ShortString::empty(alloc),
@@ -121,7 +124,8 @@ pub fn size_bind(method: &Bind) -> Result<u64, GenError>
 
 /// Puts the method id and the fields of `Bind` at a place of a slice, and returns the place after.
 pub fn put_bind(buf: &mut [u8], at: usize, method: &Bind) -> usize
-    requires { HasRoom buf.old at (method_size (bind_method method.now)) (method_bytes (bind_method method.now)) }
+    requires { HasRoom buf.old at (method_size (bind_method method.now))
+        (method_bytes (bind_method method.now)) }
     ensures { Puts buf.old buf.new at (method_bytes (bind_method method.now)) result }
 {
     put_fields(buf, at, &bind_fields(method)[1..])
@@ -129,7 +133,8 @@ pub fn put_bind(buf: &mut [u8], at: usize, method: &Bind) -> usize
 
 /// Appends the method id and the fields of `Bind` to a vector.
 pub fn gen_bind(_alloc: Global, out: &mut Vec<u8>, method: &Bind) -> Result<(), GenError>
-    ensures { Appends out.old.items out.new.items (method_size (bind_method method.now)) (method_bytes (bind_method method.now)) result }
+    ensures { Appends out.old.items out.new.items (method_size (bind_method method.now))
+        (method_bytes (bind_method method.now)) result }
 {
     gen_fields(out, &bind_fields(method)[1..])
 }
@@ -181,7 +186,8 @@ pub fn size_bind_ok(method: &BindOk) -> Result<u64, GenError>
 
 /// Puts the method id and the fields of `BindOk` at a place of a slice, and returns the place after.
 pub fn put_bind_ok(buf: &mut [u8], at: usize, method: &BindOk) -> usize
-    requires { HasRoom buf.old at (method_size (bind_ok_method method.now)) (method_bytes (bind_ok_method method.now)) }
+    requires { HasRoom buf.old at (method_size (bind_ok_method method.now))
+        (method_bytes (bind_ok_method method.now)) }
     ensures { Puts buf.old buf.new at (method_bytes (bind_ok_method method.now)) result }
 {
     put_fields(buf, at, &bind_ok_fields(method)[1..])
@@ -189,7 +195,8 @@ pub fn put_bind_ok(buf: &mut [u8], at: usize, method: &BindOk) -> usize
 
 /// Appends the method id and the fields of `BindOk` to a vector.
 pub fn gen_bind_ok(_alloc: Global, out: &mut Vec<u8>, method: &BindOk) -> Result<(), GenError>
-    ensures { Appends out.old.items out.new.items (method_size (bind_ok_method method.now)) (method_bytes (bind_ok_method method.now)) result }
+    ensures { Appends out.old.items out.new.items (method_size (bind_ok_method method.now))
+        (method_bytes (bind_ok_method method.now)) result }
 {
     gen_fields(out, &bind_ok_fields(method)[1..])
 }
@@ -230,7 +237,9 @@ impl Unbind {
 
     /// The method whose fields are empty, zero and false.
     pub fn empty(alloc: Global) -> Unbind
-        ensures { unbind_method result ≡ method 40 40 (text_item [] ∷ text_item [] ∷ text_item [] ∷ flag_item false ∷ entries_item [] ∷ []) }
+        ensures { unbind_method result
+            ≡ method 40 40
+            (text_item [] ∷ text_item [] ∷ text_item [] ∷ flag_item false ∷ entries_item [] ∷ []) }
     {
         Unbind {
             destination: ShortString::empty(alloc),
@@ -300,7 +309,8 @@ pub fn size_unbind(method: &Unbind) -> Result<u64, GenError>
 
 /// Puts the method id and the fields of `Unbind` at a place of a slice, and returns the place after.
 pub fn put_unbind(buf: &mut [u8], at: usize, method: &Unbind) -> usize
-    requires { HasRoom buf.old at (method_size (unbind_method method.now)) (method_bytes (unbind_method method.now)) }
+    requires { HasRoom buf.old at (method_size (unbind_method method.now))
+        (method_bytes (unbind_method method.now)) }
     ensures { Puts buf.old buf.new at (method_bytes (unbind_method method.now)) result }
 {
     put_fields(buf, at, &unbind_fields(method)[1..])
@@ -308,7 +318,8 @@ pub fn put_unbind(buf: &mut [u8], at: usize, method: &Unbind) -> usize
 
 /// Appends the method id and the fields of `Unbind` to a vector.
 pub fn gen_unbind(_alloc: Global, out: &mut Vec<u8>, method: &Unbind) -> Result<(), GenError>
-    ensures { Appends out.old.items out.new.items (method_size (unbind_method method.now)) (method_bytes (unbind_method method.now)) result }
+    ensures { Appends out.old.items out.new.items (method_size (unbind_method method.now))
+        (method_bytes (unbind_method method.now)) result }
 {
     gen_fields(out, &unbind_fields(method)[1..])
 }
@@ -360,7 +371,8 @@ pub fn size_unbind_ok(method: &UnbindOk) -> Result<u64, GenError>
 
 /// Puts the method id and the fields of `UnbindOk` at a place of a slice, and returns the place after.
 pub fn put_unbind_ok(buf: &mut [u8], at: usize, method: &UnbindOk) -> usize
-    requires { HasRoom buf.old at (method_size (unbind_ok_method method.now)) (method_bytes (unbind_ok_method method.now)) }
+    requires { HasRoom buf.old at (method_size (unbind_ok_method method.now))
+        (method_bytes (unbind_ok_method method.now)) }
     ensures { Puts buf.old buf.new at (method_bytes (unbind_ok_method method.now)) result }
 {
     put_fields(buf, at, &unbind_ok_fields(method)[1..])
@@ -368,7 +380,8 @@ pub fn put_unbind_ok(buf: &mut [u8], at: usize, method: &UnbindOk) -> usize
 
 /// Appends the method id and the fields of `UnbindOk` to a vector.
 pub fn gen_unbind_ok(_alloc: Global, out: &mut Vec<u8>, method: &UnbindOk) -> Result<(), GenError>
-    ensures { Appends out.old.items out.new.items (method_size (unbind_ok_method method.now)) (method_bytes (unbind_ok_method method.now)) result }
+    ensures { Appends out.old.items out.new.items (method_size (unbind_ok_method method.now))
+        (method_bytes (unbind_ok_method method.now)) result }
 {
     gen_fields(out, &unbind_ok_fields(method)[1..])
 }

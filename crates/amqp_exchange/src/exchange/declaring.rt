@@ -6,7 +6,8 @@ ghost use Rattle.amqp_types.specs.Calls.{Parses, NeedsNoMemory, Measures, HasRoo
 ghost use Rattle.amqp_types.specs.Writing.{Puts, Appends};
 ghost use Rattle.amqp_types.specs.Methods.{method, judge_method, method_bytes, method_size};
 ghost use Rattle.amqp_values.specs.MethodFields.{ListsMethod};
-ghost use Rattle.amqp_exchange.specs.Exchange.{declare_method, declare_ok_method, delete_method, delete_ok_method};
+ghost use Rattle.amqp_exchange.specs.Exchange.{declare_method, declare_ok_method};
+ghost use Rattle.amqp_exchange.specs.Exchange.{delete_method, delete_ok_method};
 
 use amqp_values::{
     Boolean, Field, FieldTable, Flags, GenError, Identifier, NoMemory, ParserError,
@@ -61,7 +62,8 @@ impl Declare {
     /// The method whose fields are empty, zero and false.
     pub fn empty(alloc: Global) -> Declare
         ensures { declare_method result ≡ method 40 10
-            (text_item [] ∷ text_item [] ∷ flag_item false ∷ flag_item false ∷ flag_item false ∷ flag_item false ∷ flag_item false ∷ entries_item [] ∷ []) }
+            (text_item [] ∷ text_item [] ∷ flag_item false ∷ flag_item false
+            ∷ flag_item false ∷ flag_item false ∷ flag_item false ∷ entries_item [] ∷ []) }
     {
         Declare {
             exchange: ShortString::empty(alloc),
@@ -145,7 +147,8 @@ pub fn size_declare(method: &Declare) -> Result<u64, GenError>
 
 /// Puts the method id and the fields of `Declare` at a place of a slice, and returns the place after.
 pub fn put_declare(buf: &mut [u8], at: usize, method: &Declare) -> usize
-    requires { HasRoom buf.old at (method_size (declare_method method.now)) (method_bytes (declare_method method.now)) }
+    requires { HasRoom buf.old at (method_size (declare_method method.now))
+        (method_bytes (declare_method method.now)) }
     ensures { Puts buf.old buf.new at (method_bytes (declare_method method.now)) result }
 {
     put_fields(buf, at, &declare_fields(method)[1..])
@@ -153,7 +156,8 @@ pub fn put_declare(buf: &mut [u8], at: usize, method: &Declare) -> usize
 
 /// Appends the method id and the fields of `Declare` to a vector.
 pub fn gen_declare(_alloc: Global, out: &mut Vec<u8>, method: &Declare) -> Result<(), GenError>
-    ensures { Appends out.old.items out.new.items (method_size (declare_method method.now)) (method_bytes (declare_method method.now)) result }
+    ensures { Appends out.old.items out.new.items (method_size (declare_method method.now))
+        (method_bytes (declare_method method.now)) result }
 {
     gen_fields(out, &declare_fields(method)[1..])
 }
@@ -205,7 +209,8 @@ pub fn size_declare_ok(method: &DeclareOk) -> Result<u64, GenError>
 
 /// Puts the method id and the fields of `DeclareOk` at a place of a slice, and returns the place after.
 pub fn put_declare_ok(buf: &mut [u8], at: usize, method: &DeclareOk) -> usize
-    requires { HasRoom buf.old at (method_size (declare_ok_method method.now)) (method_bytes (declare_ok_method method.now)) }
+    requires { HasRoom buf.old at (method_size (declare_ok_method method.now))
+        (method_bytes (declare_ok_method method.now)) }
     ensures { Puts buf.old buf.new at (method_bytes (declare_ok_method method.now)) result }
 {
     put_fields(buf, at, &declare_ok_fields(method)[1..])
@@ -213,7 +218,8 @@ pub fn put_declare_ok(buf: &mut [u8], at: usize, method: &DeclareOk) -> usize
 
 /// Appends the method id and the fields of `DeclareOk` to a vector.
 pub fn gen_declare_ok(_alloc: Global, out: &mut Vec<u8>, method: &DeclareOk) -> Result<(), GenError>
-    ensures { Appends out.old.items out.new.items (method_size (declare_ok_method method.now)) (method_bytes (declare_ok_method method.now)) result }
+    ensures { Appends out.old.items out.new.items (method_size (declare_ok_method method.now))
+        (method_bytes (declare_ok_method method.now)) result }
 {
     gen_fields(out, &declare_ok_fields(method)[1..])
 }
@@ -248,7 +254,8 @@ impl Delete {
 
     /// The method whose fields are empty, zero and false.
     pub fn empty(alloc: Global) -> Delete
-        ensures { delete_method result ≡ method 40 20 (text_item [] ∷ flag_item false ∷ flag_item false ∷ []) }
+        ensures { delete_method result
+            ≡ method 40 20 (text_item [] ∷ flag_item false ∷ flag_item false ∷ []) }
     {
         Delete {
             exchange: ShortString::empty(alloc),
@@ -307,7 +314,8 @@ pub fn size_delete(method: &Delete) -> Result<u64, GenError>
 
 /// Puts the method id and the fields of `Delete` at a place of a slice, and returns the place after.
 pub fn put_delete(buf: &mut [u8], at: usize, method: &Delete) -> usize
-    requires { HasRoom buf.old at (method_size (delete_method method.now)) (method_bytes (delete_method method.now)) }
+    requires { HasRoom buf.old at (method_size (delete_method method.now))
+        (method_bytes (delete_method method.now)) }
     ensures { Puts buf.old buf.new at (method_bytes (delete_method method.now)) result }
 {
     put_fields(buf, at, &delete_fields(method)[1..])
@@ -315,7 +323,8 @@ pub fn put_delete(buf: &mut [u8], at: usize, method: &Delete) -> usize
 
 /// Appends the method id and the fields of `Delete` to a vector.
 pub fn gen_delete(_alloc: Global, out: &mut Vec<u8>, method: &Delete) -> Result<(), GenError>
-    ensures { Appends out.old.items out.new.items (method_size (delete_method method.now)) (method_bytes (delete_method method.now)) result }
+    ensures { Appends out.old.items out.new.items (method_size (delete_method method.now))
+        (method_bytes (delete_method method.now)) result }
 {
     gen_fields(out, &delete_fields(method)[1..])
 }
@@ -367,7 +376,8 @@ pub fn size_delete_ok(method: &DeleteOk) -> Result<u64, GenError>
 
 /// Puts the method id and the fields of `DeleteOk` at a place of a slice, and returns the place after.
 pub fn put_delete_ok(buf: &mut [u8], at: usize, method: &DeleteOk) -> usize
-    requires { HasRoom buf.old at (method_size (delete_ok_method method.now)) (method_bytes (delete_ok_method method.now)) }
+    requires { HasRoom buf.old at (method_size (delete_ok_method method.now))
+        (method_bytes (delete_ok_method method.now)) }
     ensures { Puts buf.old buf.new at (method_bytes (delete_ok_method method.now)) result }
 {
     put_fields(buf, at, &delete_ok_fields(method)[1..])
@@ -375,7 +385,8 @@ pub fn put_delete_ok(buf: &mut [u8], at: usize, method: &DeleteOk) -> usize
 
 /// Appends the method id and the fields of `DeleteOk` to a vector.
 pub fn gen_delete_ok(_alloc: Global, out: &mut Vec<u8>, method: &DeleteOk) -> Result<(), GenError>
-    ensures { Appends out.old.items out.new.items (method_size (delete_ok_method method.now)) (method_bytes (delete_ok_method method.now)) result }
+    ensures { Appends out.old.items out.new.items (method_size (delete_ok_method method.now))
+        (method_bytes (delete_ok_method method.now)) result }
 {
     gen_fields(out, &delete_ok_fields(method)[1..])
 }

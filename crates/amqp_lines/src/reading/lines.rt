@@ -4,7 +4,9 @@
 ghost use Rattle.std.specs.Prelude.{◌≡◌, ◌%◌, ◌^◌, drop};
 ghost use Rattle.amqp_types.specs.Rows.{slots_at};
 ghost use Rattle.amqp_lines.specs.Rendering.{AppendsText};
-ghost use Rattle.amqp_lines.specs.Reading.{Finds, ReadsWords, channel_at, kind_at, read_fields, read_id, read_method, read_payload, read_words, word_size};
+ghost use Rattle.amqp_lines.specs.Reading.{Finds, ReadsWords, channel_at, kind_at};
+ghost use Rattle.amqp_lines.specs.Reading.{read_fields, read_id, read_method};
+ghost use Rattle.amqp_lines.specs.Reading.{read_payload, read_words, word_size};
 
 use crate::reading::slots::{read_properties, read_slots};
 use crate::reading::words::{begins_with, read_bits, read_hex};
@@ -32,7 +34,8 @@ fn read_fields(
     method_id: Identifier,
     i: &[u8],
 ) -> Result<(), NoMemory>
-    ensures { AppendsText out.old.items out.new.items (read_fields (slots_at class_id method_id) i.now) result }
+    ensures { AppendsText out.old.items out.new.items
+        (read_fields (slots_at class_id method_id) i.now) result }
 {
     match shapes_of(class_id, method_id) {
         Some(shapes) => {

@@ -2,8 +2,10 @@
 #![tactic(auto)]
 
 ghost use Rattle.std.specs.Prelude.{◌≡◌, ◌%◌, ◌^◌, true, map};
-ghost use Rattle.amqp_canonical.specs.Shapes.{form_of, property_of, slot_of, has_constant, slots_of, have_constants};
-ghost use Rattle.amqp_lines.specs.Reading.{FindsText, Reads, ReadsSet, read_form, read_properties, read_set, read_slot, read_slots, strip};
+ghost use Rattle.amqp_canonical.specs.Shapes.{form_of, property_of, slot_of};
+ghost use Rattle.amqp_canonical.specs.Shapes.{has_constant, slots_of, have_constants};
+ghost use Rattle.amqp_lines.specs.Reading.{FindsText, Reads, ReadsSet, read_form, read_properties};
+ghost use Rattle.amqp_lines.specs.Reading.{read_set, read_slot, read_slots, strip};
 
 use crate::reading::values::read_list;
 use crate::reading::words::{
@@ -17,7 +19,8 @@ use amqp_types::{MAX_DEPTH, NoMemory};
 /// What stands at the front, encoded so.
 #[tactic(auto, unfolding(crate::specs::Reading::read_form))]
 fn read_form<'a>(out: &mut Vec<u8>, form: Form, i: &'a [u8]) -> Result<&'a [u8], NoMemory>
-    ensures { Reads (λ rest. rest.now) (read_form (form_of form) i.now) out.old.items out.new.items result }
+    ensures { Reads (λ rest. rest.now)
+        (read_form (form_of form) i.now) out.old.items out.new.items result }
 {
     match form {
         Form::Octet => read_number(out, 1, i),
@@ -34,7 +37,8 @@ fn read_form<'a>(out: &mut Vec<u8>, form: Form, i: &'a [u8]) -> Result<&'a [u8],
 /// A word after a space, or the constant of a reserved field, which is not written.
 fn read_slot<'a>(out: &mut Vec<u8>, slot: Slot, i: &'a [u8]) -> Result<&'a [u8], NoMemory>
     requires constant { has_constant slot ≡ true }
-    ensures { Reads (λ rest. rest.now) (read_slot (slot_of slot) i.now) out.old.items out.new.items result }
+    ensures { Reads (λ rest. rest.now)
+        (read_slot (slot_of slot) i.now) out.old.items out.new.items result }
 {
     match slot {
         Slot::Reserved(_, constant) => {
@@ -52,7 +56,8 @@ pub(crate) fn read_slots<'a>(
     i: &'a [u8],
 ) -> Result<&'a [u8], NoMemory>
     requires constants { have_constants shapes.now ≡ true }
-    ensures { Reads (λ rest. rest.now) (read_slots (slots_of shapes.now) i.now) out.old.items out.new.items result }
+    ensures { Reads (λ rest. rest.now)
+        (read_slots (slots_of shapes.now) i.now) out.old.items out.new.items result }
 {
     match shapes {
         [] => Ok(i),
@@ -94,7 +99,8 @@ fn read_set<'a>(
     shapes: &[(u16, Form)],
     i: &'a [u8],
 ) -> Result<(u16, &'a [u8]), NoMemory>
-    ensures { ReadsSet (λ rest. rest.now) (read_set (map property_of shapes.now) i.now) out.old.items out.new.items result }
+    ensures { ReadsSet (λ rest. rest.now)
+        (read_set (map property_of shapes.now) i.now) out.old.items out.new.items result }
 {
     match shapes {
         [] => Ok((0, i)),

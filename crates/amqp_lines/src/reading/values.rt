@@ -2,7 +2,9 @@
 #![tactic(auto)]
 
 ghost use Rattle.std.specs.Prelude.{◌≡◌};
-ghost use Rattle.amqp_lines.specs.Reading.{Reads, after_colon, closing, inside, or_comma, read_behind, read_byte_array, read_decimal, read_item, read_lists, read_value};
+ghost use Rattle.amqp_lines.specs.Reading.{Reads, after_colon, closing, inside, or_comma};
+ghost use Rattle.amqp_lines.specs.Reading.{read_behind, read_byte_array, read_decimal};
+ghost use Rattle.amqp_lines.specs.Reading.{read_item, read_lists, read_value};
 
 use crate::reading::words::{
     begins_with, ends_at, keep_place, put_length, read_hex, read_number, read_string, read_truth,
@@ -50,7 +52,8 @@ fn closing(keyed: bool) -> u8
 /// it.
 #[cycle(read)]
 fn read_value<'a>(out: &mut Vec<u8>, i: &'a [u8], depth_left: usize) -> Result<&'a [u8], NoMemory>
-    ensures { Reads (λ rest. rest.now) (read_value depth_left i.now) out.old.items out.new.items result }
+    ensures { Reads (λ rest. rest.now)
+        (read_value depth_left i.now) out.old.items out.new.items result }
 {
     match i {
         [] => Ok(i),
@@ -74,7 +77,8 @@ fn read_after_tag<'a>(
     i: &'a [u8],
     depth_left: usize,
 ) -> Result<&'a [u8], NoMemory>
-    ensures { Reads (λ rest. rest.now) (read_behind (read_lists depth_left) tag i.now) out.old.items out.new.items result }
+    ensures { Reads (λ rest. rest.now)
+        (read_behind (read_lists depth_left) tag i.now) out.old.items out.new.items result }
 {
     match tag {
         FieldTag::Boolean => read_truth(out, i),
@@ -100,7 +104,8 @@ pub(crate) fn read_list<'a>(
     keyed: bool,
     depth_left: usize,
 ) -> Result<&'a [u8], NoMemory>
-    ensures { Reads (λ rest. rest.now) (read_lists depth_left keyed i.now) out.old.items out.new.items result }
+    ensures { Reads (λ rest. rest.now)
+        (read_lists depth_left keyed i.now) out.old.items out.new.items result }
 {
     if depth_left == 0 {
         return Ok(i);
@@ -119,7 +124,9 @@ fn read_items<'a>(
     keyed: bool,
     depth_left: usize,
 ) -> Result<&'a [u8], NoMemory>
-    ensures { Reads (λ rest. rest.now) (inside (or_comma (read_item (read_value depth_left) keyed)) (closing keyed) i.now) out.old.items out.new.items result }
+    ensures { Reads (λ rest. rest.now)
+        (inside (or_comma (read_item (read_value depth_left) keyed)) (closing keyed) i.now)
+        out.old.items out.new.items result }
 {
     let mut left = i.len();
     let mut rest = bytes_from(i, 1);
@@ -143,7 +150,8 @@ fn read_item<'a>(
     keyed: bool,
     depth_left: usize,
 ) -> Result<&'a [u8], NoMemory>
-    ensures { Reads (λ rest. rest.now) (or_comma (read_item (read_value depth_left) keyed) i.now) out.old.items out.new.items result }
+    ensures { Reads (λ rest. rest.now) (or_comma (read_item (read_value depth_left) keyed) i.now)
+        out.old.items out.new.items result }
 {
     if begins_with(i, b',') {
         return Ok(bytes_from(i, 1));

@@ -2,10 +2,14 @@
 //! as something: the bytes are rendered again, and a text that differs is refused.
 #![tactic(auto)]
 
-ghost use Rattle.std.specs.Prelude.{◌≡◌, ◌≤◌, ◌<◌, ◌+◌, ◌-◌, ◌*◌, ◌%◌, ◌^◌, ◌++◌, length, get_or, replicate, IfOk, OnOk};
+ghost use Rattle.std.specs.Prelude.{◌≡◌, ◌≤◌, ◌<◌, ◌+◌, ◌-◌, ◌*◌, ◌%◌, ◌^◌, ◌++◌, length};
+ghost use Rattle.std.specs.Prelude.{get_or, replicate, IfOk, OnOk};
 ghost use Rattle.amqp_types.specs.Flags.{bit_of};
 ghost use Rattle.amqp_types.specs.Writing.{written};
-ghost use Rattle.amqp_lines.specs.Reading.{Finds, Reads, ends_at, first_is, inside, is_digit, is_hex, last_bytes, nibble, read_bits, read_digits, read_escaped, read_flags, read_hex, read_number, read_signs, read_string, read_truth};
+ghost use Rattle.amqp_lines.specs.Reading.{Finds, Reads, ends_at, first_is, inside, is_digit};
+ghost use Rattle.amqp_lines.specs.Reading.{is_hex, last_bytes, nibble, read_bits, read_digits};
+ghost use Rattle.amqp_lines.specs.Reading.{read_escaped, read_flags, read_hex, read_number};
+ghost use Rattle.amqp_lines.specs.Reading.{read_signs, read_string, read_truth};
 
 use crate::words::write_bytes;
 use amqp_canonical::bytes_from;
@@ -88,7 +92,8 @@ pub(crate) fn read_number<'a>(
     i: &'a [u8],
 ) -> Result<&'a [u8], NoMemory>
     requires few { count ≤ 8 }
-    ensures { Reads (λ rest. rest.now) (read_number count i.now) out.old.items out.new.items result }
+    ensures { Reads (λ rest. rest.now)
+        (read_number count i.now) out.old.items out.new.items result }
 {
     let (number, rest) = read_bits(i);
     write_bytes(out, bytes_from(&number.to_be_bytes(), 8 - count))?;
@@ -214,7 +219,8 @@ pub(crate) fn read_escaped<'a>(out: &mut Vec<u8>, i: &'a [u8]) -> Result<&'a [u8
 
 /// Appends the bytes of a quoted string after its quote.
 fn read_characters<'a>(out: &mut Vec<u8>, i: &'a [u8]) -> Result<&'a [u8], NoMemory>
-    ensures { Reads (λ rest. rest.now) (inside read_escaped 34 i.now) out.old.items out.new.items result }
+    ensures { Reads (λ rest. rest.now)
+        (inside read_escaped 34 i.now) out.old.items out.new.items result }
 {
     let mut left = i.len();
     let mut rest = bytes_from(i, 1);
@@ -254,7 +260,8 @@ pub(crate) fn put_last(out: &mut Vec<u8>, place: usize, count: usize, number: u6
 pub(crate) fn put_length(out: &mut Vec<u8>, place: usize, width: usize)
     requires few { width ≤ 8 }
     requires room { place + width ≤ length out.old.items }
-    ensures { out.new.items ≡ written out.old.items place (last_bytes width (length out.old.items - (place + width))) }
+    ensures { out.new.items
+        ≡ written out.old.items place (last_bytes width (length out.old.items - (place + width))) }
 {
     let size = out.len() - (place + width);
     put_last(out, place, width, size as u64)
@@ -267,7 +274,8 @@ pub(crate) fn read_string<'a>(
     i: &'a [u8],
 ) -> Result<&'a [u8], NoMemory>
     requires few { width ≤ 8 }
-    ensures { Reads (λ rest. rest.now) (read_string width i.now) out.old.items out.new.items result }
+    ensures { Reads (λ rest. rest.now)
+        (read_string width i.now) out.old.items out.new.items result }
 {
     let place = keep_place(out, width as u64)?;
     let rest = read_characters(out, i)?;

@@ -6,7 +6,8 @@ ghost use Rattle.amqp_types.specs.Calls.{Parses, NeedsNoMemory, Measures, HasRoo
 ghost use Rattle.amqp_types.specs.Writing.{Puts, Appends};
 ghost use Rattle.amqp_types.specs.Methods.{method, judge_method, method_bytes, method_size};
 ghost use Rattle.amqp_values.specs.MethodFields.{ListsMethod};
-ghost use Rattle.amqp_topology.specs.Queue.{declare_method, declare_ok_method, purge_method, purge_ok_method, delete_method, delete_ok_method};
+ghost use Rattle.amqp_topology.specs.Queue.{declare_method, declare_ok_method, purge_method};
+ghost use Rattle.amqp_topology.specs.Queue.{purge_ok_method, delete_method, delete_ok_method};
 
 use amqp_values::{
     Boolean, Field, FieldTable, Flags, GenError, Identifier, LongUInt, NoMemory, ParserError,
@@ -58,7 +59,8 @@ impl Declare {
     /// The method whose fields are empty, zero and false.
     pub fn empty(alloc: Global) -> Declare
         ensures { declare_method result ≡ method 50 10
-            (text_item [] ∷ flag_item false ∷ flag_item false ∷ flag_item false ∷ flag_item false ∷ flag_item false ∷ entries_item [] ∷ []) }
+            (text_item [] ∷ flag_item false ∷ flag_item false ∷ flag_item false
+            ∷ flag_item false ∷ flag_item false ∷ entries_item [] ∷ []) }
     {
         Declare {
             queue: ShortString::empty(alloc),
@@ -136,7 +138,8 @@ pub fn size_declare(method: &Declare) -> Result<u64, GenError>
 
 /// Puts the method id and the fields of `Declare` at a place of a slice, and returns the place after.
 pub fn put_declare(buf: &mut [u8], at: usize, method: &Declare) -> usize
-    requires { HasRoom buf.old at (method_size (declare_method method.now)) (method_bytes (declare_method method.now)) }
+    requires { HasRoom buf.old at (method_size (declare_method method.now))
+        (method_bytes (declare_method method.now)) }
     ensures { Puts buf.old buf.new at (method_bytes (declare_method method.now)) result }
 {
     put_fields(buf, at, &declare_fields(method)[1..])
@@ -144,7 +147,8 @@ pub fn put_declare(buf: &mut [u8], at: usize, method: &Declare) -> usize
 
 /// Appends the method id and the fields of `Declare` to a vector.
 pub fn gen_declare(_alloc: Global, out: &mut Vec<u8>, method: &Declare) -> Result<(), GenError>
-    ensures { Appends out.old.items out.new.items (method_size (declare_method method.now)) (method_bytes (declare_method method.now)) result }
+    ensures { Appends out.old.items out.new.items (method_size (declare_method method.now))
+        (method_bytes (declare_method method.now)) result }
 {
     gen_fields(out, &declare_fields(method)[1..])
 }
@@ -179,7 +183,8 @@ impl DeclareOk {
 
     /// The method whose fields are empty, zero and false.
     pub fn empty(alloc: Global) -> DeclareOk
-        ensures { declare_ok_method result ≡ method 50 11 (text_item [] ∷ number_item 0 ∷ number_item 0 ∷ []) }
+        ensures { declare_ok_method result
+            ≡ method 50 11 (text_item [] ∷ number_item 0 ∷ number_item 0 ∷ []) }
     {
         DeclareOk {
             queue: ShortString::empty(alloc),
@@ -238,7 +243,8 @@ pub fn size_declare_ok(method: &DeclareOk) -> Result<u64, GenError>
 
 /// Puts the method id and the fields of `DeclareOk` at a place of a slice, and returns the place after.
 pub fn put_declare_ok(buf: &mut [u8], at: usize, method: &DeclareOk) -> usize
-    requires { HasRoom buf.old at (method_size (declare_ok_method method.now)) (method_bytes (declare_ok_method method.now)) }
+    requires { HasRoom buf.old at (method_size (declare_ok_method method.now))
+        (method_bytes (declare_ok_method method.now)) }
     ensures { Puts buf.old buf.new at (method_bytes (declare_ok_method method.now)) result }
 {
     put_fields(buf, at, &declare_ok_fields(method)[1..])
@@ -246,7 +252,8 @@ pub fn put_declare_ok(buf: &mut [u8], at: usize, method: &DeclareOk) -> usize
 
 /// Appends the method id and the fields of `DeclareOk` to a vector.
 pub fn gen_declare_ok(_alloc: Global, out: &mut Vec<u8>, method: &DeclareOk) -> Result<(), GenError>
-    ensures { Appends out.old.items out.new.items (method_size (declare_ok_method method.now)) (method_bytes (declare_ok_method method.now)) result }
+    ensures { Appends out.old.items out.new.items (method_size (declare_ok_method method.now))
+        (method_bytes (declare_ok_method method.now)) result }
 {
     gen_fields(out, &declare_ok_fields(method)[1..])
 }
@@ -334,7 +341,8 @@ pub fn size_purge(method: &Purge) -> Result<u64, GenError>
 
 /// Puts the method id and the fields of `Purge` at a place of a slice, and returns the place after.
 pub fn put_purge(buf: &mut [u8], at: usize, method: &Purge) -> usize
-    requires { HasRoom buf.old at (method_size (purge_method method.now)) (method_bytes (purge_method method.now)) }
+    requires { HasRoom buf.old at (method_size (purge_method method.now))
+        (method_bytes (purge_method method.now)) }
     ensures { Puts buf.old buf.new at (method_bytes (purge_method method.now)) result }
 {
     put_fields(buf, at, &purge_fields(method)[1..])
@@ -342,7 +350,8 @@ pub fn put_purge(buf: &mut [u8], at: usize, method: &Purge) -> usize
 
 /// Appends the method id and the fields of `Purge` to a vector.
 pub fn gen_purge(_alloc: Global, out: &mut Vec<u8>, method: &Purge) -> Result<(), GenError>
-    ensures { Appends out.old.items out.new.items (method_size (purge_method method.now)) (method_bytes (purge_method method.now)) result }
+    ensures { Appends out.old.items out.new.items (method_size (purge_method method.now))
+        (method_bytes (purge_method method.now)) result }
 {
     gen_fields(out, &purge_fields(method)[1..])
 }
@@ -412,7 +421,8 @@ pub fn size_purge_ok(method: &PurgeOk) -> Result<u64, GenError>
 
 /// Puts the method id and the fields of `PurgeOk` at a place of a slice, and returns the place after.
 pub fn put_purge_ok(buf: &mut [u8], at: usize, method: &PurgeOk) -> usize
-    requires { HasRoom buf.old at (method_size (purge_ok_method method.now)) (method_bytes (purge_ok_method method.now)) }
+    requires { HasRoom buf.old at (method_size (purge_ok_method method.now))
+        (method_bytes (purge_ok_method method.now)) }
     ensures { Puts buf.old buf.new at (method_bytes (purge_ok_method method.now)) result }
 {
     put_fields(buf, at, &purge_ok_fields(method)[1..])
@@ -420,7 +430,8 @@ pub fn put_purge_ok(buf: &mut [u8], at: usize, method: &PurgeOk) -> usize
 
 /// Appends the method id and the fields of `PurgeOk` to a vector.
 pub fn gen_purge_ok(_alloc: Global, out: &mut Vec<u8>, method: &PurgeOk) -> Result<(), GenError>
-    ensures { Appends out.old.items out.new.items (method_size (purge_ok_method method.now)) (method_bytes (purge_ok_method method.now)) result }
+    ensures { Appends out.old.items out.new.items (method_size (purge_ok_method method.now))
+        (method_bytes (purge_ok_method method.now)) result }
 {
     gen_fields(out, &purge_ok_fields(method)[1..])
 }
@@ -458,7 +469,9 @@ impl Delete {
 
     /// The method whose fields are empty, zero and false.
     pub fn empty(alloc: Global) -> Delete
-        ensures { delete_method result ≡ method 50 40 (text_item [] ∷ flag_item false ∷ flag_item false ∷ flag_item false ∷ []) }
+        ensures { delete_method result
+            ≡ method 50 40
+            (text_item [] ∷ flag_item false ∷ flag_item false ∷ flag_item false ∷ []) }
     {
         Delete {
             queue: ShortString::empty(alloc),
@@ -520,7 +533,8 @@ pub fn size_delete(method: &Delete) -> Result<u64, GenError>
 
 /// Puts the method id and the fields of `Delete` at a place of a slice, and returns the place after.
 pub fn put_delete(buf: &mut [u8], at: usize, method: &Delete) -> usize
-    requires { HasRoom buf.old at (method_size (delete_method method.now)) (method_bytes (delete_method method.now)) }
+    requires { HasRoom buf.old at (method_size (delete_method method.now))
+        (method_bytes (delete_method method.now)) }
     ensures { Puts buf.old buf.new at (method_bytes (delete_method method.now)) result }
 {
     put_fields(buf, at, &delete_fields(method)[1..])
@@ -528,7 +542,8 @@ pub fn put_delete(buf: &mut [u8], at: usize, method: &Delete) -> usize
 
 /// Appends the method id and the fields of `Delete` to a vector.
 pub fn gen_delete(_alloc: Global, out: &mut Vec<u8>, method: &Delete) -> Result<(), GenError>
-    ensures { Appends out.old.items out.new.items (method_size (delete_method method.now)) (method_bytes (delete_method method.now)) result }
+    ensures { Appends out.old.items out.new.items (method_size (delete_method method.now))
+        (method_bytes (delete_method method.now)) result }
 {
     gen_fields(out, &delete_fields(method)[1..])
 }
@@ -598,7 +613,8 @@ pub fn size_delete_ok(method: &DeleteOk) -> Result<u64, GenError>
 
 /// Puts the method id and the fields of `DeleteOk` at a place of a slice, and returns the place after.
 pub fn put_delete_ok(buf: &mut [u8], at: usize, method: &DeleteOk) -> usize
-    requires { HasRoom buf.old at (method_size (delete_ok_method method.now)) (method_bytes (delete_ok_method method.now)) }
+    requires { HasRoom buf.old at (method_size (delete_ok_method method.now))
+        (method_bytes (delete_ok_method method.now)) }
     ensures { Puts buf.old buf.new at (method_bytes (delete_ok_method method.now)) result }
 {
     put_fields(buf, at, &delete_ok_fields(method)[1..])
@@ -606,7 +622,8 @@ pub fn put_delete_ok(buf: &mut [u8], at: usize, method: &DeleteOk) -> usize
 
 /// Appends the method id and the fields of `DeleteOk` to a vector.
 pub fn gen_delete_ok(_alloc: Global, out: &mut Vec<u8>, method: &DeleteOk) -> Result<(), GenError>
-    ensures { Appends out.old.items out.new.items (method_size (delete_ok_method method.now)) (method_bytes (delete_ok_method method.now)) result }
+    ensures { Appends out.old.items out.new.items (method_size (delete_ok_method method.now))
+        (method_bytes (delete_ok_method method.now)) result }
 {
     gen_fields(out, &delete_ok_fields(method)[1..])
 }

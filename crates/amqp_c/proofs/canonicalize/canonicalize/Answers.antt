@@ -11,13 +11,17 @@ frames-init c = going_start _ _ _ _
 pub overflow_add-used : goal.overflow_add-used
 overflow_add-used c =
     let put = rw take_rest at c.in-Ok.ensures in
-    let falls = going_falls (level_of c.args.profile) c.args.max_payload c.args.bytes.now c.frames.out c.put_front.new.out c.frames.used c.frames.written c.in-Ok.more c.in-Ok.end put in
+    let falls =
+    going_falls (level_of c.args.profile) c.args.max_payload c.args.bytes.now c.frames.out
+    c.put_front.new.out c.frames.used c.frames.written c.in-Ok.more c.in-Ok.end put in
     search (rules, falls.1)
 
 pub frames-smaller : goal.frames-smaller
 frames-smaller c =
     let put = rw take_rest at c.in-Ok.ensures in
-    let falls = going_falls (level_of c.args.profile) c.args.max_payload c.args.bytes.now c.frames.out c.put_front.new.out c.frames.used c.frames.written c.in-Ok.more c.in-Ok.end put in
+    let falls =
+    going_falls (level_of c.args.profile) c.args.max_payload c.args.bytes.now c.frames.out
+    c.put_front.new.out c.frames.used c.frames.written c.in-Ok.more c.in-Ok.end put in
     omega (arith, falls.0, falls.1)
 
 pub frames-preserved : goal.frames-preserved

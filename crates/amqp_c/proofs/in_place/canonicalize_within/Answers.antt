@@ -45,7 +45,11 @@ pub put_bytes-written-requires : goal.put_bytes-written-requires
 put_bytes-written-requires c =
     let is = rw c.in-Ok-Spare.field-0-is at c.in-Ok-Spare.ensures in
     let spare = rw take_rest at is in
-    record { room = spare_fits (level_of c.args.profile) c.args.max_payload c.frames.bytes c.frames.spare c.rewrite_front.new.spare c.frames.used c.frames.written c.in-Ok-Spare.more c.in-Ok-Spare.count spare c.frames.invariant.shorter }
+    record {
+      room =
+          spare_fits (level_of c.args.profile) c.args.max_payload c.frames.bytes c.frames.spare c.rewrite_front.new.spare
+          c.frames.used c.frames.written c.in-Ok-Spare.more c.in-Ok-Spare.count spare c.frames.invariant.shorter;
+    }
 
 pub overflow_add-used-in-Ok-Spare : goal.overflow_add-used-in-Ok-Spare
 overflow_add-used-in-Ok-Spare c =

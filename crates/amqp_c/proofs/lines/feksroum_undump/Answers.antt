@@ -5,7 +5,8 @@ use Rattle.amqp_c.proofs.FrameLines.{clean_is_none, first_holds, front_is_line, 
 use Rattle.amqp_c.proofs.lines.feksroum_undump.Goals as goal
 
 pub returns-in_default-clause-line : goal.returns-in_default-clause-line
-returns-in_default-clause-line c = λ frame rest strict e lasts. absurd (clean_is_none c.args.max_payload c.args.text.now rest frame c.in_default.ensures strict e)
+returns-in_default-clause-line c =
+    λ frame rest strict e lasts. absurd (clean_is_none c.args.max_payload c.args.text.now rest frame c.in_default.ensures strict e)
 
 pub returns-in_default-clause-none : goal.returns-in_default-clause-none
 returns-in_default-clause-none c = λ holds none lasts. absurd (holds_none c.args.text.now c.in_default.ensures holds)
@@ -13,11 +14,13 @@ returns-in_default-clause-none c = λ holds none lasts. absurd (holds_none c.arg
 pub returns-in-Ok-clause-line : goal.returns-in-Ok-clause-line
 returns-in-Ok-clause-line c = λ frame rest strict e lasts.
     let found = c.in-Ok.ensures in
-    undumped_front c.args.max_payload c.args.text.now rest found.0 c.deref.result.now c.args.out.now c.write_front.new.out c.in-Some.end frame c.write_front.result c.in-Some.ensures found.1
+    undumped_front c.args.max_payload c.args.text.now rest found.0 c.deref.result.now c.args.out.now
+    c.write_front.new.out c.in-Some.end frame c.write_front.result c.in-Some.ensures found.1
     (c.deref.ensures.value ∙ found.2 ∙ ap (λ (xs : List ℕ). xs ++ found.0) c.new-canonical.ensures.items) strict e c.write_front.ensures
 
 pub returns-in-Ok-clause-none : goal.returns-in-Ok-clause-none
-returns-in-Ok-clause-none c = λ holds none lasts. absurd (front_is_line c.args.max_payload c.args.text.now c.in-Ok.ensures.0 c.in-Some.end c.in-Ok.ensures.1 none)
+returns-in-Ok-clause-none c =
+    λ holds none lasts. absurd (front_is_line c.args.max_payload c.args.text.now c.in-Ok.ensures.0 c.in-Some.end c.in-Ok.ensures.1 none)
 
 pub returns-in-Ok-clause-incomplete : goal.returns-in-Ok-clause-incomplete
 returns-in-Ok-clause-incomplete c = λ clean. absurd (first_holds c.args.text.now c.in-Some.end c.in-Some.ensures clean)

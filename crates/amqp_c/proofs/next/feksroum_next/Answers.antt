@@ -11,7 +11,8 @@ returns-in-Err-CutShort-clause-more c = λ status.
     rw (c.nowhere.ensures, c.least_length.ensures) (cut_more c.args.max_payload c.args.bytes.now cut)
 
 pub returns-in-Err-CutShort-clause-least : goal.returns-in-Err-CutShort-clause-least
-returns-in-Err-CutShort-clause-least c = λ rest raw used status found. rw (c.nowhere.ensures, c.least_length.ensures) (cut_least c.args.max_payload c.args.bytes.now rest raw used found)
+returns-in-Err-CutShort-clause-least c =
+    λ rest raw used status found. rw (c.nowhere.ensures, c.least_length.ensures) (cut_least c.args.max_payload c.args.bytes.now rest raw used found)
 
 pub returns-in-Err-CutShort-clause-limited : goal.returns-in-Err-CutShort-clause-limited
 returns-in-Err-CutShort-clause-limited c =

@@ -7,7 +7,9 @@ use Rattle.amqp_c.proofs.recutting.feksroum_piece_at.Goals as goal
 pub returns-then-k-count_pieces-clause-piece : goal.returns-then-k-count_pieces-clause-piece
 returns-then-k-count_pieces-clause-piece c = λ less flag front body channel front_is body_is.
     let many : c.count_pieces.result ≤ c.args.k = grind (arith, nat_tests) in
-    no_piece_at c.args.size (c.from.result + c.from-2.result) c.args.k channel (c.args.ends == 1) front body c.no_piece-then-k-count_pieces.result (omega (arith, front_is, body_is, c.from.ensures, c.from-2.ensures)) (subst (λ n. n ≤ c.args.k) c.count_pieces.ensures many) c.no_piece-then-k-count_pieces.ensures
+    no_piece_at c.args.size (c.from.result + c.from-2.result) c.args.k channel
+    (c.args.ends == 1) front body c.no_piece-then-k-count_pieces.result (omega (arith, front_is, body_is, c.from.ensures, c.from-2.ensures))
+    (subst (λ n. n ≤ c.args.k) c.count_pieces.ensures many) c.no_piece-then-k-count_pieces.ensures
 
 pub returns-then-k-eq0-clause-piece : goal.returns-then-k-eq0-clause-piece
 returns-then-k-eq0-clause-piece c = λ less flag front body channel front_is body_is.
@@ -15,7 +17,8 @@ returns-then-k-eq0-clause-piece c = λ less flag front body channel front_is bod
     let some : c.args.k < c.count_pieces.result = grind (arith, nat_tests) in
     let first : c.args.k ≡ 0 = grind (arith, nat_tests) in
     let least : c.min-count.result ≡ min (total - c.args.k * c.from-3.result) c.from-4.result = search rules in
-    first_at c.args.size total c.args.k c.min-count.result c.args.held channel (c.args.ends == 1) front body front_is less (omega (arith, front_is, body_is, c.from.ensures, c.from-2.ensures)) first (subst (λ n. c.args.k < n) c.count_pieces.ensures some)
+    first_at c.args.size total c.args.k c.min-count.result c.args.held channel (c.args.ends == 1) front body front_is less
+    (omega (arith, front_is, body_is, c.from.ensures, c.from-2.ensures)) first (subst (λ n. c.args.k < n) c.count_pieces.ensures some)
     (least ∙ ap₂ (λ x y. min (total - c.args.k * x) y) c.from-3.ensures c.from-4.ensures)
 
 pub returns-clause-piece : goal.returns-clause-piece
@@ -24,7 +27,8 @@ returns-clause-piece c = λ less flag front body channel front_is body_is.
     let some : c.args.k < c.count_pieces.result = grind (arith, nat_tests) in
     let later : 1 ≤ c.args.k = grind (arith, nat_tests) in
     let least : c.min-count.result ≡ min (total - c.args.k * c.from-3.result) c.from-4.result = search rules in
-    later_at c.args.size total c.args.k (c.args.k * c.from-3.result - c.from-5.result) c.min-count.result c.args.held channel (c.args.ends == 1) front body front_is less (omega (arith, front_is, body_is, c.from.ensures, c.from-2.ensures)) later (subst (λ n. c.args.k < n) c.count_pieces.ensures some)
+    later_at c.args.size total c.args.k (c.args.k * c.from-3.result - c.from-5.result) c.min-count.result c.args.held channel (c.args.ends == 1) front
+    body front_is less (omega (arith, front_is, body_is, c.from.ensures, c.from-2.ensures)) later (subst (λ n. c.args.k < n) c.count_pieces.ensures some)
     (ap₂ (λ x y. c.args.k * x - y) c.from-3.ensures c.from-5.ensures)
     (least ∙ ap₂ (λ x y. min (total - c.args.k * x) y) c.from-3.ensures c.from-4.ensures)
 
@@ -35,6 +39,7 @@ returns-clause-within c =
     let some : c.args.k < c.count_pieces.result = grind (arith, nat_tests) in
     let later : 1 ≤ c.args.k = grind (arith, nat_tests) in
     let least : c.min-count.result ≡ min (total - c.args.k * c.from-3.result) c.from-4.result = search rules in
-    later_within c.args.size total c.args.k (c.args.k * c.from-3.result - c.from-5.result) c.min-count.result c.args.held c.args.len (c.args.ends == 1) less (omega (arith, c.from.ensures, c.from-2.ensures)) later (subst (λ n. c.args.k < n) c.count_pieces.ensures some)
+    later_within c.args.size total c.args.k (c.args.k * c.from-3.result - c.from-5.result) c.min-count.result c.args.held c.args.len
+    (c.args.ends == 1) less (omega (arith, c.from.ensures, c.from-2.ensures)) later (subst (λ n. c.args.k < n) c.count_pieces.ensures some)
     (ap₂ (λ x y. c.args.k * x - y) c.from-3.ensures c.from-5.ensures)
     (least ∙ ap₂ (λ x y. min (total - c.args.k * x) y) c.from-3.ensures c.from-4.ensures)

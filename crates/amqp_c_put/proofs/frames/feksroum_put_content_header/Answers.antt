@@ -10,7 +10,8 @@ returns-clause-put c second lowest =
     let p = c.args.properties.now in
     record {
       result = c.put_masked_header-put.result;
-      returned = without_headers p (entries_item []) (headers_item p) None (headers_flaw p) c.args.out.now c.put_masked_header-put.new.out c.args.max_payload c.args.channel _ c.args.body_size c.put_masked_header-put.result
+      returned = without_headers p (entries_item []) (headers_item p) None (headers_flaw p) c.args.out.now c.put_masked_header-put.new.out c.args.max_payload
+          c.args.channel _ c.args.body_size c.put_masked_header-put.result
           (sym c.has_bit.ensures ∙ c.if-has_bit.false) c.put_masked_header-put.ensures;
       report_is = c.report.ensures;
     }

@@ -23,22 +23,27 @@ pub returns-in_err-class-clause-judged : goal.returns-in_err-class-clause-judged
 unfolding header_slots
 returns-in_err-class-clause-judged c =
     let bytes = c.args.i.now in
-    err_passed (SpellsSlots strict header_slots) (SpellsSlots tidy header_slots) bytes _ c.in_err-class.field-0.0 _ c.from_residual.ensures.1 (no_first class weight size bytes c.in_err-class.field-0.0 c.in_err-class.ensures.judged)
+    err_passed (SpellsSlots strict header_slots) (SpellsSlots tidy header_slots) bytes _ c.in_err-class.field-0.0 _ c.from_residual.ensures.1
+    (no_first class weight size bytes c.in_err-class.field-0.0 c.in_err-class.ensures.judged)
 
 pub returns-in_err-weight-clause-judged : goal.returns-in_err-weight-clause-judged
 unfolding header_slots
 returns-in_err-weight-clause-judged c =
     let bytes = c.args.i.now in
-    err_passed (SpellsSlots strict header_slots) (SpellsSlots tidy header_slots) bytes _ c.in_err-weight.field-0.0 _ c.from_residual-in_err-weight.ensures.1 (no_second class weight size bytes c.in_ok-class.class c.in_err-weight.field-0.0 c.in_ok-class.ensures.judged (rw take_rest at c.in_err-weight.ensures.judged))
+    err_passed (SpellsSlots strict header_slots) (SpellsSlots tidy header_slots) bytes _ c.in_err-weight.field-0.0 _ c.from_residual-in_err-weight.ensures.1
+    (no_second class weight size bytes c.in_ok-class.class c.in_err-weight.field-0.0 c.in_ok-class.ensures.judged
+    (rw take_rest at c.in_err-weight.ensures.judged))
 
 pub returns-in_err-size-clause-judged : goal.returns-in_err-size-clause-judged
 unfolding header_slots
 returns-in_err-size-clause-judged c =
     let bytes = c.args.i.now in
     err_passed (SpellsSlots strict header_slots) (SpellsSlots tidy header_slots) bytes _ c.in_err-size.field-0.0 _ c.from_residual-in_err-size.ensures.1
-    (three_fields class weight size bytes c.in_ok-class.class c.in_ok-weight.weight (Err c.in_err-size.field-0.0) c.in_ok-class.ensures.judged (rw take_rest at c.in_ok-weight.ensures.judged) (rw take_rest at (rw take_rest at c.in_err-size.ensures.judged)))
+    (three_fields class weight size bytes c.in_ok-class.class c.in_ok-weight.weight (Err c.in_err-size.field-0.0) c.in_ok-class.ensures.judged
+    (rw take_rest at c.in_ok-weight.ensures.judged) (rw take_rest at (rw take_rest at c.in_err-size.ensures.judged)))
 
 pub returns-clause-judged : goal.returns-clause-judged
 unfolding header_slots
 returns-clause-judged c =
-    three_fields class weight size c.args.i.now c.in_ok-class.class c.in_ok-weight.weight (Ok c.in_ok-size.size) c.in_ok-class.ensures.judged (rw take_rest at c.in_ok-weight.ensures.judged) (rw take_rest at (rw take_rest at c.in_ok-size.ensures.judged))
+    three_fields class weight size c.args.i.now c.in_ok-class.class c.in_ok-weight.weight (Ok c.in_ok-size.size) c.in_ok-class.ensures.judged
+    (rw take_rest at c.in_ok-weight.ensures.judged) (rw take_rest at (rw take_rest at c.in_ok-size.ensures.judged))

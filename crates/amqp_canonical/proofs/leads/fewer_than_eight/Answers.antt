@@ -13,19 +13,49 @@ pub returns-in-len1 : goal.returns-in-len1
 returns-in-len1 c =
     let key = c.args.key.now in
     let none : (k : ℕ) → 1 ≤ k → get_or key k 0 ≡ 0 = λ k up. beyond key k (omega (arith, up, c.in-len1.len_below)) in
-    omega (arith, c.from_be_bytes.ensures, eight_are key, none 1 (omega arith), none 2 (omega arith), none 3 (omega arith), none 4 (omega arith), none 5 (omega arith), none 6 (omega arith), none 7 (omega arith))
+    omega (
+      arith,
+      c.from_be_bytes.ensures,
+      eight_are key,
+      none 1 (omega arith),
+      none 2 (omega arith),
+      none 3 (omega arith),
+      none 4 (omega arith),
+      none 5 (omega arith),
+      none 6 (omega arith),
+      none 7 (omega arith),
+    )
 
 pub returns-in-len2 : goal.returns-in-len2
 returns-in-len2 c =
     let key = c.args.key.now in
     let none : (k : ℕ) → 2 ≤ k → get_or key k 0 ≡ 0 = λ k up. beyond key k (omega (arith, up, c.in-len2.len_below)) in
-    omega (arith, c.from_be_bytes-in-len2.ensures, eight_are key, none 2 (omega arith), none 3 (omega arith), none 4 (omega arith), none 5 (omega arith), none 6 (omega arith), none 7 (omega arith))
+    omega (
+      arith,
+      c.from_be_bytes-in-len2.ensures,
+      eight_are key,
+      none 2 (omega arith),
+      none 3 (omega arith),
+      none 4 (omega arith),
+      none 5 (omega arith),
+      none 6 (omega arith),
+      none 7 (omega arith),
+    )
 
 pub returns-in-len3 : goal.returns-in-len3
 returns-in-len3 c =
     let key = c.args.key.now in
     let none : (k : ℕ) → 3 ≤ k → get_or key k 0 ≡ 0 = λ k up. beyond key k (omega (arith, up, c.in-len3.len_below)) in
-    omega (arith, c.from_be_bytes-in-len3.ensures, eight_are key, none 3 (omega arith), none 4 (omega arith), none 5 (omega arith), none 6 (omega arith), none 7 (omega arith))
+    omega (
+      arith,
+      c.from_be_bytes-in-len3.ensures,
+      eight_are key,
+      none 3 (omega arith),
+      none 4 (omega arith),
+      none 5 (omega arith),
+      none 6 (omega arith),
+      none 7 (omega arith),
+    )
 
 pub returns-in-len4 : goal.returns-in-len4
 returns-in-len4 c =

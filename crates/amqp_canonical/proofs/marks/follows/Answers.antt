@@ -3,7 +3,8 @@ use Rattle.std.proofs.Common.{◌≡◌, ◌<◌, ◌≤◌, inr, arith}
 use Rattle.std.proofs.lemmas.Bool.Decides.{nat_tests}
 use Rattle.amqp_canonical.proofs.Leading.{lead_tells, more_tells, size_tells, size_ties}
 use Rattle.amqp_canonical.proofs.marks.follows.Goals as goal
-use Rattle.amqp_canonical.proofs.marks.follows.Goals.{else-previous-gt-MARKED-via-then-previous-gt-MARKED+else-mark-gt-MARKED, else-previous-gt-MARKED-via-else-previous-gt-MARKED}
+use Rattle.amqp_canonical.proofs.marks.follows.Goals.{else-previous-gt-MARKED-via-then-previous-gt-MARKED+else-mark-gt-MARKED}
+use Rattle.amqp_canonical.proofs.marks.follows.Goals.{else-previous-gt-MARKED-via-else-previous-gt-MARKED}
 
 pub returns-then-previous-mark : goal.returns-then-previous-mark
 returns-then-previous-mark c = λ tested.
@@ -13,7 +14,8 @@ returns-then-previous-mark c = λ tested.
 pub returns-then-previous-mark-2 : goal.returns-then-previous-mark-2
 returns-then-previous-mark-2 c = λ tested.
     let less : c.args.previous.now.more < c.args.mark.now.more = grind (arith, nat_tests) in
-    more_tells c.args.content.now c.args.previous.now c.args.mark.now (λ k. omega (arith, c.type_inv.content k)) c.requires.0 c.requires.1 c.if-previous-mark.false less
+    more_tells c.args.content.now c.args.previous.now c.args.mark.now
+    (λ k. omega (arith, c.type_inv.content k)) c.requires.0 c.requires.1 c.if-previous-mark.false less
 
 pub returns-then-previous-mark-3 : goal.returns-then-previous-mark-3
 returns-then-previous-mark-3 c = λ tested.
@@ -24,7 +26,8 @@ returns-then-previous-mark-3 c = λ tested.
       | else-previous-gt-MARKED-via-then-previous-gt-MARKED+else-mark-gt-MARKED w ↦ omega (arith, less, w.if-mark-gt-MARKED.false)
       | else-previous-gt-MARKED-via-else-previous-gt-MARKED w ↦ omega (arith, w.if-previous-gt-MARKED.false)
     ] in
-    size_tells c.args.content.now previous mark (λ k. omega (arith, c.type_inv.content k)) c.requires.0 c.requires.1 c.if-previous-mark.false c.if-previous-mark-2.false short less
+    size_tells c.args.content.now previous mark (λ k. omega (arith, c.type_inv.content k))
+    c.requires.0 c.requires.1 c.if-previous-mark.false c.if-previous-mark-2.false short less
 
 pub returns : goal.returns
 returns c = λ tested.
@@ -36,4 +39,8 @@ returns c = λ tested.
       | else-previous-gt-MARKED-via-then-previous-gt-MARKED+else-mark-gt-MARKED w ↦ omega (arith, same, w.if-mark-gt-MARKED.false)
       | else-previous-gt-MARKED-via-else-previous-gt-MARKED w ↦ omega (arith, w.if-previous-gt-MARKED.false)
     ] in
-    inr (size_ties c.args.content.now previous mark (λ k. omega (arith, c.type_inv.content k)) c.requires.0 c.requires.1 c.if-previous-mark.false c.if-previous-mark-2.false same short, less)
+    inr (
+      size_ties c.args.content.now previous mark (λ k. omega (arith, c.type_inv.content k))
+          c.requires.0 c.requires.1 c.if-previous-mark.false c.if-previous-mark-2.false same short,
+      less,
+    )

@@ -30,7 +30,13 @@ loop-at-preserved c =
     let marks = c.loop-at.marks in
     let content = c.args.content.now in
     let span = c.entry_span-span.result in
-    let mark : EntryMark = record { lead = c.first_ten-lead.result.0; place = at; more = c.first_ten-lead.result.1; key_size = length c.split_key.result.0.now; size = c.size_copied.result } in
+    let mark : EntryMark = record {
+      lead = c.first_ten-lead.result.0;
+      place = at;
+      more = c.first_ten-lead.result.1;
+      key_size = length c.split_key.result.0.now;
+      size = c.size_copied.result;
+    } in
     let more : count < length marks = omega (arith, c.loop-at.invariant.1, c.if-count-marks.false) in
     let key = (rw take_rest at c.split_key.ensures.key) in
     let sized = rw take_rest at c.entry_span-span.ensures.used in
@@ -39,7 +45,9 @@ loop-at-preserved c =
       first = c.first_ten-lead.ensures.first ∙ ap (leading 8) key;
       next = c.first_ten-lead.ensures.next ∙ ap (λ k. leading 2 (drop 8 k)) key;
       key_length = ap length key;
-      copied = λ some room read. let fits = c.size_copied.ensures some in copied_as entry_bytes (drop at content) span.size c.size_copied.result _ (sym fits.1) (copied fits.0 room read);
+      copied = λ some room read.
+          let fits = c.size_copied.ensures some in
+          copied_as entry_bytes (drop at content) span.size c.size_copied.result _ (sym fits.1) (copied fits.0 room read);
     } in
     let L : List EntryMark → Type 0 = λ ms. All (IsMarkOf content) ms in (
       length-set marks count mark ∙ c.loop-at.invariant.0,
@@ -47,8 +55,10 @@ loop-at-preserved c =
       subst L (sym (take_more_set marks count mark more)) (all_marked content (take count marks) mark c.loop-at.invariant.2 is),
       λ room read.
           let P : List EntryMark → Type 0 = λ ms. MarkedTo room content (at + span.size) ms in
-          subst P (sym (take_more_set marks count mark more)) (marked_next room content at span.size (take count marks) mark (λ k. omega (arith, c.type_inv.content k)) c.loop-at-test.true (sized room) refl (c.loop-at.invariant.3 room read)),
+          subst P (sym (take_more_set marks count mark more)) (marked_next room content at span.size (take count marks) mark
+          (λ k. omega (arith, c.type_inv.content k)) c.loop-at-test.true (sized room) refl (c.loop-at.invariant.3 room read)),
     )
 
 pub returns-clause-marked : goal.returns-clause-marked
-returns-clause-marked c = λ room read. marked_end room c.args.content.now c.loop-at.at (take c.loop-at.count c.loop-at.marks) c.loop-at-test.false (c.loop-at.invariant.3 room read)
+returns-clause-marked c =
+    λ room read. marked_end room c.args.content.now c.loop-at.at (take c.loop-at.count c.loop-at.marks) c.loop-at-test.false (c.loop-at.invariant.3 room read)

@@ -17,7 +17,8 @@ returns-then-put_in_order-clause-table c = λ room read.
     let long = length_permutation old new c.put_in_order.ensures.permuted in
     let same : length new ≡ count = omega (arith, long, length-take-le count c.mark_entries.new.marks c.in_ok-count.ensures.within) in
     let P : List EntryMark → Type 0 = λ ms. AreOfTable room c.args.content.now ms in
-    subst P (sym (take_at new rest count same)) (marks_of_table room c.args.content.now old new (c.in_ok-count.ensures.marked room read) c.put_in_order.ensures.permuted (c.put_in_order.ensures.order c.if-put_in_order.true))
+    subst P (sym (take_at new rest count same)) (marks_of_table room c.args.content.now old new
+    (c.in_ok-count.ensures.marked room read) c.put_in_order.ensures.permuted (c.put_in_order.ensures.order c.if-put_in_order.true))
 
 pub returns-then-put_in_order-clause-each : goal.returns-then-put_in_order-clause-each
 returns-then-put_in_order-clause-each c =

@@ -10,7 +10,8 @@ returns-clause-same c =
     let class = c.short_at-class.ensures (number_here bytes2 c.args.payload.now (omega (arith, c.requires))) in
     let size = rw c.bytes_from-behind.ensures at c.long_long_at-size.ensures in
     let size_here = number_here bytes8 (drop 4 c.args.payload.now) (omega (arith, length-drop 4 c.args.payload.now, c.requires)) in
-    rw c.bytes_from-properties.ensures (header_again c.args.payload.now c.short_at-class.result c.long_long_at-size.result (λ k. omega (arith, c.type_inv.payload k)) c.requires class (size size_here))
+    rw c.bytes_from-properties.ensures (header_again c.args.payload.now c.short_at-class.result c.long_long_at-size.result
+    (λ k. omega (arith, c.type_inv.payload k)) c.requires class (size size_here))
 
 pub returns-clause-as_many : goal.returns-clause-as_many
 returns-clause-as_many c = omega (arith, ap length c.bytes_from-properties.ensures, length-drop 12 c.args.payload.now, c.requires)

@@ -11,4 +11,5 @@ returns c =
     let class = c.short_at-class.ensures (number_here bytes2 payload (omega (arith, c.requires))) in
     let id = rw c.bytes_from-behind.ensures at c.short_at-id.ensures in
     let id_here = number_here bytes2 (drop 2 payload) (omega (arith, length-drop 2 payload, c.requires)) in
-    rw c.bytes_from-slots.ensures (method_again payload c.short_at-class.result c.short_at-id.result (λ k. omega (arith, c.type_inv.payload k)) class (id id_here))
+    rw c.bytes_from-slots.ensures
+    (method_again payload c.short_at-class.result c.short_at-id.result (λ k. omega (arith, c.type_inv.payload k)) class (id id_here))

@@ -14,7 +14,10 @@ pub put_header-requires-clause-read : goal.put_header-requires-clause-read
 put_header-requires-clause-read c = let P : Judged ContentHeader → Type 0 = λ j. IsRead j in subst P (sym c.header_parts-class.ensures.same) c.requires.read
 
 pub put_header-requires-clause-room : goal.put_header-requires-clause-room
-put_header-requires-clause-room c = record { few = omega (arith, ap (λ j. length (canonical_of content_header_bytes j)) c.header_parts-class.ensures.same, c.requires.room); room = λ known. omega (arith, ap (λ j. length (canonical_of content_header_bytes j)) c.header_parts-class.ensures.same, c.requires.room) }
+put_header-requires-clause-room c = record {
+  few = omega (arith, ap (λ j. length (canonical_of content_header_bytes j)) c.header_parts-class.ensures.same, c.requires.room);
+  room = λ known. omega (arith, ap (λ j. length (canonical_of content_header_bytes j)) c.header_parts-class.ensures.same, c.requires.room);
+}
 
 pub returns : goal.returns
 returns c = put_in_room c.requires.room (same_put (ap (λ j. canonical_of content_header_bytes j) c.header_parts-class.ensures.same) c.put_header.ensures)

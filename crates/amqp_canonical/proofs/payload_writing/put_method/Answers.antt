@@ -18,7 +18,12 @@ put_if_room-id_place-requires g c =
 pub put_if_room-place-requires : goal.put_if_room-place-requires
 put_if_room-place-requires g c =
     let h = method_parts c.args.class c.args.id c.args.slots.now (omega (arith, c.ranges.class)) (omega (arith, c.ranges.id)) c.requires.read in
-    record { room = has_room (omega (arith, ap length h.bytes_are, ap length c.to_be_bytes.ensures, c.put_if_room-id_place.ensures.behind, ap length c.to_be_bytes-2.ensures)) c.put_if_room-id_place.ensures.same c.requires.room }
+    record {
+      room =
+          has_room
+          (omega (arith, ap length h.bytes_are, ap length c.to_be_bytes.ensures, c.put_if_room-id_place.ensures.behind, ap length c.to_be_bytes-2.ensures))
+          c.put_if_room-id_place.ensures.same c.requires.room;
+    }
 
 pub put_slots-requires-clause-read : goal.put_slots-requires-clause-read
 put_slots-requires-clause-read g c =
@@ -32,7 +37,17 @@ put_slots-requires-clause-room g c =
     let h = method_parts c.args.class c.args.id c.args.slots.now (omega (arith, c.ranges.class)) (omega (arith, c.ranges.id)) c.requires.read in
     let same : slots_of c.in-Some.shapes.now ≡ h.shapes = same_some (slots_of c.in-Some.shapes.now) h.shapes (c.in-Some.ensures.slots ∙ h.known) in
     let bytes_is = ap (λ s. canonical_of (slots_bytes s) (judge_slots s c.args.slots.now)) same in
-    has_room (omega (arith, ap length h.bytes_are, ap length c.to_be_bytes.ensures, c.put_if_room-id_place.ensures.behind, ap length c.to_be_bytes-2.ensures, c.put_if_room-place.ensures.behind, ap length bytes_is)) (c.put_if_room-place.ensures.same ∙ c.put_if_room-id_place.ensures.same) c.requires.room
+    has_room
+    (omega (
+      arith,
+      ap length h.bytes_are,
+      ap length c.to_be_bytes.ensures,
+      c.put_if_room-id_place.ensures.behind,
+      ap length c.to_be_bytes-2.ensures,
+      c.put_if_room-place.ensures.behind,
+      ap length bytes_is,
+    ))
+    (c.put_if_room-place.ensures.same ∙ c.put_if_room-id_place.ensures.same) c.requires.room
 
 pub returns-in-Some : goal.returns-in-Some
 returns-in-Some g c =

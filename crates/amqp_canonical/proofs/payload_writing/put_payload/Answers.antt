@@ -13,7 +13,10 @@ pub put_method-requires-clause-read : goal.put_method-requires-clause-read
 put_method-requires-clause-read c = let P : List ℕ → Type 0 = λ bs. IsRead (judge_payload bs) in subst P (sym c.method_parts-class.ensures) c.requires.read
 
 pub put_method-requires-clause-room : goal.put_method-requires-clause-room
-put_method-requires-clause-room c = record { few = omega (arith, ap (λ bs. length (canonical_of payload_bytes (judge_payload bs))) c.method_parts-class.ensures, c.requires.room); room = λ known. omega (arith, ap (λ bs. length (canonical_of payload_bytes (judge_payload bs))) c.method_parts-class.ensures, c.requires.room) }
+put_method-requires-clause-room c = record {
+  few = omega (arith, ap (λ bs. length (canonical_of payload_bytes (judge_payload bs))) c.method_parts-class.ensures, c.requires.room);
+  room = λ known. omega (arith, ap (λ bs. length (canonical_of payload_bytes (judge_payload bs))) c.method_parts-class.ensures, c.requires.room);
+}
 
 pub returns : goal.returns
 returns c = put_in_room c.requires.room (same_put (ap (λ bs. canonical_of payload_bytes (judge_payload bs)) c.method_parts-class.ensures) c.put_method.ensures)

@@ -23,7 +23,8 @@ pub put_set-requires-clause-room : goal.put_set-requires-clause-room
 put_set-requires-clause-room g c =
     let h = properties_put c.args.i.now c.short_at-mask.result (λ k. omega (arith, c.type_inv.i k)) c.requires.read c.short_at-mask.ensures in
     let same = ap (λ bs. length (canonical_of (set_bytes properties) (judge_set c.short_at-mask.result properties bs))) c.bytes_from.ensures in
-    has_room (omega (arith, ap length h.bytes_are, ap length c.to_be_bytes.ensures, c.put_if_room-place.ensures.behind, same)) c.put_if_room-place.ensures.same c.requires.room
+    has_room (omega (arith, ap length h.bytes_are, ap length c.to_be_bytes.ensures, c.put_if_room-place.ensures.behind, same))
+    c.put_if_room-place.ensures.same c.requires.room
 
 pub returns : goal.returns
 returns g c =

@@ -23,7 +23,9 @@ put_form-end-requires-clause-read g c =
     let p = property_of shape in
     let is = property_from ps l.shape-index other c.property_shapes-shapes.ensures c.loop-shape-test.true in
     let one = gives_one_at l.shape-index p (drop (l.shape-index + 1) properties) is in
-    let here = property_here c.args.mask properties p c.args.i.now l.rest.now l.shape-index (used_by (judge_form (form_of shape.1) l.rest.now)) c.args.buf.now l.buf c.args.at l.end is one (sym c.has_bit.ensures ∙ c.if-has_bit.true) (λ read. refl) l.invariant in
+    let here =
+    property_here c.args.mask properties p c.args.i.now l.rest.now l.shape-index (used_by (judge_form (form_of shape.1) l.rest.now))
+    c.args.buf.now l.buf c.args.at l.end is one (sym c.has_bit.ensures ∙ c.if-has_bit.true) (λ read. refl) l.invariant in
     here.read
 
 pub put_form-end-requires-clause-room : goal.put_form-end-requires-clause-room
@@ -35,7 +37,9 @@ put_form-end-requires-clause-room g c =
     let p = property_of shape in
     let is = property_from ps l.shape-index other c.property_shapes-shapes.ensures c.loop-shape-test.true in
     let one = gives_one_at l.shape-index p (drop (l.shape-index + 1) properties) is in
-    let here = property_here c.args.mask properties p c.args.i.now l.rest.now l.shape-index (used_by (judge_form (form_of shape.1) l.rest.now)) c.args.buf.now l.buf c.args.at l.end is one (sym c.has_bit.ensures ∙ c.if-has_bit.true) (λ read. refl) l.invariant in
+    let here =
+    property_here c.args.mask properties p c.args.i.now l.rest.now l.shape-index (used_by (judge_form (form_of shape.1) l.rest.now))
+    c.args.buf.now l.buf c.args.at l.end is one (sym c.has_bit.ensures ∙ c.if-has_bit.true) (λ read. refl) l.invariant in
     has_room (omega (arith, here.within)) l.invariant.put.same c.requires.room
 
 pub loop-shape-preserved : goal.loop-shape-preserved
@@ -47,18 +51,24 @@ loop-shape-preserved g c =
     let p = property_of shape in
     let is = property_from ps l.shape-index other c.property_shapes-shapes.ensures c.loop-shape-test.true in
     let one = gives_one_at l.shape-index p (drop (l.shape-index + 1) properties) is in
-    let P : List ℕ → Type 0 = λ rest. SetPut c.args.mask properties c.args.i.now rest (l.shape-index + 1) c.args.buf.now c.if-has_bit.buf c.args.at c.if-has_bit.end in
+    let P : List ℕ → Type 0 =
+    λ rest. SetPut c.args.mask properties c.args.i.now rest (l.shape-index + 1) c.args.buf.now c.if-has_bit.buf c.args.at c.if-has_bit.end in
     elim c.if-has_bit.branch [
       | then-has_bit w ↦
-          let here = property_here c.args.mask properties p c.args.i.now l.rest.now l.shape-index w.form_size.result c.args.buf.now l.buf c.args.at l.end is one (sym c.has_bit.ensures ∙ w.if-has_bit.true) w.form_size.ensures.used l.invariant in
+          let here =
+          property_here c.args.mask properties p c.args.i.now l.rest.now l.shape-index w.form_size.result c.args.buf.now l.buf c.args.at l.end is one
+          (sym c.has_bit.ensures ∙ w.if-has_bit.true) w.form_size.ensures.used l.invariant in
           let next = here.next w.put_form-end.new.buf w.put_form-end.result w.put_form-end.ensures in
           subst P (sym w.bytes_from-rest.ensures ∙ sym (ap (λ r. r.now) w.rest-is)) (rw (w.buf-is, w.end-is) next)
       | else-has_bit w ↦
-          let next = property_past c.args.mask properties p c.args.i.now l.rest.now l.shape-index c.args.buf.now l.buf c.args.at l.end is (sym c.has_bit.ensures ∙ w.if-has_bit.false) l.invariant in
+          let next =
+          property_past c.args.mask properties p c.args.i.now l.rest.now l.shape-index c.args.buf.now l.buf c.args.at l.end is
+          (sym c.has_bit.ensures ∙ w.if-has_bit.false) l.invariant in
           subst P (sym (ap (λ r. r.now) w.rest-is)) (rw (w.buf-is, w.end-is) next)
     ]
 
 pub returns : goal.returns
 returns g c =
     let l = c.loop-shape in
-    set_end c.args.mask properties c.args.i.now l.rest.now l.shape-index c.args.buf.now l.buf c.args.at l.end (properties_all c.property_shapes-shapes.result.now l.shape-index c.property_shapes-shapes.ensures c.loop-shape-test.false) l.invariant
+    set_end c.args.mask properties c.args.i.now l.rest.now l.shape-index c.args.buf.now l.buf c.args.at l.end
+    (properties_all c.property_shapes-shapes.result.now l.shape-index c.property_shapes-shapes.ensures c.loop-shape-test.false) l.invariant

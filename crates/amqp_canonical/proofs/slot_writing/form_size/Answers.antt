@@ -19,7 +19,8 @@ pub returns-in-Flags-clause-used : goal.returns-in-Flags-clause-used
 returns-in-Flags-clause-used c = flags_size c.args.form c.args.i.now _ c.in-Flags.is
 
 pub returns-in-ShortString-clause-used : goal.returns-in-ShortString-clause-used
-returns-in-ShortString-clause-used c = text_size c.args.form c.args.i.now (length c.split_key.result.0.now) (ap length c.split_key.ensures.key) c.in-ShortString.is
+returns-in-ShortString-clause-used c =
+    text_size c.args.form c.args.i.now (length c.split_key.result.0.now) (ap length c.split_key.ensures.key) c.in-ShortString.is
 
 pub returns-in-LongString-clause-used : goal.returns-in-LongString-clause-used
 returns-in-LongString-clause-used c = counted_size c.args.form c.args.i.now c.long_size.result c.long_size.ensures.used c.in-LongString.is

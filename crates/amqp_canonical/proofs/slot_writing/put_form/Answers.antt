@@ -34,32 +34,42 @@ bounds-i-0 g c =
 pub put_if_room-requires : goal.put_if_room-requires
 put_if_room-requires g c =
     let h = flags_slot c.in-Flags.count c.args.i.now (read_as c.args.form (forms.Flags c.in-Flags.count) c.args.i.now c.in-Flags.is c.requires.read) in
-    let put = put_as c.args.form (forms.Flags c.in-Flags.count) c.args.i.now (flags_byte (flags_from c.in-Flags.count 0 (get_or c.args.i.now 0 0)) ∷ []) c.in-Flags.is h.1 in
+    let put =
+    put_as c.args.form (forms.Flags c.in-Flags.count) c.args.i.now
+    (flags_byte (flags_from c.in-Flags.count 0 (get_or c.args.i.now 0 0)) ∷ []) c.in-Flags.is h.1 in
     record { room = has_room (omega (arith, ap length put)) refl c.requires.room }
 
 pub returns-in-Flags : goal.returns-in-Flags
 returns-in-Flags g c =
     let h = flags_slot c.in-Flags.count c.args.i.now (read_as c.args.form (forms.Flags c.in-Flags.count) c.args.i.now c.in-Flags.is c.requires.read) in
-    let put = put_as c.args.form (forms.Flags c.in-Flags.count) c.args.i.now (flags_byte (flags_from c.in-Flags.count 0 (get_or c.args.i.now 0 0)) ∷ []) c.in-Flags.is h.1 in
+    let put =
+    put_as c.args.form (forms.Flags c.in-Flags.count) c.args.i.now
+    (flags_byte (flags_from c.in-Flags.count 0 (get_or c.args.i.now 0 0)) ∷ []) c.in-Flags.is h.1 in
     same_put (ap (λ b. b ∷ []) c.lowest_bits.ensures ∙ sym put) c.put_if_room.ensures
 
 pub slice_bounds-put_if_room-end-in_default : goal.slice_bounds-put_if_room-end-in_default
 slice_bounds-put_if_room-end-in_default g c =
     let d = c.in_default in
     let other = other_form c.args.form d.not-Table d.not-Flags in
-    let h = copied_form (form_of c.args.form) c.args.i.now c.form_size.result other (λ k. omega (arith, c.type_inv.i k)) c.requires.read (c.form_size.ensures.used c.requires.read) in
+    let h =
+    copied_form (form_of c.args.form) c.args.i.now c.form_size.result other
+    (λ k. omega (arith, c.type_inv.i k)) c.requires.read (c.form_size.ensures.used c.requires.read) in
     sym (length-take-le c.form_size.result c.args.i.now h.within)
 
 pub put_if_room-requires-in_default : goal.put_if_room-requires-in_default
 put_if_room-requires-in_default g c =
     let d = c.in_default in
     let other = other_form c.args.form d.not-Table d.not-Flags in
-    let h = copied_form (form_of c.args.form) c.args.i.now c.form_size.result other (λ k. omega (arith, c.type_inv.i k)) c.requires.read (c.form_size.ensures.used c.requires.read) in
+    let h =
+    copied_form (form_of c.args.form) c.args.i.now c.form_size.result other
+    (λ k. omega (arith, c.type_inv.i k)) c.requires.read (c.form_size.ensures.used c.requires.read) in
     record { room = has_room (omega (arith, ap length h.bytes_are)) refl c.requires.room }
 
 pub returns-in_default : goal.returns-in_default
 returns-in_default g c =
     let d = c.in_default in
     let other = other_form c.args.form d.not-Table d.not-Flags in
-    let h = copied_form (form_of c.args.form) c.args.i.now c.form_size.result other (λ k. omega (arith, c.type_inv.i k)) c.requires.read (c.form_size.ensures.used c.requires.read) in
+    let h =
+    copied_form (form_of c.args.form) c.args.i.now c.form_size.result other
+    (λ k. omega (arith, c.type_inv.i k)) c.requires.read (c.form_size.ensures.used c.requires.read) in
     same_put h.bytes_are c.put_if_room-in_default.ensures

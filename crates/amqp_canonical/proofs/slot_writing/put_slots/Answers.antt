@@ -18,28 +18,37 @@ pub put_slot-end-requires-clause-read : goal.put_slot-end-requires-clause-read
 put_slot-end-requires-clause-read g c =
     let l = c.loop-shape in
     let slot = slot_of (get_or c.args.shapes.now l.shape-index (slots.Kept forms.Octet)) in
-    let here = slot_here (slots_of c.args.shapes.now) slot c.args.i.now l.rest.now (l.shape-index) (used_by (judge_slot slot l.rest.now)) c.args.buf.now l.buf c.args.at l.end (slots_from c.args.shapes.now l.shape-index (slots.Kept forms.Octet) c.loop-shape-test.true) (λ read. refl) l.invariant in
+    let here =
+    slot_here (slots_of c.args.shapes.now) slot c.args.i.now l.rest.now (l.shape-index) (used_by (judge_slot slot l.rest.now)) c.args.buf.now l.buf
+    c.args.at l.end (slots_from c.args.shapes.now l.shape-index (slots.Kept forms.Octet) c.loop-shape-test.true) (λ read. refl) l.invariant in
     here.read
 
 pub put_slot-end-requires-clause-room : goal.put_slot-end-requires-clause-room
 put_slot-end-requires-clause-room g c =
     let l = c.loop-shape in
     let slot = slot_of (get_or c.args.shapes.now l.shape-index (slots.Kept forms.Octet)) in
-    let here = slot_here (slots_of c.args.shapes.now) slot c.args.i.now l.rest.now (l.shape-index) (used_by (judge_slot slot l.rest.now)) c.args.buf.now l.buf c.args.at l.end (slots_from c.args.shapes.now l.shape-index (slots.Kept forms.Octet) c.loop-shape-test.true) (λ read. refl) l.invariant in
+    let here =
+    slot_here (slots_of c.args.shapes.now) slot c.args.i.now l.rest.now (l.shape-index) (used_by (judge_slot slot l.rest.now)) c.args.buf.now l.buf
+    c.args.at l.end (slots_from c.args.shapes.now l.shape-index (slots.Kept forms.Octet) c.loop-shape-test.true) (λ read. refl) l.invariant in
     has_room (omega (arith, here.within)) l.invariant.put.same c.requires.room
 
 pub loop-shape-preserved : goal.loop-shape-preserved
 loop-shape-preserved g c =
     let l = c.loop-shape in
     let shape = get_or c.args.shapes.now l.shape-index (slots.Kept forms.Octet) in
-    let here = slot_here (slots_of c.args.shapes.now) (slot_of shape) c.args.i.now l.rest.now (l.shape-index) c.slot_size.result c.args.buf.now l.buf c.args.at l.end (slots_from c.args.shapes.now l.shape-index (slots.Kept forms.Octet) c.loop-shape-test.true) c.slot_size.ensures.used l.invariant in
-    let P : List ℕ → Type 0 = λ left. SlotsPut (slots_of c.args.shapes.now) c.args.i.now left (l.shape-index + 1) c.args.buf.now c.put_slot-end.new.buf c.args.at c.put_slot-end.result in
+    let here =
+    slot_here (slots_of c.args.shapes.now) (slot_of shape) c.args.i.now l.rest.now (l.shape-index) c.slot_size.result c.args.buf.now l.buf c.args.at l.end
+    (slots_from c.args.shapes.now l.shape-index (slots.Kept forms.Octet) c.loop-shape-test.true) c.slot_size.ensures.used l.invariant in
+    let P : List ℕ → Type 0 =
+    λ left. SlotsPut (slots_of c.args.shapes.now) c.args.i.now left (l.shape-index + 1) c.args.buf.now c.put_slot-end.new.buf c.args.at c.put_slot-end.result in
     subst P (sym c.bytes_from-rest.ensures) (here.next c.put_slot-end.new.buf c.put_slot-end.result c.put_slot-end.ensures)
 
 pub returns : goal.returns
 returns g c =
     let l = c.loop-shape in
-    slots_end (slots_of c.args.shapes.now) c.args.i.now l.rest.now l.shape-index c.args.buf.now l.buf c.args.at l.end (omega (arith, c.loop-shape-test.false, length-map c.args.shapes.now slot_of)) l.invariant
+    slots_end (slots_of c.args.shapes.now) c.args.i.now l.rest.now l.shape-index c.args.buf.now l.buf c.args.at l.end
+    (omega (arith, c.loop-shape-test.false, length-map c.args.shapes.now slot_of)) l.invariant
 
 pub put_slot-end-requires-clause-constant : goal.put_slot-end-requires-clause-constant
-put_slot-end-requires-clause-constant g c = constant_at c.args.shapes.now c.loop-shape.shape-index (slots.Kept forms.Octet) c.requires.constants c.loop-shape-test.true
+put_slot-end-requires-clause-constant g c =
+    constant_at c.args.shapes.now c.loop-shape.shape-index (slots.Kept forms.Octet) c.requires.constants c.loop-shape-test.true

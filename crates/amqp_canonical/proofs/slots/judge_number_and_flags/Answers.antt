@@ -22,17 +22,20 @@ both count = number ∷ flags count ∷ []
 pub returns-in_err-number-clause-judged : goal.returns-in_err-number-clause-judged
 returns-in_err-number-clause-judged c =
     let slots = both c.args.count in
-    err_passed (AreCanonicalSlots slots) (SpellsSlots tidy slots) c.args.i.now _ c.in_err-number.field-0.0 _ c.from_residual.ensures.1 (no_first_of_two number (flags c.args.count) c.args.i.now c.in_err-number.field-0.0 (c.in_err-number.ensures.judged bytes8 refl))
+    err_passed (AreCanonicalSlots slots) (SpellsSlots tidy slots) c.args.i.now _ c.in_err-number.field-0.0 _ c.from_residual.ensures.1
+    (no_first_of_two number (flags c.args.count) c.args.i.now c.in_err-number.field-0.0 (c.in_err-number.ensures.judged bytes8 refl))
 
 pub returns-in_err-flags-clause-judged : goal.returns-in_err-flags-clause-judged
 returns-in_err-flags-clause-judged c =
     let slots = both c.args.count in
     err_passed (AreCanonicalSlots slots) (SpellsSlots tidy slots) c.args.i.now _ c.in_err-flags.field-0.0 _ c.from_residual-in_err-flags.ensures.1
-    (two_fields number (flags c.args.count) c.args.i.now c.in_ok-number.number (Err c.in_err-flags.field-0.0) (c.in_ok-number.ensures.judged bytes8 refl) (rw take_rest at c.in_err-flags.ensures.judged))
+    (two_fields number (flags c.args.count) c.args.i.now c.in_ok-number.number (Err c.in_err-flags.field-0.0)
+    (c.in_ok-number.ensures.judged bytes8 refl) (rw take_rest at c.in_err-flags.ensures.judged))
 
 pub returns-clause-judged : goal.returns-clause-judged
 returns-clause-judged c =
     let a = c.in_ok-number.number in
     let result = after_others a.used a.canonical a.tidy (Ok c.in_ok-flags.flags) in
     canonical_kept (number_form bytes8) (flags_form c.args.count) c.args.i.now result (λ k. omega (arith, c.type_inv.i k))
-    (two_fields number (flags c.args.count) c.args.i.now a (Ok c.in_ok-flags.flags) (c.in_ok-number.ensures.judged bytes8 refl) (rw take_rest at c.in_ok-flags.ensures.judged))
+    (two_fields number (flags c.args.count) c.args.i.now a (Ok c.in_ok-flags.flags)
+    (c.in_ok-number.ensures.judged bytes8 refl) (rw take_rest at c.in_ok-flags.ensures.judged))

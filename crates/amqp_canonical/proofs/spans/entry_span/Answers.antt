@@ -11,4 +11,5 @@ returns-clause-used c = λ room read.
 
 pub returns-clause-copied : goal.returns-clause-copied
 returns-clause-copied c = λ set room read.
-    entry_whole room c.args.i.now c.split_key.result.0.now c.split_key.result.1.now c.value_span-after.result.size c.split_key.ensures.key c.split_key.ensures.rest read (c.value_span-after.ensures.copied set room)
+    entry_whole room c.args.i.now c.split_key.result.0.now c.split_key.result.1.now c.value_span-after.result.size
+    c.split_key.ensures.key c.split_key.ensures.rest read (c.value_span-after.ensures.copied set room)

@@ -13,7 +13,8 @@ returns-in-Fixed-clause-used c = λ room t is read.
 pub returns-in-Fixed-clause-copied : goal.returns-in-Fixed-clause-copied
 returns-in-Fixed-clause-copied c = λ set room t is read.
     let one = fixed_taken (nested room) t c.args.i.now c.in-Fixed.n (λ k. omega (arith, c.type_inv.i k)) (is ∙ c.in-Fixed.is) read in
-    fixed_copied (nested room) t c.args.i.now c.in-Fixed.n c.in-Fixed.n (λ k. omega (arith, c.type_inv.i k)) (is ∙ c.in-Fixed.is) read (used_taken c.args.i.now c.in-Fixed.n _ one.1)
+    fixed_copied (nested room) t c.args.i.now c.in-Fixed.n c.in-Fixed.n (λ k. omega (arith, c.type_inv.i k))
+    (is ∙ c.in-Fixed.is) read (used_taken c.args.i.now c.in-Fixed.n _ one.1)
 
 pub returns-in-Counted-clause-used : goal.returns-in-Counted-clause-used
 returns-in-Counted-clause-used c = λ room t is read.
@@ -23,7 +24,8 @@ returns-in-Counted-clause-used c = λ room t is read.
 pub returns-in-Counted-clause-copied : goal.returns-in-Counted-clause-copied
 returns-in-Counted-clause-copied c = λ set room t is read.
     let long = long_at (nested room) t c.args.i.now c.args.tag.layout (sym is) (inl c.in-Counted.is) read in
-    counted_copied (nested room) t c.args.i.now c.long_size.result (λ k. omega (arith, c.type_inv.i k)) (is ∙ c.in-Counted.is) read (c.long_size.ensures.used long.read ∙ long.used)
+    counted_copied (nested room) t c.args.i.now c.long_size.result (λ k. omega (arith, c.type_inv.i k))
+    (is ∙ c.in-Counted.is) read (c.long_size.ensures.used long.read ∙ long.used)
 
 pub returns-in-OneBoolean-clause-used : goal.returns-in-OneBoolean-clause-used
 returns-in-OneBoolean-clause-used c = λ room t is read. boolean_used (nested room) t c.args.i.now (is ∙ c.in-OneBoolean.is) read

@@ -11,7 +11,9 @@ pub returns-in-empty-clause-used : goal.returns-in-empty-clause-used
 returns-in-empty-clause-used c = λ room read. absurd (none_read room c.args.i.now (omega (arith, c.in-empty.len_below)) read)
 
 pub returns-in-None-clause-used : goal.returns-in-None-clause-used
-returns-in-None-clause-used c = λ room read. absurd (unknown_read room c.args.i.now (omega (arith, c.in-len1-up.len_at_least)) (no_tag (get_or c.args.i.now 0 0) _ (sym c.layout_after.ensures.is ∙ c.in-None.is)) read)
+returns-in-None-clause-used c = λ room read.
+    absurd (unknown_read room c.args.i.now (omega (arith, c.in-len1-up.len_at_least))
+    (no_tag (get_or c.args.i.now 0 0) _ (sym c.layout_after.ensures.is ∙ c.in-None.is)) read)
 
 pub returns-in-Some-clause-used : goal.returns-in-Some-clause-used
 returns-in-Some-clause-used c = λ room read.
@@ -27,4 +29,5 @@ returns-in-Some-clause-copied c = λ set room read.
     let one = some_tag (get_or i 0 0) (tag_at (get_or i 0 0)) c.in-Some.tag (sym c.layout_after.ensures.is ∙ c.in-Some.is) in
     let parts = tag_parts room i one.tag (omega (arith, c.in-len1-up.len_at_least)) one.is read in
     let copied = rw take_rest at c.span_after-after.ensures.copied in
-    value_copied room i one.tag c.span_after-after.result.size (omega (arith, c.in-len1-up.len_at_least)) (one.is_written.0 (c.span_after-after.ensures.written set)) parts (copied set room one.tag one.layout_is parts.read)
+    value_copied room i one.tag c.span_after-after.result.size (omega (arith, c.in-len1-up.len_at_least))
+    (one.is_written.0 (c.span_after-after.ensures.written set)) parts (copied set room one.tag one.layout_is parts.read)

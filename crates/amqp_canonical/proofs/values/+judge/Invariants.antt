@@ -38,8 +38,11 @@ abbrev pub invariant-judge_values-loop-at : goal.invariant-judge_values-loop-at
 invariant-judge_values-loop-at l = (l.at ≤ length l.content) × ValuesTo l.depth_left l.content l.at l.canonical
 
 abbrev pub invariant-judge_entries-loop-canonical : goal.invariant-judge_entries-loop-canonical
-invariant-judge_entries-loop-canonical l = (l.at ≤ length l.content) × (EntriesTo l.depth_left l.content l.at l.previous l.canonical × (l.previous_lead ≡ leading 8 l.previous))
+invariant-judge_entries-loop-canonical l =
+    (l.at ≤ length l.content) × (EntriesTo l.depth_left l.content l.at l.previous l.canonical × (l.previous_lead ≡ leading 8 l.previous))
 
 -- the key of the last entry is not kept here
 abbrev pub invariant-judge_entries-loop-at : goal.invariant-judge_entries-loop-at
-invariant-judge_entries-loop-at l = (l.at ≤ length l.content) × (l.canonical ≡ true → length l.content ≤ l.at) × ((previous : List ℕ) × EntriesTo l.depth_left l.content l.at previous l.canonical)
+invariant-judge_entries-loop-at l =
+    (l.at ≤ length l.content) × (l.canonical ≡ true → length l.content ≤ l.at)
+    × ((previous : List ℕ) × EntriesTo l.depth_left l.content l.at previous l.canonical)

@@ -8,23 +8,30 @@ use Rattle.amqp_canonical.specs.Marks.{blank}
 use Rattle.amqp_canonical.proofs.Putting.{has_room, same_put, then_put}
 use Rattle.amqp_canonical.proofs.ReadParts.{tag_parts, none_read, unknown_read}
 use Rattle.amqp_canonical.proofs.PutParts.{copied_at, boolean_put, array_inside, table_inside, array_holds, table_holds, length_put, entry_put, entry_some}
-use Rattle.amqp_canonical.proofs.Written.{EntriesPut, SelectedPut, values_none, value_fits_here, value_here, values_end, entries_none, entries_tied, entry_kept, selected_none, selected_here, selected_end}
+use Rattle.amqp_canonical.proofs.Written.{EntriesPut, SelectedPut, values_none, value_fits_here, value_here, values_end, entries_none, entries_tied, entry_kept}
+use Rattle.amqp_canonical.proofs.Written.{selected_none, selected_here, selected_end}
 use Rattle.amqp_canonical.proofs.writing.+write.Goals as goal
 use Rattle.amqp_canonical.proofs.writing.+write.Goals.{put_marked-then-not-is_tied, put_marked-else-not-is_tied}
 
 pub put_after_tag-slice_bounds-put_if_room-end : goal.put_after_tag-slice_bounds-put_if_room-end
 put_after_tag-slice_bounds-put_if_room-end g t c =
-    let h = copied_at (nested c.args.depth_left) c.args.tag c.args.i.now c.size_in.result c.layout_of.result (λ k. omega (arith, c.type_inv.i k)) c.layout_of.ensures.is c.in-Fixed.is c.requires.read (c.size_in.ensures.used c.args.depth_left c.args.tag (sym c.layout_of.ensures.is)) in
+    let h =
+    copied_at (nested c.args.depth_left) c.args.tag c.args.i.now c.size_in.result c.layout_of.result (λ k. omega (arith, c.type_inv.i k))
+    c.layout_of.ensures.is c.in-Fixed.is c.requires.read (c.size_in.ensures.used c.args.depth_left c.args.tag (sym c.layout_of.ensures.is)) in
     sym (length-take-le c.size_in.result c.args.i.now h.within)
 
 pub put_after_tag-put_if_room-requires : goal.put_after_tag-put_if_room-requires
 put_after_tag-put_if_room-requires g t c =
-    let h = copied_at (nested c.args.depth_left) c.args.tag c.args.i.now c.size_in.result c.layout_of.result (λ k. omega (arith, c.type_inv.i k)) c.layout_of.ensures.is c.in-Fixed.is c.requires.read (c.size_in.ensures.used c.args.depth_left c.args.tag (sym c.layout_of.ensures.is)) in
+    let h =
+    copied_at (nested c.args.depth_left) c.args.tag c.args.i.now c.size_in.result c.layout_of.result (λ k. omega (arith, c.type_inv.i k))
+    c.layout_of.ensures.is c.in-Fixed.is c.requires.read (c.size_in.ensures.used c.args.depth_left c.args.tag (sym c.layout_of.ensures.is)) in
     record { room = has_room (omega (arith, ap length h.bytes_are)) refl c.requires.room }
 
 pub put_after_tag-returns-in-Fixed : goal.put_after_tag-returns-in-Fixed
 put_after_tag-returns-in-Fixed g t c =
-    let h = copied_at (nested c.args.depth_left) c.args.tag c.args.i.now c.size_in.result c.layout_of.result (λ k. omega (arith, c.type_inv.i k)) c.layout_of.ensures.is c.in-Fixed.is c.requires.read (c.size_in.ensures.used c.args.depth_left c.args.tag (sym c.layout_of.ensures.is)) in
+    let h =
+    copied_at (nested c.args.depth_left) c.args.tag c.args.i.now c.size_in.result c.layout_of.result (λ k. omega (arith, c.type_inv.i k))
+    c.layout_of.ensures.is c.in-Fixed.is c.requires.read (c.size_in.ensures.used c.args.depth_left c.args.tag (sym c.layout_of.ensures.is)) in
     same_put h.bytes_are c.put_if_room.ensures
 
 pub put_after_tag-bounds-i-0 : goal.put_after_tag-bounds-i-0
@@ -169,7 +176,16 @@ put_entry-put_value-requires g t c =
     let P : List ℕ → Type 0 = λ bs. IsRead (judge_value c.args.depth_left bs) in
     let key = ap (λ k. length (take (1 + length k) c.args.i.now)) c.split_key.ensures.key in
     let rest = ap (λ bs. length (canonical_of tagged_bytes (judge_value c.args.depth_left bs))) c.split_key.ensures.rest in
-    λ κs lives. (search rules, (lives, (subst P (sym c.split_key.ensures.rest) h.read, has_room (omega (arith, key, rest, h.size, c.put_if_room-place.ensures.behind)) c.put_if_room-place.ensures.same c.requires.room)))
+    λ κs lives. (
+      search rules,
+      (
+        lives,
+        (
+          subst P (sym c.split_key.ensures.rest) h.read,
+          has_room (omega (arith, key, rest, h.size, c.put_if_room-place.ensures.behind)) c.put_if_room-place.ensures.same c.requires.room,
+        ),
+      ),
+    )
 
 pub put_entry-returns : goal.put_entry-returns
 put_entry-returns g t c =
@@ -185,17 +201,29 @@ put_value-put_after_tag-requires g t c =
     let rest : take (length i - 1) (drop 1 i) ≡ drop 1 i = rw take_rest in
     let P : List ℕ → Type 0 = λ bs. IsRead (judge_behind (nested c.args.depth_left) c.in-Some.tag bs) in
     let size = ap (λ bs. length (canonical_of value_bytes (judge_behind (nested c.args.depth_left) c.in-Some.tag bs))) rest in
-    λ κs lives. (search rules, (lives, (subst P (sym rest) h.read, has_room (omega (arith, size, ap length h.bytes_are, c.put_if_room-place.ensures.behind)) c.put_if_room-place.ensures.same c.requires.room)))
+    λ κs lives. (
+      search rules,
+      (
+        lives,
+        (
+          subst P (sym rest) h.read,
+          has_room (omega (arith, size, ap length h.bytes_are, c.put_if_room-place.ensures.behind)) c.put_if_room-place.ensures.same c.requires.room,
+        ),
+      ),
+    )
 
 pub put_value-returns-in-empty : goal.put_value-returns-in-empty
 put_value-returns-in-empty g t c = absurd (none_read c.args.depth_left c.args.i.now (omega (arith, c.in-empty.len_below)) c.requires.read)
 
 pub put_value-returns-in-None : goal.put_value-returns-in-None
-put_value-returns-in-None g t c = absurd (unknown_read c.args.depth_left c.args.i.now (omega (arith, c.in-len1-up.len_at_least)) (sym c.from_byte.ensures ∙ c.in-None.is) c.requires.read)
+put_value-returns-in-None g t c =
+    absurd (unknown_read c.args.depth_left c.args.i.now (omega (arith, c.in-len1-up.len_at_least)) (sym c.from_byte.ensures ∙ c.in-None.is) c.requires.read)
 
 pub put_value-returns-in-Some : goal.put_value-returns-in-Some
 put_value-returns-in-Some g t c =
-    let h = tag_parts c.args.depth_left c.args.i.now c.in-Some.tag (omega (arith, c.in-len1-up.len_at_least)) (sym c.from_byte.ensures ∙ c.in-Some.is) c.requires.read in
+    let h =
+    tag_parts c.args.depth_left c.args.i.now c.in-Some.tag (omega (arith, c.in-len1-up.len_at_least))
+    (sym c.from_byte.ensures ∙ c.in-Some.is) c.requires.read in
     same_put (sym h.bytes_are) (then_put (same_put (ap (λ b. b ∷ []) c.to_byte.ensures) c.put_if_room-place.ensures) (rw take_rest at c.put_after_tag.ensures))
 
 pub put_values-loop-start-init : goal.put_values-loop-start-init
@@ -205,7 +233,9 @@ pub put_values-put_value-end-requires : goal.put_values-put_value-end-requires
 put_values-put_value-end-requires g t c =
     let l = c.loop-start in
     let all = c.args.content.now in
-    let here = value_fits_here c.args.depth_left all l.start c.args.buf.now l.buf c.args.at l.end (λ k. omega (arith, c.type_inv.content k)) c.loop-start-test.true l.invariant in
+    let here =
+    value_fits_here c.args.depth_left all l.start c.args.buf.now l.buf c.args.at l.end
+    (λ k. omega (arith, c.type_inv.content k)) c.loop-start-test.true l.invariant in
     let rest : take (length all - l.start) (drop l.start all) ≡ drop l.start all = rw take_rest in
     let P : List ℕ → Type 0 = λ bs. IsRead (judge_value c.args.depth_left bs) in
     let size = ap (λ bs. length (canonical_of tagged_bytes (judge_value c.args.depth_left bs))) rest in
@@ -216,7 +246,9 @@ put_values-loop-start-smaller g t c =
     let l = c.loop-start in
     let all = c.args.content.now in
     let sized = rw take_rest at c.value_size-start.ensures.used in
-    let here = value_here c.args.depth_left all l.start c.value_size-start.result c.args.buf.now l.buf c.args.at l.end (λ k. omega (arith, c.type_inv.content k)) c.loop-start-test.true (sized c.args.depth_left) l.invariant in
+    let here =
+    value_here c.args.depth_left all l.start c.value_size-start.result c.args.buf.now l.buf c.args.at l.end
+    (λ k. omega (arith, c.type_inv.content k)) c.loop-start-test.true (sized c.args.depth_left) l.invariant in
     omega (arith, here.some, c.loop-start-test.true)
 
 pub put_values-loop-start-preserved : goal.put_values-loop-start-preserved
@@ -224,11 +256,15 @@ put_values-loop-start-preserved g t c =
     let l = c.loop-start in
     let all = c.args.content.now in
     let sized = rw take_rest at c.value_size-start.ensures.used in
-    let here = value_here c.args.depth_left all l.start c.value_size-start.result c.args.buf.now l.buf c.args.at l.end (λ k. omega (arith, c.type_inv.content k)) c.loop-start-test.true (sized c.args.depth_left) l.invariant in
+    let here =
+    value_here c.args.depth_left all l.start c.value_size-start.result c.args.buf.now l.buf c.args.at l.end
+    (λ k. omega (arith, c.type_inv.content k)) c.loop-start-test.true (sized c.args.depth_left) l.invariant in
     here.next c.put_value-end.new.buf c.put_value-end.result (rw take_rest at c.put_value-end.ensures)
 
 pub put_values-returns : goal.put_values-returns
-put_values-returns g t c = values_end c.args.depth_left c.args.content.now c.loop-start.start c.args.buf.now c.loop-start.buf c.args.at c.loop-start.end c.loop-start-test.false c.loop-start.invariant
+put_values-returns g t c =
+    values_end c.args.depth_left c.args.content.now c.loop-start.start c.args.buf.now
+    c.loop-start.buf c.args.at c.loop-start.end c.loop-start-test.false c.loop-start.invariant
 
 pub put_marked-loop-k-init : goal.put_marked-loop-k-init
 put_marked-loop-k-init g t c = (omega arith, entries_none c.args.depth_left c.args.content.now c.args.marks.now c.args.buf.now c.args.at)
@@ -238,8 +274,19 @@ put_marked-put_mark-end-requires g t c =
     let l = c.loop-k in
     let room = c.args.depth_left in
     let tied : c.is_tied.result ≡ false = search rules in
-    let here = entry_kept room c.args.content.now c.args.marks.now l.k c.args.buf.now l.buf c.args.at l.end c.requires.read c.loop-k-test.true (sym tied ∙ c.is_tied.ensures room c.requires.read) l.invariant.1 in
-    λ κs lives. (search rules, (lives, (c.requires.read l.k blank c.loop-k-test.true, (c.requires.each l.k blank c.loop-k-test.true, has_room (omega (arith, here.fits)) l.invariant.1.put.put.same c.requires.room))))
+    let here =
+    entry_kept room c.args.content.now c.args.marks.now l.k c.args.buf.now l.buf c.args.at l.end c.requires.read c.loop-k-test.true
+    (sym tied ∙ c.is_tied.ensures room c.requires.read) l.invariant.1 in
+    λ κs lives. (
+      search rules,
+      (
+        lives,
+        (
+          c.requires.read l.k blank c.loop-k-test.true,
+          (c.requires.each l.k blank c.loop-k-test.true, has_room (omega (arith, here.fits)) l.invariant.1.put.put.same c.requires.room),
+        ),
+      ),
+    )
 
 pub put_marked-loop-k-preserved : goal.put_marked-loop-k-preserved
 put_marked-loop-k-preserved g t c =
@@ -262,7 +309,8 @@ put_marked-loop-k-preserved g t c =
     ]
 
 pub put_selected-loop-next-init : goal.put_selected-loop-next-init
-put_selected-loop-next-init g t c = selected_none c.args.depth_left c.args.content.now _ c.args.buf.now c.args.at (c.next_entry-next.ensures c.args.depth_left c.requires.read)
+put_selected-loop-next-init g t c =
+    selected_none c.args.depth_left c.args.content.now _ c.args.buf.now c.args.at (c.next_entry-next.ensures c.args.depth_left c.requires.read)
 
 pub put_selected-put_entry-end-requires : goal.put_selected-put_entry-end-requires
 put_selected-put_entry-end-requires g t c =
@@ -273,7 +321,8 @@ put_selected-put_entry-end-requires g t c =
     let here = selected_here room all (c.in-Some.place, c.in-Some.key) c.args.buf.now l.buf c.args.at l.end (subst P c.in-Some.is l.invariant) in
     let Q : List ℕ → Type 0 = λ bs. IsRead (judge_entry (judge_value room) bs) in
     let size = ap (λ bs. length (canonical_of entry_bytes (judge_entry (judge_value room) bs))) c.bytes_from.ensures in
-    λ κs lives. (search rules, (lives, (subst Q (sym c.bytes_from.ensures) here.read, has_room (omega (arith, size, here.fits.fits)) l.invariant.put.same c.requires.room)))
+    λ κs lives.
+    (search rules, (lives, (subst Q (sym c.bytes_from.ensures) here.read, has_room (omega (arith, size, here.fits.fits)) l.invariant.put.same c.requires.room)))
 
 pub put_selected-loop-next-smaller : goal.put_selected-loop-next-smaller
 put_selected-loop-next-smaller g t c =

@@ -6,7 +6,8 @@ ghost use Rattle.amqp_types.specs.Calls.{Parses, NeedsNoMemory, Measures, HasRoo
 ghost use Rattle.amqp_types.specs.Writing.{Puts, Appends};
 ghost use Rattle.amqp_types.specs.Methods.{method, judge_method, method_bytes, method_size};
 ghost use Rattle.amqp_values.specs.MethodFields.{ListsMethod};
-ghost use Rattle.amqp_connection.specs.Connection.{start_method, start_ok_method, secure_method, secure_ok_method, tune_method, tune_ok_method};
+ghost use Rattle.amqp_connection.specs.Connection.{start_method, start_ok_method, secure_method};
+ghost use Rattle.amqp_connection.specs.Connection.{secure_ok_method, tune_method, tune_ok_method};
 
 use amqp_values::{
     Field, FieldTable, GenError, Identifier, LongString, LongUInt, NoMemory, ParserError,
@@ -50,7 +51,9 @@ impl Start {
 
     /// The method whose fields are empty, zero and false.
     pub fn empty(alloc: Global) -> Start
-        ensures { start_method result ≡ method 10 10 (number_item 0 ∷ number_item 0 ∷ entries_item [] ∷ bytes_item [] ∷ bytes_item [] ∷ []) }
+        ensures { start_method result
+            ≡ method 10 10
+            (number_item 0 ∷ number_item 0 ∷ entries_item [] ∷ bytes_item [] ∷ bytes_item [] ∷ []) }
     {
         Start {
             version_major: 0,
@@ -117,7 +120,8 @@ pub fn size_start(method: &Start) -> Result<u64, GenError>
 
 /// Puts the method id and the fields of `Start` at a place of a slice, and returns the place after.
 pub fn put_start(buf: &mut [u8], at: usize, method: &Start) -> usize
-    requires { HasRoom buf.old at (method_size (start_method method.now)) (method_bytes (start_method method.now)) }
+    requires { HasRoom buf.old at (method_size (start_method method.now))
+        (method_bytes (start_method method.now)) }
     ensures { Puts buf.old buf.new at (method_bytes (start_method method.now)) result }
 {
     put_fields(buf, at, &start_fields(method)[1..])
@@ -125,7 +129,8 @@ pub fn put_start(buf: &mut [u8], at: usize, method: &Start) -> usize
 
 /// Appends the method id and the fields of `Start` to a vector.
 pub fn gen_start(_alloc: Global, out: &mut Vec<u8>, method: &Start) -> Result<(), GenError>
-    ensures { Appends out.old.items out.new.items (method_size (start_method method.now)) (method_bytes (start_method method.now)) result }
+    ensures { Appends out.old.items out.new.items (method_size (start_method method.now))
+        (method_bytes (start_method method.now)) result }
 {
     gen_fields(out, &start_fields(method)[1..])
 }
@@ -163,7 +168,8 @@ impl StartOk {
 
     /// The method whose fields are empty, zero and false.
     pub fn empty(alloc: Global) -> StartOk
-        ensures { start_ok_method result ≡ method 10 11 (entries_item [] ∷ text_item [] ∷ bytes_item [] ∷ text_item [] ∷ []) }
+        ensures { start_ok_method result
+            ≡ method 10 11 (entries_item [] ∷ text_item [] ∷ bytes_item [] ∷ text_item [] ∷ []) }
     {
         StartOk {
             client_properties: FieldTable::new(alloc),
@@ -226,7 +232,8 @@ pub fn size_start_ok(method: &StartOk) -> Result<u64, GenError>
 
 /// Puts the method id and the fields of `StartOk` at a place of a slice, and returns the place after.
 pub fn put_start_ok(buf: &mut [u8], at: usize, method: &StartOk) -> usize
-    requires { HasRoom buf.old at (method_size (start_ok_method method.now)) (method_bytes (start_ok_method method.now)) }
+    requires { HasRoom buf.old at (method_size (start_ok_method method.now))
+        (method_bytes (start_ok_method method.now)) }
     ensures { Puts buf.old buf.new at (method_bytes (start_ok_method method.now)) result }
 {
     put_fields(buf, at, &start_ok_fields(method)[1..])
@@ -234,7 +241,8 @@ pub fn put_start_ok(buf: &mut [u8], at: usize, method: &StartOk) -> usize
 
 /// Appends the method id and the fields of `StartOk` to a vector.
 pub fn gen_start_ok(_alloc: Global, out: &mut Vec<u8>, method: &StartOk) -> Result<(), GenError>
-    ensures { Appends out.old.items out.new.items (method_size (start_ok_method method.now)) (method_bytes (start_ok_method method.now)) result }
+    ensures { Appends out.old.items out.new.items (method_size (start_ok_method method.now))
+        (method_bytes (start_ok_method method.now)) result }
 {
     gen_fields(out, &start_ok_fields(method)[1..])
 }
@@ -312,7 +320,8 @@ pub fn size_secure(method: &Secure) -> Result<u64, GenError>
 
 /// Puts the method id and the fields of `Secure` at a place of a slice, and returns the place after.
 pub fn put_secure(buf: &mut [u8], at: usize, method: &Secure) -> usize
-    requires { HasRoom buf.old at (method_size (secure_method method.now)) (method_bytes (secure_method method.now)) }
+    requires { HasRoom buf.old at (method_size (secure_method method.now))
+        (method_bytes (secure_method method.now)) }
     ensures { Puts buf.old buf.new at (method_bytes (secure_method method.now)) result }
 {
     put_fields(buf, at, &secure_fields(method)[1..])
@@ -320,7 +329,8 @@ pub fn put_secure(buf: &mut [u8], at: usize, method: &Secure) -> usize
 
 /// Appends the method id and the fields of `Secure` to a vector.
 pub fn gen_secure(_alloc: Global, out: &mut Vec<u8>, method: &Secure) -> Result<(), GenError>
-    ensures { Appends out.old.items out.new.items (method_size (secure_method method.now)) (method_bytes (secure_method method.now)) result }
+    ensures { Appends out.old.items out.new.items (method_size (secure_method method.now))
+        (method_bytes (secure_method method.now)) result }
 {
     gen_fields(out, &secure_fields(method)[1..])
 }
@@ -398,7 +408,8 @@ pub fn size_secure_ok(method: &SecureOk) -> Result<u64, GenError>
 
 /// Puts the method id and the fields of `SecureOk` at a place of a slice, and returns the place after.
 pub fn put_secure_ok(buf: &mut [u8], at: usize, method: &SecureOk) -> usize
-    requires { HasRoom buf.old at (method_size (secure_ok_method method.now)) (method_bytes (secure_ok_method method.now)) }
+    requires { HasRoom buf.old at (method_size (secure_ok_method method.now))
+        (method_bytes (secure_ok_method method.now)) }
     ensures { Puts buf.old buf.new at (method_bytes (secure_ok_method method.now)) result }
 {
     put_fields(buf, at, &secure_ok_fields(method)[1..])
@@ -406,7 +417,8 @@ pub fn put_secure_ok(buf: &mut [u8], at: usize, method: &SecureOk) -> usize
 
 /// Appends the method id and the fields of `SecureOk` to a vector.
 pub fn gen_secure_ok(_alloc: Global, out: &mut Vec<u8>, method: &SecureOk) -> Result<(), GenError>
-    ensures { Appends out.old.items out.new.items (method_size (secure_ok_method method.now)) (method_bytes (secure_ok_method method.now)) result }
+    ensures { Appends out.old.items out.new.items (method_size (secure_ok_method method.now))
+        (method_bytes (secure_ok_method method.now)) result }
 {
     gen_fields(out, &secure_ok_fields(method)[1..])
 }
@@ -427,7 +439,8 @@ pub struct Tune {
 impl Default for Tune {
     /// The method whose numbers are 0 and whose flags are false.
     fn default() -> Tune
-        ensures { tune_method result ≡ method 10 30 (number_item 0 ∷ number_item 0 ∷ number_item 0 ∷ []) }
+        ensures { tune_method result
+            ≡ method 10 30 (number_item 0 ∷ number_item 0 ∷ number_item 0 ∷ []) }
     {
         Tune {
             channel_max: 0,
@@ -494,7 +507,8 @@ pub fn size_tune(method: &Tune) -> Result<u64, GenError>
 
 /// Puts the method id and the fields of `Tune` at a place of a slice, and returns the place after.
 pub fn put_tune(buf: &mut [u8], at: usize, method: &Tune) -> usize
-    requires { HasRoom buf.old at (method_size (tune_method method.now)) (method_bytes (tune_method method.now)) }
+    requires { HasRoom buf.old at (method_size (tune_method method.now))
+        (method_bytes (tune_method method.now)) }
     ensures { Puts buf.old buf.new at (method_bytes (tune_method method.now)) result }
 {
     put_fields(buf, at, &tune_fields(method)[1..])
@@ -502,7 +516,8 @@ pub fn put_tune(buf: &mut [u8], at: usize, method: &Tune) -> usize
 
 /// Appends the method id and the fields of `Tune` to a vector.
 pub fn gen_tune(_alloc: Global, out: &mut Vec<u8>, method: &Tune) -> Result<(), GenError>
-    ensures { Appends out.old.items out.new.items (method_size (tune_method method.now)) (method_bytes (tune_method method.now)) result }
+    ensures { Appends out.old.items out.new.items (method_size (tune_method method.now))
+        (method_bytes (tune_method method.now)) result }
 {
     gen_fields(out, &tune_fields(method)[1..])
 }
@@ -523,7 +538,8 @@ pub struct TuneOk {
 impl Default for TuneOk {
     /// The method whose numbers are 0 and whose flags are false.
     fn default() -> TuneOk
-        ensures { tune_ok_method result ≡ method 10 31 (number_item 0 ∷ number_item 0 ∷ number_item 0 ∷ []) }
+        ensures { tune_ok_method result
+            ≡ method 10 31 (number_item 0 ∷ number_item 0 ∷ number_item 0 ∷ []) }
     {
         TuneOk {
             channel_max: 0,
@@ -590,7 +606,8 @@ pub fn size_tune_ok(method: &TuneOk) -> Result<u64, GenError>
 
 /// Puts the method id and the fields of `TuneOk` at a place of a slice, and returns the place after.
 pub fn put_tune_ok(buf: &mut [u8], at: usize, method: &TuneOk) -> usize
-    requires { HasRoom buf.old at (method_size (tune_ok_method method.now)) (method_bytes (tune_ok_method method.now)) }
+    requires { HasRoom buf.old at (method_size (tune_ok_method method.now))
+        (method_bytes (tune_ok_method method.now)) }
     ensures { Puts buf.old buf.new at (method_bytes (tune_ok_method method.now)) result }
 {
     put_fields(buf, at, &tune_ok_fields(method)[1..])
@@ -598,7 +615,8 @@ pub fn put_tune_ok(buf: &mut [u8], at: usize, method: &TuneOk) -> usize
 
 /// Appends the method id and the fields of `TuneOk` to a vector.
 pub fn gen_tune_ok(_alloc: Global, out: &mut Vec<u8>, method: &TuneOk) -> Result<(), GenError>
-    ensures { Appends out.old.items out.new.items (method_size (tune_ok_method method.now)) (method_bytes (tune_ok_method method.now)) result }
+    ensures { Appends out.old.items out.new.items (method_size (tune_ok_method method.now))
+        (method_bytes (tune_ok_method method.now)) result }
 {
     gen_fields(out, &tune_ok_fields(method)[1..])
 }

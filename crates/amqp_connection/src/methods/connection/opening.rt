@@ -6,7 +6,10 @@ ghost use Rattle.amqp_types.specs.Calls.{Parses, NeedsNoMemory, Measures, HasRoo
 ghost use Rattle.amqp_types.specs.Writing.{Puts, Appends};
 ghost use Rattle.amqp_types.specs.Methods.{method, judge_method, method_bytes, method_size};
 ghost use Rattle.amqp_values.specs.MethodFields.{ListsMethod};
-ghost use Rattle.amqp_connection.specs.Connection.{open_method, open_ok_method, close_method, close_ok_method, blocked_method, unblocked_method, update_secret_method, update_secret_ok_method};
+ghost use Rattle.amqp_connection.specs.Connection.{open_method, open_ok_method, close_method};
+ghost use Rattle.amqp_connection.specs.Connection.{close_ok_method, blocked_method};
+ghost use Rattle.amqp_connection.specs.Connection.{unblocked_method, update_secret_method};
+ghost use Rattle.amqp_connection.specs.Connection.{update_secret_ok_method};
 
 use amqp_values::{
     Field, GenError, Identifier, LongString, NoMemory, ParserError, ShortString, ShortUInt,
@@ -91,7 +94,8 @@ pub fn size_open(method: &Open) -> Result<u64, GenError>
 
 /// Puts the method id and the fields of `Open` at a place of a slice, and returns the place after.
 pub fn put_open(buf: &mut [u8], at: usize, method: &Open) -> usize
-    requires { HasRoom buf.old at (method_size (open_method method.now)) (method_bytes (open_method method.now)) }
+    requires { HasRoom buf.old at (method_size (open_method method.now))
+        (method_bytes (open_method method.now)) }
     ensures { Puts buf.old buf.new at (method_bytes (open_method method.now)) result }
 {
     put_fields(buf, at, &open_fields(method)[1..])
@@ -99,7 +103,8 @@ pub fn put_open(buf: &mut [u8], at: usize, method: &Open) -> usize
 
 /// Appends the method id and the fields of `Open` to a vector.
 pub fn gen_open(_alloc: Global, out: &mut Vec<u8>, method: &Open) -> Result<(), GenError>
-    ensures { Appends out.old.items out.new.items (method_size (open_method method.now)) (method_bytes (open_method method.now)) result }
+    ensures { Appends out.old.items out.new.items (method_size (open_method method.now))
+        (method_bytes (open_method method.now)) result }
 {
     gen_fields(out, &open_fields(method)[1..])
 }
@@ -156,7 +161,8 @@ pub fn size_open_ok(method: &OpenOk) -> Result<u64, GenError>
 
 /// Puts the method id and the fields of `OpenOk` at a place of a slice, and returns the place after.
 pub fn put_open_ok(buf: &mut [u8], at: usize, method: &OpenOk) -> usize
-    requires { HasRoom buf.old at (method_size (open_ok_method method.now)) (method_bytes (open_ok_method method.now)) }
+    requires { HasRoom buf.old at (method_size (open_ok_method method.now))
+        (method_bytes (open_ok_method method.now)) }
     ensures { Puts buf.old buf.new at (method_bytes (open_ok_method method.now)) result }
 {
     put_fields(buf, at, &open_ok_fields(method)[1..])
@@ -164,7 +170,8 @@ pub fn put_open_ok(buf: &mut [u8], at: usize, method: &OpenOk) -> usize
 
 /// Appends the method id and the fields of `OpenOk` to a vector.
 pub fn gen_open_ok(_alloc: Global, out: &mut Vec<u8>, method: &OpenOk) -> Result<(), GenError>
-    ensures { Appends out.old.items out.new.items (method_size (open_ok_method method.now)) (method_bytes (open_ok_method method.now)) result }
+    ensures { Appends out.old.items out.new.items (method_size (open_ok_method method.now))
+        (method_bytes (open_ok_method method.now)) result }
 {
     gen_fields(out, &open_ok_fields(method)[1..])
 }
@@ -202,7 +209,8 @@ impl Close {
 
     /// The method whose fields are empty, zero and false.
     pub fn empty(alloc: Global) -> Close
-        ensures { close_method result ≡ method 10 50 (number_item 0 ∷ text_item [] ∷ number_item 0 ∷ number_item 0 ∷ []) }
+        ensures { close_method result
+            ≡ method 10 50 (number_item 0 ∷ text_item [] ∷ number_item 0 ∷ number_item 0 ∷ []) }
     {
         Close {
             reply_code: 0,
@@ -265,7 +273,8 @@ pub fn size_close(method: &Close) -> Result<u64, GenError>
 
 /// Puts the method id and the fields of `Close` at a place of a slice, and returns the place after.
 pub fn put_close(buf: &mut [u8], at: usize, method: &Close) -> usize
-    requires { HasRoom buf.old at (method_size (close_method method.now)) (method_bytes (close_method method.now)) }
+    requires { HasRoom buf.old at (method_size (close_method method.now))
+        (method_bytes (close_method method.now)) }
     ensures { Puts buf.old buf.new at (method_bytes (close_method method.now)) result }
 {
     put_fields(buf, at, &close_fields(method)[1..])
@@ -273,7 +282,8 @@ pub fn put_close(buf: &mut [u8], at: usize, method: &Close) -> usize
 
 /// Appends the method id and the fields of `Close` to a vector.
 pub fn gen_close(_alloc: Global, out: &mut Vec<u8>, method: &Close) -> Result<(), GenError>
-    ensures { Appends out.old.items out.new.items (method_size (close_method method.now)) (method_bytes (close_method method.now)) result }
+    ensures { Appends out.old.items out.new.items (method_size (close_method method.now))
+        (method_bytes (close_method method.now)) result }
 {
     gen_fields(out, &close_fields(method)[1..])
 }
@@ -325,7 +335,8 @@ pub fn size_close_ok(method: &CloseOk) -> Result<u64, GenError>
 
 /// Puts the method id and the fields of `CloseOk` at a place of a slice, and returns the place after.
 pub fn put_close_ok(buf: &mut [u8], at: usize, method: &CloseOk) -> usize
-    requires { HasRoom buf.old at (method_size (close_ok_method method.now)) (method_bytes (close_ok_method method.now)) }
+    requires { HasRoom buf.old at (method_size (close_ok_method method.now))
+        (method_bytes (close_ok_method method.now)) }
     ensures { Puts buf.old buf.new at (method_bytes (close_ok_method method.now)) result }
 {
     put_fields(buf, at, &close_ok_fields(method)[1..])
@@ -333,7 +344,8 @@ pub fn put_close_ok(buf: &mut [u8], at: usize, method: &CloseOk) -> usize
 
 /// Appends the method id and the fields of `CloseOk` to a vector.
 pub fn gen_close_ok(_alloc: Global, out: &mut Vec<u8>, method: &CloseOk) -> Result<(), GenError>
-    ensures { Appends out.old.items out.new.items (method_size (close_ok_method method.now)) (method_bytes (close_ok_method method.now)) result }
+    ensures { Appends out.old.items out.new.items (method_size (close_ok_method method.now))
+        (method_bytes (close_ok_method method.now)) result }
 {
     gen_fields(out, &close_ok_fields(method)[1..])
 }
@@ -411,7 +423,8 @@ pub fn size_blocked(method: &Blocked) -> Result<u64, GenError>
 
 /// Puts the method id and the fields of `Blocked` at a place of a slice, and returns the place after.
 pub fn put_blocked(buf: &mut [u8], at: usize, method: &Blocked) -> usize
-    requires { HasRoom buf.old at (method_size (blocked_method method.now)) (method_bytes (blocked_method method.now)) }
+    requires { HasRoom buf.old at (method_size (blocked_method method.now))
+        (method_bytes (blocked_method method.now)) }
     ensures { Puts buf.old buf.new at (method_bytes (blocked_method method.now)) result }
 {
     put_fields(buf, at, &blocked_fields(method)[1..])
@@ -419,7 +432,8 @@ pub fn put_blocked(buf: &mut [u8], at: usize, method: &Blocked) -> usize
 
 /// Appends the method id and the fields of `Blocked` to a vector.
 pub fn gen_blocked(_alloc: Global, out: &mut Vec<u8>, method: &Blocked) -> Result<(), GenError>
-    ensures { Appends out.old.items out.new.items (method_size (blocked_method method.now)) (method_bytes (blocked_method method.now)) result }
+    ensures { Appends out.old.items out.new.items (method_size (blocked_method method.now))
+        (method_bytes (blocked_method method.now)) result }
 {
     gen_fields(out, &blocked_fields(method)[1..])
 }
@@ -471,7 +485,8 @@ pub fn size_unblocked(method: &Unblocked) -> Result<u64, GenError>
 
 /// Puts the method id and the fields of `Unblocked` at a place of a slice, and returns the place after.
 pub fn put_unblocked(buf: &mut [u8], at: usize, method: &Unblocked) -> usize
-    requires { HasRoom buf.old at (method_size (unblocked_method method.now)) (method_bytes (unblocked_method method.now)) }
+    requires { HasRoom buf.old at (method_size (unblocked_method method.now))
+        (method_bytes (unblocked_method method.now)) }
     ensures { Puts buf.old buf.new at (method_bytes (unblocked_method method.now)) result }
 {
     put_fields(buf, at, &unblocked_fields(method)[1..])
@@ -479,7 +494,8 @@ pub fn put_unblocked(buf: &mut [u8], at: usize, method: &Unblocked) -> usize
 
 /// Appends the method id and the fields of `Unblocked` to a vector.
 pub fn gen_unblocked(_alloc: Global, out: &mut Vec<u8>, method: &Unblocked) -> Result<(), GenError>
-    ensures { Appends out.old.items out.new.items (method_size (unblocked_method method.now)) (method_bytes (unblocked_method method.now)) result }
+    ensures { Appends out.old.items out.new.items (method_size (unblocked_method method.now))
+        (method_bytes (unblocked_method method.now)) result }
 {
     gen_fields(out, &unblocked_fields(method)[1..])
 }
@@ -563,7 +579,8 @@ pub fn size_update_secret(method: &UpdateSecret) -> Result<u64, GenError>
 
 /// Puts the method id and the fields of `UpdateSecret` at a place of a slice, and returns the place after.
 pub fn put_update_secret(buf: &mut [u8], at: usize, method: &UpdateSecret) -> usize
-    requires { HasRoom buf.old at (method_size (update_secret_method method.now)) (method_bytes (update_secret_method method.now)) }
+    requires { HasRoom buf.old at (method_size (update_secret_method method.now))
+        (method_bytes (update_secret_method method.now)) }
     ensures { Puts buf.old buf.new at (method_bytes (update_secret_method method.now)) result }
 {
     put_fields(buf, at, &update_secret_fields(method)[1..])
@@ -575,7 +592,8 @@ pub fn gen_update_secret(
     out: &mut Vec<u8>,
     method: &UpdateSecret,
 ) -> Result<(), GenError>
-    ensures { Appends out.old.items out.new.items (method_size (update_secret_method method.now)) (method_bytes (update_secret_method method.now)) result }
+    ensures { Appends out.old.items out.new.items (method_size (update_secret_method method.now))
+        (method_bytes (update_secret_method method.now)) result }
 {
     gen_fields(out, &update_secret_fields(method)[1..])
 }
@@ -630,7 +648,8 @@ pub fn size_update_secret_ok(method: &UpdateSecretOk) -> Result<u64, GenError>
 
 /// Puts the method id and the fields of `UpdateSecretOk` at a place of a slice, and returns the place after.
 pub fn put_update_secret_ok(buf: &mut [u8], at: usize, method: &UpdateSecretOk) -> usize
-    requires { HasRoom buf.old at (method_size (update_secret_ok_method method.now)) (method_bytes (update_secret_ok_method method.now)) }
+    requires { HasRoom buf.old at (method_size (update_secret_ok_method method.now))
+        (method_bytes (update_secret_ok_method method.now)) }
     ensures { Puts buf.old buf.new at (method_bytes (update_secret_ok_method method.now)) result }
 {
     put_fields(buf, at, &update_secret_ok_fields(method)[1..])
@@ -642,7 +661,8 @@ pub fn gen_update_secret_ok(
     out: &mut Vec<u8>,
     method: &UpdateSecretOk,
 ) -> Result<(), GenError>
-    ensures { Appends out.old.items out.new.items (method_size (update_secret_ok_method method.now)) (method_bytes (update_secret_ok_method method.now)) result }
+    ensures { Appends out.old.items out.new.items (method_size (update_secret_ok_method method.now))
+        (method_bytes (update_secret_ok_method method.now)) result }
 {
     gen_fields(out, &update_secret_ok_fields(method)[1..])
 }

@@ -19,9 +19,13 @@ pub loop-frame-preserved : goal.loop-frame-preserved
 loop-frame-preserved c =
     let h = c.loop-frame.invariant in
     let e = c.in_ok-push.ensures in
-    let next = assembled_step c.args.max_body c.loop-frame.assembler c.push.new.self c.loop-frame.yielded c.loop-frame.outcomes.items c.in-Some.frame c.in_ok-push.field-0 h.max h.stand h.given e.outside e.pushes e.others in
+    let next =
+    assembled_step c.args.max_body c.loop-frame.assembler c.push.new.self c.loop-frame.yielded
+    c.loop-frame.outcomes.items c.in-Some.frame c.in_ok-push.field-0 h.max h.stand h.given e.outside e.pushes e.others in
     record {
       max = e.max_body ∙ h.max;
       stand = next.stand;
-      given = subst (λ (os : List Outcome). AreGiven c.args.max_body [] (map frame_of (c.loop-frame.yielded ++ c.in-Some.frame ∷ [])) (map outcome_of os)) (sym c.in_ok-push-2.ensures.items) next.given;
+      given =
+          subst (λ (os : List Outcome). AreGiven c.args.max_body [] (map frame_of (c.loop-frame.yielded ++ c.in-Some.frame ∷ [])) (map outcome_of os))
+          (sym c.in_ok-push-2.ensures.items) next.given;
     }

@@ -5,7 +5,9 @@ use Rattle.amqp_content.specs.Splits.{pieces}
 use Rattle.amqp_content.proofs.splitting.push_pieces.Given as goal
 
 abbrev pub invariant-loop-rest : goal.invariant-loop-rest
-invariant-loop-rest l = map frame_of l.frames.items ++ map (λ piece. Body l.channel_id piece) (pieces l.max_payload l.rest) ≡ map frame_of l.initial.frames.items ++ map (λ piece. Body l.channel_id piece) (pieces l.max_payload l.bytes)
+invariant-loop-rest l =
+    map frame_of l.frames.items ++ map (λ piece. Body l.channel_id piece) (pieces l.max_payload l.rest)
+    ≡ map frame_of l.initial.frames.items ++ map (λ piece. Body l.channel_id piece) (pieces l.max_payload l.bytes)
 
 abbrev pub decreases-loop-rest : goal.decreases-loop-rest
 decreases-loop-rest l = length l.rest

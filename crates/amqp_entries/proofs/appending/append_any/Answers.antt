@@ -13,5 +13,6 @@ returns-clause-appends g c =
     let flaw = g.V.ToValue.flaw c.args.value.now in
     let fits = c.has_room.ensures.0 c.if-not-has_room.false in (
       entry_fits (text_flaw key) flaw (short_string_bytes key) (tagged_bytes value) _ _ _ _ c.in_ok-key_size.ensures.size c.in_ok-size.ensures.size fits,
-      puts_then _ _ _ _ _ _ _ _ (entry_room (text_flaw key) flaw (short_string_bytes key) (tagged_bytes value) _ _ _ _ c.in_ok-key_size.ensures.size c.in_ok-size.ensures.size fits) c.put_text-place.ensures c.put.ensures,
+      puts_then _ _ _ _ _ _ _ _ (entry_room (text_flaw key) flaw (short_string_bytes key) (tagged_bytes value) _ _ _ _ c.in_ok-key_size.ensures.size
+          c.in_ok-size.ensures.size fits) c.put_text-place.ensures c.put.ensures,
     )

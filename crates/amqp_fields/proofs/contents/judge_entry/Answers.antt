@@ -7,7 +7,8 @@ use Rattle.amqp_fields.proofs.contents.judge_entry.Goals as goal
 pub returns-in-Ok-judge_value-clause-judged : goal.returns-in-Ok-judge_value-clause-judged
 returns-in-Ok-judge_value-clause-judged c =
     let value = rw take_rest at c.in-Ok-judge_value.ensures.judged in
-    entry_used c.args.depth_left c.args.i.now _ (drop c.in-Ok.n c.args.i.now) value.thing c.in-Ok.n c.in-Ok-judge_value.value.used c.in-Ok.ensures.judged refl value.is
+    entry_used c.args.depth_left c.args.i.now _ (drop c.in-Ok.n c.args.i.now) value.thing
+    c.in-Ok.n c.in-Ok-judge_value.value.used c.in-Ok.ensures.judged refl value.is
 
 pub returns-in-Err-judge_value-clause-judged : goal.returns-in-Err-judge_value-clause-judged
 returns-in-Err-judge_value-clause-judged c =

@@ -13,7 +13,8 @@ returns-else-found-fields-clause-judged c =
     let full = rw take_rest at c.if-found-fields.false in
     let class : judge_number bytes2 c.args.payload.now ≡ took c.from_be_bytes-class.result 2 = search rules in
     let id : judge_number bytes2 (drop 2 c.args.payload.now) ≡ took c.from_be_bytes-id.result 2 = search rules in
-    method_read c.args.payload.now (drop 4 c.args.payload.now) c.from_be_bytes-class.result c.from_be_bytes-id.result c.shapes_of.result c.in-Some.shapes c.in-Ok.found (λ k. omega (arith, c.type_inv.payload k)) c.in-len4-up.len_at_least class id (sym (drop-drop 2 2 c.args.payload.now))
+    method_read c.args.payload.now (drop 4 c.args.payload.now) c.from_be_bytes-class.result c.from_be_bytes-id.result c.shapes_of.result
+    c.in-Some.shapes c.in-Ok.found (λ k. omega (arith, c.type_inv.payload k)) c.in-len4-up.len_at_least class id (sym (drop-drop 2 2 c.args.payload.now))
     c.shapes_of.ensures.slots c.in-Some.is (omega (arith, few, full)) judged
 
 pub returns-else-found-fields-clause-counts : goal.returns-else-found-fields-clause-counts
@@ -21,4 +22,5 @@ returns-else-found-fields-clause-counts c =
     let listed = rw take_rest at c.list_fields-count.ensures in
     let class : judge_number bytes2 c.args.payload.now ≡ took c.from_be_bytes-class.result 2 = search rules in
     let id : judge_number bytes2 (drop 2 c.args.payload.now) ≡ took c.from_be_bytes-id.result 2 = search rules in
-    method_listed c.args.deep c.args.end c.args.count c.args.payload.now (drop 4 c.args.payload.now) c.from_be_bytes-class.result c.from_be_bytes-id.result c.shapes_of.result c.in-Some.shapes _ _ _ class id (sym (drop-drop 2 2 c.args.payload.now)) c.shapes_of.ensures.slots c.in-Some.is listed
+    method_listed c.args.deep c.args.end c.args.count c.args.payload.now (drop 4 c.args.payload.now) c.from_be_bytes-class.result c.from_be_bytes-id.result
+    c.shapes_of.result c.in-Some.shapes _ _ _ class id (sym (drop-drop 2 2 c.args.payload.now)) c.shapes_of.ensures.slots c.in-Some.is listed

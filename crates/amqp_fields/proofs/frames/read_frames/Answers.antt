@@ -22,12 +22,14 @@ returns-then-count-heads-clause-frames c =
 
 pub returns-then-count-heads-clause-end : goal.returns-then-count-heads-clause-end
 returns-then-count-heads-clause-end c =
-    let no_room : c.loop-used.count < length c.loop-used.heads → length c.read_next.new.nodes < c.loop-used.total + c.in-Ok.found.1.nodes = λ room. elim c.then-count-heads.branch [
+    let no_room : c.loop-used.count < length c.loop-used.heads → length c.read_next.new.nodes < c.loop-used.total + c.in-Ok.found.1.nodes =
+    λ room. elim c.then-count-heads.branch [
       | then-count-heads-via-then-count-heads w ↦ absurd (omega (arith, room, w.if-count-heads))
       | then-count-heads-via-else-count-heads+then-more-nodes w ↦ omega (arith, w.if-more-nodes)
     ] in
     let read : FramesRead = record { used = c.loop-used.used; heads = c.loop-used.count; nodes = c.loop-used.total; end = ends.Full c.in-Ok.found.1.nodes } in
-    let full = going_full c.loop-used.invariant c.in-Ok.ensures read (length c.loop-used.heads) (length c.read_next.new.nodes) c.in-Ok.found.1.nodes refl refl no_room in
+    let full =
+    going_full c.loop-used.invariant c.in-Ok.ensures read (length c.loop-used.heads) (length c.read_next.new.nodes) c.in-Ok.found.1.nodes refl refl no_room in
     rw c.in_reach-reach.ensures at full
 
 pub loop-used-preserved : goal.loop-used-preserved

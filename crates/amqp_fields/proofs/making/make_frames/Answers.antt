@@ -8,10 +8,13 @@ pub loop-rest-init : goal.loop-rest-init
 loop-rest-init c = heads_begin c.args.pool.now c.args.nodes.now c.args.max_payload c.args.heads.now c.args.buf.now
 
 pub returns-in-Err : goal.returns-in-Err
-returns-in-Err c = head_refused c.args.pool.now c.args.nodes.now c.args.max_payload c.in-Err.bad c.within.result _ c.loop-rest.invariant c.in-Some.ensures.found refl c.in-Err.ensures c.within.ensures
+returns-in-Err c =
+    head_refused c.args.pool.now c.args.nodes.now c.args.max_payload c.in-Err.bad c.within.result
+    _ c.loop-rest.invariant c.in-Some.ensures.found refl c.in-Err.ensures c.within.ensures
 
 pub loop-rest-preserved : goal.loop-rest-preserved
-loop-rest-preserved c = head_made c.args.pool.now c.args.nodes.now c.args.max_payload c.loop-rest.invariant c.in-Some.ensures.found c.in-Ok.ensures c.plus-made.ensures
+loop-rest-preserved c =
+    head_made c.args.pool.now c.args.nodes.now c.args.max_payload c.loop-rest.invariant c.in-Some.ensures.found c.in-Ok.ensures c.plus-made.ensures
 
 pub returns : goal.returns
 returns c = heads_made c.args.pool.now c.args.nodes.now c.args.max_payload c.loop-rest.invariant (grind (arith, nat_tests))

@@ -32,7 +32,10 @@ abbrev pub decreases-make_entries-loop-rest : goal.decreases-make_entries-loop-r
 decreases-make_entries-loop-rest l = length l.rest
 
 abbrev pub invariant-make_values-loop-rest : goal.invariant-make_values-loop-rest
-invariant-make_values-loop-rest l = Onward (made_each (made_value l.pool l.depth_left) l.end 0 l.nodes) (made_each (made_value l.pool l.depth_left) l.end 0 l.rest) l.fn.buf l.buf l.at l.made
+invariant-make_values-loop-rest l =
+    Onward (made_each (made_value l.pool l.depth_left) l.end 0 l.nodes) (made_each (made_value l.pool l.depth_left) l.end 0 l.rest) l.fn.buf l.buf l.at l.made
 
 abbrev pub invariant-make_entries-loop-rest : goal.invariant-make_entries-loop-rest
-invariant-make_entries-loop-rest l = Onward (made_each (made_entry l.pool (made_value l.pool l.depth_left)) l.end 0 l.nodes) (made_each (made_entry l.pool (made_value l.pool l.depth_left)) l.end 0 l.rest) l.fn.buf l.buf l.at l.made
+invariant-make_entries-loop-rest l =
+    Onward (made_each (made_entry l.pool (made_value l.pool l.depth_left)) l.end 0 l.nodes)
+    (made_each (made_entry l.pool (made_value l.pool l.depth_left)) l.end 0 l.rest) l.fn.buf l.buf l.at l.made

@@ -8,4 +8,5 @@ use Rattle.amqp_fields.proofs.putting.put_long.Goals as goal
 pub returns : goal.returns
 returns c =
     long_put c.args.index c.args.bytes.now (grind (arith, nat_tests, c.if-bytes.false))
-    (both_put {a = number_bytes bytes4 (length c.args.bytes.now)} {b = c.args.bytes.now} c.put_count-head.ensures c.plus.ensures c.put-n.ensures c.plus-2.ensures)
+    (both_put {a = number_bytes bytes4 (length c.args.bytes.now)}
+    {b = c.args.bytes.now} c.put_count-head.ensures c.plus.ensures c.put-n.ensures c.plus-2.ensures)

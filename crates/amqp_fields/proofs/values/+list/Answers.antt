@@ -4,57 +4,74 @@ use Rattle.std.proofs.lemmas.List.{take_rest}
 use Rattle.std.proofs.lemmas.Bool.Decides.{nat_tests}
 use Rattle.amqp_fields.specs.Nodes.{blank}
 use Rattle.amqp_fields.specs.Listed.{listed_entry, listed_value}
-use Rattle.amqp_fields.proofs.Stepping.{too_deep_array, too_deep_table, array_behind, table_behind, items_listed, items_unlisted, value_goes_on, value_stops, entry_goes_on, entry_stops, stops, done}
+use Rattle.amqp_fields.proofs.Stepping.{too_deep_array, too_deep_table, array_behind, table_behind, items_listed, items_unlisted, value_goes_on, value_stops}
+use Rattle.amqp_fields.proofs.Stepping.{entry_goes_on, entry_stops, stops, done}
 use Rattle.amqp_fields.proofs.values.+list.Goals as goal
 
 pub list_after_tag-returns-in-FieldArray-clause-listed : goal.list_after_tag-returns-in-FieldArray-clause-listed
-list_after_tag-returns-in-FieldArray-clause-listed t c = too_deep_array c.args.depth_left c.args.end c.args.label c.args.tag c.args.i.now _ _ _ _ c.if-depth_left-eq0.true c.in-FieldArray.is
+list_after_tag-returns-in-FieldArray-clause-listed t c =
+    too_deep_array c.args.depth_left c.args.end c.args.label c.args.tag c.args.i.now _ _ _ _ c.if-depth_left-eq0.true c.in-FieldArray.is
 
 pub list_after_tag-returns-in-FieldArray-2-clause-listed : goal.list_after_tag-returns-in-FieldArray-2-clause-listed
-list_after_tag-returns-in-FieldArray-2-clause-listed t c = array_behind c.args.depth_left c.args.end c.args.label c.args.tag c.args.i.now _ _ _ _ (omega arith) c.in-FieldArray-2.is c.list_array.ensures.listed
+list_after_tag-returns-in-FieldArray-2-clause-listed t c =
+    array_behind c.args.depth_left c.args.end c.args.label c.args.tag c.args.i.now _ _ _ _ (omega arith) c.in-FieldArray-2.is c.list_array.ensures.listed
 
 pub list_after_tag-returns-in-FieldTable-clause-listed : goal.list_after_tag-returns-in-FieldTable-clause-listed
-list_after_tag-returns-in-FieldTable-clause-listed t c = too_deep_table c.args.depth_left c.args.end c.args.label c.args.tag c.args.i.now _ _ _ _ c.if-depth_left-eq0-2.true c.in-FieldTable.is
+list_after_tag-returns-in-FieldTable-clause-listed t c =
+    too_deep_table c.args.depth_left c.args.end c.args.label c.args.tag c.args.i.now _ _ _ _ c.if-depth_left-eq0-2.true c.in-FieldTable.is
 
 pub list_after_tag-returns-in-FieldTable-2-clause-listed : goal.list_after_tag-returns-in-FieldTable-2-clause-listed
-list_after_tag-returns-in-FieldTable-2-clause-listed t c = table_behind c.args.depth_left c.args.end c.args.label c.args.tag c.args.i.now _ _ _ _ (omega arith) c.in-FieldTable-2.is c.list_table.ensures.listed
+list_after_tag-returns-in-FieldTable-2-clause-listed t c =
+    table_behind c.args.depth_left c.args.end c.args.label c.args.tag c.args.i.now _ _ _ _ (omega arith) c.in-FieldTable-2.is c.list_table.ensures.listed
 
 pub list_array-returns-in-None-clause-listed : goal.list_array-returns-in-None-clause-listed
-list_array-returns-in-None-clause-listed t c = items_unlisted (λ end. listed_value c.args.depth_left end blank) c.args.end c.args.label c.args.i.now _ _ _ _ c.in-None.ensures.found
+list_array-returns-in-None-clause-listed t c =
+    items_unlisted (λ end. listed_value c.args.depth_left end blank) c.args.end c.args.label c.args.i.now _ _ _ _ c.in-None.ensures.found
 
 pub list_array-returns-in-Some-clause-listed : goal.list_array-returns-in-Some-clause-listed
 list_array-returns-in-Some-clause-listed t c =
-    items_listed (λ end. listed_value c.args.depth_left end blank) c.args.end c.args.label c.covered-node.result c.args.i.now c.in-Some.content.now _ c.in-Some.used c.before-inner.result c.args.count c.push-begun.result c.list_values-filled.result _ _ _ _
-    c.in-Some.ensures.found (take_rest c.args.i.now c.in-Some.used) c.before-inner.ensures c.covered-node.ensures c.push-begun.ensures c.list_values-filled.ensures c.close.ensures
+    items_listed (λ end. listed_value c.args.depth_left end blank) c.args.end c.args.label c.covered-node.result c.args.i.now
+    c.in-Some.content.now _ c.in-Some.used c.before-inner.result c.args.count c.push-begun.result c.list_values-filled.result _ _ _ _
+    c.in-Some.ensures.found (take_rest c.args.i.now c.in-Some.used) c.before-inner.ensures
+    c.covered-node.ensures c.push-begun.ensures c.list_values-filled.ensures.listed c.close.ensures
 
 pub list_table-returns-in-None-clause-listed : goal.list_table-returns-in-None-clause-listed
-list_table-returns-in-None-clause-listed t c = items_unlisted (listed_entry (listed_value c.args.depth_left)) c.args.end c.args.label c.args.i.now _ _ _ _ c.in-None.ensures.found
+list_table-returns-in-None-clause-listed t c =
+    items_unlisted (listed_entry (listed_value c.args.depth_left)) c.args.end c.args.label c.args.i.now _ _ _ _ c.in-None.ensures.found
 
 pub list_table-returns-in-Some-clause-listed : goal.list_table-returns-in-Some-clause-listed
 list_table-returns-in-Some-clause-listed t c =
-    items_listed (listed_entry (listed_value c.args.depth_left)) c.args.end c.args.label c.covered-node.result c.args.i.now c.in-Some.content.now _ c.in-Some.used c.before-inner.result c.args.count c.push-begun.result c.list_entries-filled.result _ _ _ _
-    c.in-Some.ensures.found (take_rest c.args.i.now c.in-Some.used) c.before-inner.ensures c.covered-node.ensures c.push-begun.ensures c.list_entries-filled.ensures c.close.ensures
+    items_listed (listed_entry (listed_value c.args.depth_left)) c.args.end c.args.label c.covered-node.result c.args.i.now
+    c.in-Some.content.now _ c.in-Some.used c.before-inner.result c.args.count c.push-begun.result c.list_entries-filled.result _ _ _ _
+    c.in-Some.ensures.found (take_rest c.args.i.now c.in-Some.used) c.before-inner.ensures
+    c.covered-node.ensures c.push-begun.ensures c.list_entries-filled.ensures.listed c.close.ensures
 
 pub list_values-loop-rest-preserved : goal.list_values-loop-rest-preserved
 list_values-loop-rest-preserved t c =
     let found = c.in-Some.found in
     let step = c.list_after_tag-step in
-    value_goes_on c.args.depth_left c.args.end c.default.result found.label found.tag found.behind.now _ step.new.nodes step.result c.loop-rest.invariant.0 c.default.ensures c.in-Some.ensures.some c.in-Some.ensures.tag c.in-Some.ensures.label c.in-Some.ensures.behind step.ensures.listed (take_rest found.behind.now step.result.used) c.loop-rest.invariant.1
+    value_goes_on c.args.depth_left c.args.end c.default.result found.label found.tag found.behind.now _ step.new.nodes
+    step.result c.loop-rest.invariant.0 c.default.ensures c.in-Some.ensures.some c.in-Some.ensures.tag c.in-Some.ensures.label
+    c.in-Some.ensures.behind step.ensures.listed (take_rest found.behind.now step.result.used) c.loop-rest.invariant.1
 
-pub list_values-returns-in-None : goal.list_values-returns-in-None
-list_values-returns-in-None t c = stops c.loop-rest.invariant.0 (grind (arith, nat_tests)) (value_stops c.args.depth_left c.args.end blank c.loop-rest.rest.now (c.in-None.ensures.none refl))
+pub list_values-returns-in-None-clause-listed : goal.list_values-returns-in-None-clause-listed
+list_values-returns-in-None-clause-listed t c =
+    stops c.loop-rest.invariant.0 (grind (arith, nat_tests)) (value_stops c.args.depth_left c.args.end blank c.loop-rest.rest.now (c.in-None.ensures.none refl))
 
-pub list_values-returns : goal.list_values-returns
-list_values-returns t c = done c.loop-rest.invariant.0 (grind (arith, nat_tests))
+pub list_values-returns-clause-listed : goal.list_values-returns-clause-listed
+list_values-returns-clause-listed t c = done c.loop-rest.invariant.0 (grind (arith, nat_tests))
 
 pub list_entries-loop-rest-preserved : goal.list_entries-loop-rest-preserved
 list_entries-loop-rest-preserved t c =
     let found = c.in-Some.found in
     let step = c.list_after_tag-step in
-    entry_goes_on c.args.depth_left c.args.end found.label found.tag found.behind.now _ step.new.nodes step.result c.loop-rest.invariant.0 c.in-Some.ensures.size c.in-Some.ensures.byte (omega arith) (omega arith) c.in-Some.ensures.tag c.in-Some.ensures.label c.in-Some.ensures.behind step.ensures.listed (take_rest found.behind.now step.result.used) c.loop-rest.invariant.1
+    entry_goes_on c.args.depth_left c.args.end found.label found.tag found.behind.now _ step.new.nodes step.result c.loop-rest.invariant.0
+    c.in-Some.ensures.size (omega arith) c.in-Some.ensures.tag c.in-Some.ensures.label
+    c.in-Some.ensures.behind step.ensures.listed (take_rest found.behind.now step.result.used) c.loop-rest.invariant.1
 
-pub list_entries-returns-in-None : goal.list_entries-returns-in-None
-list_entries-returns-in-None t c = stops c.loop-rest.invariant.0 (grind (arith, nat_tests)) (entry_stops c.args.depth_left c.args.end c.loop-rest.rest.now (c.in-None.ensures.none refl))
+pub list_entries-returns-in-None-clause-listed : goal.list_entries-returns-in-None-clause-listed
+list_entries-returns-in-None-clause-listed t c =
+    stops c.loop-rest.invariant.0 (grind (arith, nat_tests)) (entry_stops c.args.depth_left c.args.end c.loop-rest.rest.now (c.in-None.ensures.none refl))
 
-pub list_entries-returns : goal.list_entries-returns
-list_entries-returns t c = done c.loop-rest.invariant.0 (grind (arith, nat_tests))
+pub list_entries-returns-clause-listed : goal.list_entries-returns-clause-listed
+list_entries-returns-clause-listed t c = done c.loop-rest.invariant.0 (grind (arith, nat_tests))

@@ -27,7 +27,10 @@ abbrev pub decreases-list_entries-loop-rest : goal.decreases-list_entries-loop-r
 decreases-list_entries-loop-rest l = length l.rest
 
 abbrev pub invariant-list_values-loop-rest : goal.invariant-list_values-loop-rest
-invariant-list_values-loop-rest l = GoesOn (listed_value l.depth_left l.end blank) l.content l.fn.nodes l.fn.count l.rest l.nodes l.now l.items × (l.items + length l.rest ≤ length l.content)
+invariant-list_values-loop-rest l =
+    GoesOn (listed_value l.depth_left l.end blank) l.content l.fn.nodes l.fn.count l.rest l.nodes l.now l.items × (l.items + length l.rest ≤ length l.content)
 
 abbrev pub invariant-list_entries-loop-rest : goal.invariant-list_entries-loop-rest
-invariant-list_entries-loop-rest l = GoesOn (listed_entry (listed_value l.depth_left) l.end) l.content l.fn.nodes l.fn.count l.rest l.nodes l.now l.items × (l.items + length l.rest ≤ length l.content)
+invariant-list_entries-loop-rest l =
+    GoesOn (listed_entry (listed_value l.depth_left) l.end) l.content l.fn.nodes l.fn.count l.rest l.nodes l.now l.items
+    × (l.items + length l.rest ≤ length l.content)

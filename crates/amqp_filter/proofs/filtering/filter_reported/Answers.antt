@@ -9,15 +9,24 @@ use Rattle.amqp_filter.proofs.filtering.filter_reported.Goals as goal
 
 pub returns-clause-run : goal.returns-clause-run
 returns-clause-run g c =
-    rw c.as_turned_report.ensures (reported_run is_method_type true (filters_by_turns c.args.rules.now) _ _ c.run_stream_reported-run.result (is_new c.args.rules.now _ c.new-writer.ensures.rules c.new-writer.ensures.messages) c.run_stream_reported-run.ensures.run)
+    rw c.as_turned_report.ensures (reported_run is_method_type true (filters_by_turns c.args.rules.now) _ _ c.run_stream_reported-run.result
+    (is_new c.args.rules.now _ c.new-writer.ensures.rules c.new-writer.ensures.messages) c.run_stream_reported-run.ensures.run)
 
 pub returns-clause-never_untidy : goal.returns-clause-never_untidy
-returns-clause-never_untidy g c = rw (c.as_turned_report.ensures, unreported_turned) (never_untidy is_method_type true (filters_by_turns c.args.rules.now) _ (without_report c.run_stream_reported-run.ensures.run))
+returns-clause-never_untidy g c =
+    rw (c.as_turned_report.ensures, unreported_turned)
+    (never_untidy is_method_type true (filters_by_turns c.args.rules.now) _ (without_report c.run_stream_reported-run.ensures.run))
 
 pub returns-clause-never_too_large : goal.returns-clause-never_too_large
 returns-clause-never_too_large g c =
-    rw (c.as_turned_report.ensures, unreported_turned) (λ e. (fresh is_method_type true (filters_by_turns c.args.rules.now) _ _ (is_new c.args.rules.now _ c.new-writer.ensures.rules c.new-writer.ensures.messages) (without_report c.run_stream_reported-run.ensures.run) e).0 refl)
+    rw (c.as_turned_report.ensures, unreported_turned) (λ e.
+    (fresh is_method_type true (filters_by_turns c.args.rules.now) _ _
+    (is_new c.args.rules.now _ c.new-writer.ensures.rules c.new-writer.ensures.messages) (without_report c.run_stream_reported-run.ensures.run) e).0
+    refl)
 
 pub returns-clause-never_faulted : goal.returns-clause-never_faulted
 returns-clause-never_faulted g c =
-    rw (c.as_turned_report.ensures, unreported_turned) (λ e. (fresh is_method_type true (filters_by_turns c.args.rules.now) _ _ (is_new c.args.rules.now _ c.new-writer.ensures.rules c.new-writer.ensures.messages) (without_report c.run_stream_reported-run.ensures.run) e).1 refl)
+    rw (c.as_turned_report.ensures, unreported_turned) (λ e.
+    (fresh is_method_type true (filters_by_turns c.args.rules.now) _ _
+    (is_new c.args.rules.now _ c.new-writer.ensures.rules c.new-writer.ensures.messages) (without_report c.run_stream_reported-run.ensures.run) e).1
+    refl)

@@ -12,5 +12,7 @@ pub returns : goal.returns
 unfolding content_header_bytes
 returns c =
     let header = header_of c.args.header.now in
-    let first = subst (λ (bytes : List ℕ). Puts c.args.buf.now c.put_bytes-at.new.buf c.args.at bytes c.put_bytes-at.result) c.header_start.ensures c.put_bytes-at.ensures in
+    let first =
+    subst (λ (bytes : List ℕ). Puts c.args.buf.now c.put_bytes-at.new.buf c.args.at bytes c.put_bytes-at.result)
+    c.header_start.ensures c.put_bytes-at.ensures in
     puts_then _ _ _ _ _ _ (slots_bytes header_slots (header_items header)) (properties_bytes header.options) c.requires.room first c.put_properties.ensures

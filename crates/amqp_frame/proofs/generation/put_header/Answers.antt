@@ -13,7 +13,9 @@ pub put_around-requires-clause-room : goal.put_around-requires-clause-room
 put_around-requires-clause-room c =
     let bytes = content_header_bytes (header_of c.args.header.now) in
     let size = framed_length 2 c.args.channel_id bytes in
-    let same = puts-length c.args.buf.now c.put_content_header-end.new.buf _ c.put_content_header-end.result bytes (omega (arith, size, c.requires.room)) c.put_content_header-end.ensures in
+    let same =
+    puts-length c.args.buf.now c.put_content_header-end.new.buf _ c.put_content_header-end.result bytes
+    (omega (arith, size, c.requires.room)) c.put_content_header-end.ensures in
     omega (arith, size, same, c.requires.room, c.put_content_header-end.ensures.behind)
 
 pub returns : goal.returns

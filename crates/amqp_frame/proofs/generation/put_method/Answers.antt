@@ -13,7 +13,8 @@ pub put_around-requires-clause-room : goal.put_around-requires-clause-room
 put_around-requires-clause-room c =
     let bytes = payload_bytes (method_of c.args.class.now) in
     let size = framed_length 1 c.args.channel_id bytes in
-    let same = puts-length c.args.buf.now c.put_class-end.new.buf _ c.put_class-end.result bytes (omega (arith, size, c.requires.room)) c.put_class-end.ensures in
+    let same =
+    puts-length c.args.buf.now c.put_class-end.new.buf _ c.put_class-end.result bytes (omega (arith, size, c.requires.room)) c.put_class-end.ensures in
     omega (arith, size, same, c.requires.room, c.put_class-end.ensures.behind)
 
 pub returns : goal.returns

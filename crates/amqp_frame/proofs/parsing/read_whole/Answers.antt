@@ -7,4 +7,6 @@ pub returns-clause-inside : goal.returns-clause-inside
 returns-clause-inside c = payload_error c.args.frame_type c.args.channel_id c.args.payload.now _ c.read_as.ensures.whole
 
 pub returns-clause-within : goal.returns-clause-within
-returns-clause-within c = λ few. payload_within c.args.frame_type c.args.channel_id c.args.payload.now _ (omega (arith, c.ranges.channel_id.fits)) (λ i. omega (arith, c.type_inv.payload i)) few c.read_as.ensures.whole
+returns-clause-within c = λ few.
+    payload_within c.args.frame_type c.args.channel_id c.args.payload.now _
+    (omega (arith, c.ranges.channel_id.fits)) (λ i. omega (arith, c.type_inv.payload i)) few c.read_as.ensures.whole

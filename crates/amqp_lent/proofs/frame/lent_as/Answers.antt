@@ -27,7 +27,9 @@ header_in-requires c =
     header_long c.args.channel c.args.payload.now one.0 one.1
 
 pub returns-in-ProtocolHeader-clause-same : goal.returns-in-ProtocolHeader-clause-same
-returns-in-ProtocolHeader-clause-same c = ap (λ (r : Raw). whole r) c.version_in.ensures ∙ version_any 0 c.args.channel c.args.payload.now ∙ sym (ap (λ k. whole_as k c.args.channel c.args.payload.now) c.in-ProtocolHeader.is)
+returns-in-ProtocolHeader-clause-same c =
+    ap (λ (r : Raw). whole r) c.version_in.ensures ∙ version_any 0 c.args.channel c.args.payload.now
+    ∙ sym (ap (λ k. whole_as k c.args.channel c.args.payload.now) c.in-ProtocolHeader.is)
 
 pub returns-in-Method-clause-same : goal.returns-in-Method-clause-same
 returns-in-Method-clause-same c = ap (λ (r : Raw). whole r) c.method_in.ensures ∙ sym (ap (λ k. whole_as k c.args.channel c.args.payload.now) c.in-Method.is)
@@ -39,7 +41,9 @@ pub returns-in-Body-clause-same : goal.returns-in-Body-clause-same
 returns-in-Body-clause-same c = sym (ap (λ k. whole_as k c.args.channel c.args.payload.now) c.in-Body.is)
 
 pub returns-in-Heartbeat-clause-same : goal.returns-in-Heartbeat-clause-same
-returns-in-Heartbeat-clause-same c = ap (λ (r : Raw). whole r) c.heartbeat_on.ensures ∙ beat_any c.args.channel [] c.args.payload.now ∙ sym (ap (λ k. whole_as k c.args.channel c.args.payload.now) c.in-Heartbeat.is)
+returns-in-Heartbeat-clause-same c =
+    ap (λ (r : Raw). whole r) c.heartbeat_on.ensures ∙ beat_any c.args.channel [] c.args.payload.now
+    ∙ sym (ap (λ k. whole_as k c.args.channel c.args.payload.now) c.in-Heartbeat.is)
 
 pub returns-in-ProtocolHeader-clause-within : goal.returns-in-ProtocolHeader-clause-within
 returns-in-ProtocolHeader-clause-within c = omega (arith, ap (λ (r : Raw). length r.payload) c.version_in.ensures)

@@ -14,18 +14,24 @@ returns-in-empty-clause-first c = no_item c.args.depth_left c.args.content.now (
 
 pub value_in-requires : goal.value_in-requires
 value_in-requires c =
-    let h = item_here c.args.depth_left c.args.content.now (used_by (judge_value c.args.depth_left c.args.content.now)) (λ k. omega (arith, c.type_inv.content k)) (omega (arith, c.in-len1-up.len_at_least)) c.requires.read (λ read. refl) in
+    let h =
+    item_here c.args.depth_left c.args.content.now (used_by (judge_value c.args.depth_left c.args.content.now))
+    (λ k. omega (arith, c.type_inv.content k)) (omega (arith, c.in-len1-up.len_at_least)) c.requires.read (λ read. refl) in
     record { read = h.read }
 
 pub returns-in-Some-clause-left : goal.returns-in-Some-clause-left
 returns-in-Some-clause-left c =
-    let h = item_here c.args.depth_left c.args.content.now c.value_size.result (λ k. omega (arith, c.type_inv.content k)) (omega (arith, c.in-len1-up.len_at_least)) c.requires.read (c.value_size.ensures.used c.args.depth_left) in
+    let h =
+    item_here c.args.depth_left c.args.content.now c.value_size.result (λ k. omega (arith, c.type_inv.content k))
+    (omega (arith, c.in-len1-up.len_at_least)) c.requires.read (c.value_size.ensures.used c.args.depth_left) in
     let P : List ℕ → Type 0 = λ bs. IsFilled (filled (judge_value c.args.depth_left) 0 bs) in
     subst P (sym c.bytes_from.ensures) h.left
 
 pub returns-in-Some-clause-first : goal.returns-in-Some-clause-first
 returns-in-Some-clause-first c =
-    let h = item_here c.args.depth_left c.args.content.now c.value_size.result (λ k. omega (arith, c.type_inv.content k)) (omega (arith, c.in-len1-up.len_at_least)) c.requires.read (c.value_size.ensures.used c.args.depth_left) in
+    let h =
+    item_here c.args.depth_left c.args.content.now c.value_size.result (λ k. omega (arith, c.type_inv.content k))
+    (omega (arith, c.in-len1-up.len_at_least)) c.requires.read (c.value_size.ensures.used c.args.depth_left) in
     let P : List ℕ → Type 0 = λ bs. StartsWith c.args.depth_left c.args.content.now (Some (value_of c.in-Some.item, bs)) in
     let Q : FieldValue → Type 0 = λ v. StartsWith c.args.depth_left c.args.content.now (Some (v, c.bytes_from.result.now)) in
     let R : List ℕ → Type 0 = λ bs. StartsWith c.args.depth_left c.args.content.now (Some (h.value, bs)) in
@@ -35,6 +41,8 @@ returns-in-Some-clause-first c =
 
 pub returns-in-None-clause-first : goal.returns-in-None-clause-first
 returns-in-None-clause-first c =
-    let h = item_here c.args.depth_left c.args.content.now (used_by (judge_value c.args.depth_left c.args.content.now)) (λ k. omega (arith, c.type_inv.content k)) (omega (arith, c.in-len1-up.len_at_least)) c.requires.read (λ read. refl) in
+    let h =
+    item_here c.args.depth_left c.args.content.now (used_by (judge_value c.args.depth_left c.args.content.now))
+    (λ k. omega (arith, c.type_inv.content k)) (omega (arith, c.in-len1-up.len_at_least)) c.requires.read (λ read. refl) in
     let e : None ≡ Some h.value = c.in-None.ensures ∙ sym h.is in
     absurd cc

@@ -25,8 +25,10 @@ are_same_entries-returns-then-ne t c =
     let f = entry_of (c.in-Some-entry_after.other_key, c.in-Some-entry_after.other) in
     let h = same_here es fs last e f c.loop-key.invariant c.in-Some.ensures c.in-Some-entry_after.ensures in
     elim c.then-ne.branch [
-      | are_same_entries-then-ne-via-then-ne w ↦ (λ no. absurd (true≢false (sym no)), λ same. absurd (key_other _ _ c.ne.result c.ne.ensures w.if-ne.true (ap (λ (x : Entry). x.0) (h.same same))))
-      | are_same_entries-then-ne-via-else-ne+then-not-is_same_value w ↦ (λ no. absurd (true≢false (sym no)), λ same. sym w.if-not-is_same_value.true ∙ w.is_same_value.ensures.1 (ap (λ (x : Entry). x.1) (h.same same)))
+      | are_same_entries-then-ne-via-then-ne w ↦
+          (λ no. absurd (true≢false (sym no)), λ same. absurd (key_other _ _ c.ne.result c.ne.ensures w.if-ne.true (ap (λ (x : Entry). x.0) (h.same same))))
+      | are_same_entries-then-ne-via-else-ne+then-not-is_same_value w ↦
+          (λ no. absurd (true≢false (sym no)), λ same. sym w.if-not-is_same_value.true ∙ w.is_same_value.ensures.1 (ap (λ (x : Entry). x.1) (h.same same)))
     ]
 
 pub are_same_entries-loop-key-smaller : goal.are_same_entries-loop-key-smaller
@@ -59,7 +61,9 @@ are_same_entries-returns t c =
     same_done entry_of es fs last c.entry_after-2.result c.is_none.result c.loop-key.invariant c.in_default.ensures c.entry_after-2.ensures c.is_none.ensures
 
 pub is_same_value-returns-in-FieldArray-FieldArray : goal.is_same_value-returns-in-FieldArray-FieldArray
-is_same_value-returns-in-FieldArray-FieldArray t c = same_arrays _ _ _ _ _ c.in-FieldArray-FieldArray.is-0 c.in-FieldArray-FieldArray.is-1 c.is_same_array.ensures
+is_same_value-returns-in-FieldArray-FieldArray t c =
+    same_arrays _ _ _ _ _ c.in-FieldArray-FieldArray.is-0 c.in-FieldArray-FieldArray.is-1 c.is_same_array.ensures
 
 pub is_same_value-returns-in-FieldTable-FieldTable : goal.is_same_value-returns-in-FieldTable-FieldTable
-is_same_value-returns-in-FieldTable-FieldTable t c = same_tables _ _ _ _ _ c.in-FieldTable-FieldTable.is-0 c.in-FieldTable-FieldTable.is-1 c.is_same_table.ensures
+is_same_value-returns-in-FieldTable-FieldTable t c =
+    same_tables _ _ _ _ _ c.in-FieldTable-FieldTable.is-0 c.in-FieldTable-FieldTable.is-1 c.is_same_table.ensures

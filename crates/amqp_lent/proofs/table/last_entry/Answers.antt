@@ -18,8 +18,12 @@ loop-at-preserved c = λ room read.
     let h = l.invariant room read in
     let P : Option ℕ → Type 0 = λ f. LastTo room content key (l.at + size) f in
     elim c.if-has_key.branch [
-      | then-has_key w ↦ subst P (sym w.found-is) (last_taken room content key l.at size here l.found (λ k. omega (arith, c.type_inv.content k)) c.loop-at-test.true (sized room) refl h (is.0 w.if-has_key.true))
-      | else-has_key w ↦ subst P (sym w.found-is) (last_past room content key l.at size here l.found (λ k. omega (arith, c.type_inv.content k)) c.loop-at-test.true (sized room) refl h (λ same. false≢true (sym w.if-has_key.false ∙ is.1 same)))
+      | then-has_key w ↦
+          subst P (sym w.found-is) (last_taken room content key l.at size here l.found
+          (λ k. omega (arith, c.type_inv.content k)) c.loop-at-test.true (sized room) refl h (is.0 w.if-has_key.true))
+      | else-has_key w ↦
+          subst P (sym w.found-is) (last_past room content key l.at size here l.found (λ k. omega (arith, c.type_inv.content k)) c.loop-at-test.true
+          (sized room) refl h (λ same. false≢true (sym w.if-has_key.false ∙ is.1 same)))
     ]
 
 pub returns : goal.returns

@@ -14,7 +14,12 @@ put_header-end-requires-clause-room c =
 pub put_frame-requires-clause-few : goal.put_frame-requires-clause-few
 put_frame-requires-clause-few c =
     let fits = header_fits c.args.class c.args.body_size c.args.properties.now (λ k. omega (arith, c.type_inv.properties k)) in
-    omega (arith, header_shorter (header_payload c.args.class c.args.body_size c.args.properties.now) fits c.requires.read, c.requires.few, c.put_header-end.ensures.behind)
+    omega (
+      arith,
+      header_shorter (header_payload c.args.class c.args.body_size c.args.properties.now) fits c.requires.read,
+      c.requires.few,
+      c.put_header-end.ensures.behind,
+    )
 
 pub returns : goal.returns
 returns c = c.put_frame.ensures _ _ c.put_header-end.ensures

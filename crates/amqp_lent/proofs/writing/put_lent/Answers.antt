@@ -38,13 +38,16 @@ put_if_room-requires-in-InvalidHeartbeat c = record { room = tested_room (omega 
 pub returns-in-Method : goal.returns-in-Method
 returns-in-Method c = λ read stands.
     let R : LentFrame → Type 0 = λ f. StandsFor f read in
-    let one = method_canon c.in-Method.channel (method_payload c.in-Method.class_id c.in-Method.method_id c.in-Method.slots.now) read (subst R c.in-Method.is stands) in
+    let one =
+    method_canon c.in-Method.channel (method_payload c.in-Method.class_id c.in-Method.method_id c.in-Method.slots.now) read (subst R c.in-Method.is stands) in
     same_put one.1 c.put_method_frame.ensures
 
 pub returns-in-Header : goal.returns-in-Header
 returns-in-Header c = λ read stands.
     let R : LentFrame → Type 0 = λ f. StandsFor f read in
-    let one = header_canon c.in-Header.channel (header_payload c.in-Header.class_id c.in-Header.body_size c.in-Header.properties.now) read (subst R c.in-Header.is stands) in
+    let one =
+    header_canon c.in-Header.channel (header_payload c.in-Header.class_id c.in-Header.body_size c.in-Header.properties.now) read
+    (subst R c.in-Header.is stands) in
     same_put one.1 c.put_header_frame.ensures
 
 pub returns-in-Body : goal.returns-in-Body
@@ -67,4 +70,5 @@ returns-in-Heartbeat c = λ read stands.
 pub returns-in-InvalidHeartbeat : goal.returns-in-InvalidHeartbeat
 returns-in-InvalidHeartbeat c = λ read stands.
     let R : LentFrame → Type 0 = λ f. StandsFor f read in
-    same_put (c.heartbeat_bytes-in-InvalidHeartbeat.ensures ∙ beat_canon c.in-InvalidHeartbeat.channel read (subst R c.in-InvalidHeartbeat.is stands)) c.put_if_room-in-InvalidHeartbeat.ensures
+    same_put (c.heartbeat_bytes-in-InvalidHeartbeat.ensures ∙ beat_canon c.in-InvalidHeartbeat.channel read (subst R c.in-InvalidHeartbeat.is stands))
+    c.put_if_room-in-InvalidHeartbeat.ensures

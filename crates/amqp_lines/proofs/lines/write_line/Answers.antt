@@ -5,4 +5,6 @@ use Rattle.amqp_lines.proofs.lines.write_line.Goals as goal
 
 pub returns : goal.returns
 unfolding line
-returns c = λ frame is. c.in_ok-push.ensures.items ∙ ap (λ (xs : List ℕ). xs ++ 10 ∷ []) (c.in_ok-write_words.ensures frame is) ∙ append_assoc c.args.out.now.items (words frame) (10 ∷ [])
+returns c = λ frame is.
+    c.in_ok-push.ensures.items ∙ ap (λ (xs : List ℕ). xs ++ 10 ∷ []) (c.in_ok-write_words.ensures frame is)
+    ∙ append_assoc c.args.out.now.items (words frame) (10 ∷ [])

@@ -11,4 +11,5 @@ returns-in-empty t c = no_slots c.args.shapes.now c.args.i.now c.args.out.now.it
 pub returns-in_ok-used-in-len1-up : goal.returns-in_ok-used-in-len1-up
 returns-in_ok-used-in-len1-up t c =
     let others = rw take_rest at c.write_slots.ensures in
-    slots_said c.args.shapes.now (slots.Kept forms.Octet) c.args.i.now c.bytes_from.result.now c.args.out.now.items c.write_slot.new.out.items _ c.in_ok-used-in-len1-up.used c.write_slots.result c.in-len1-up.len_at_least c.in_ok-used-in-len1-up.ensures c.bytes_from.ensures others
+    slots_said c.args.shapes.now (slots.Kept forms.Octet) c.args.i.now c.bytes_from.result.now c.args.out.now.items c.write_slot.new.out.items
+    _ c.in_ok-used-in-len1-up.used c.write_slots.result c.in-len1-up.len_at_least c.in_ok-used-in-len1-up.ensures c.bytes_from.ensures others

@@ -6,7 +6,7 @@ use Rattle.amqp_lines.proofs.undumping.gather_lines.Given as goal
 
 abbrev pub invariant-lines : goal.invariant-lines
 invariant-lines g l = record {
-  along : Along l.fn.max_payload l.fn.text l.rest (g.K.Sink.store l.fn.sink) (g.K.Sink.store l.sink) l.fn.out.bytes l.out.bytes;
+  along : Along l.fn.max_payload l.fn.text l.rest l.fn.at l.at (g.K.Sink.store l.fn.sink) (g.K.Sink.store l.sink) l.fn.out.bytes l.out.bytes;
   within : l.seen ≤ length l.rest;
   none : HasNoNewline (take l.seen l.rest);
 }

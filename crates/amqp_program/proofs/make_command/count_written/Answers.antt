@@ -10,5 +10,7 @@ overflow_add-read c = let few = made-short c.args.frames c.requires.few in searc
 pub unreachable-requires : goal.unreachable-requires
 unreachable-requires c =
     let call = c.canonicalize-answer in
-    let done = made_or_no_memory c.args.frames (c.args.read + 1) c.new-source.result call.new.source c.new-sink.result call.new.sink call.result c.requires.few c.new-source.ensures (omega (arith, c.requires.read)) c.new-sink.ensures call.ensures.run c.total-written.ensures.faultless in
+    let done =
+    made_or_no_memory c.args.frames (c.args.read + 1) c.new-source.result call.new.source c.new-sink.result call.new.sink call.result
+    c.requires.few c.new-source.ensures (omega (arith, c.requires.read)) c.new-sink.ensures call.ensures.run c.total-written.ensures.faultless in
     no_other_error call.result c.in-Err.error c.in-Err.is done c.in_default.not-NoMemory

@@ -1,8 +1,11 @@
--- `rules_named`: clause `usage`.
-use Rattle.std.proofs.Common.{refl, sym, subst}
-use Rattle.amqp_select.specs.Refusals.{texts_of}
-use Rattle.amqp_program.proofs.Selections.{IsRefusal, refused_spell_none}
+-- `rules_named`: clause `refused` where memory runs out.
+use Rattle.std.proofs.Common.{rules}
+use Rattle.amqp_program.proofs.RuleParts.{no_memory_at, refused_memory}
 use Rattle.amqp_program.proofs.rule_words.rules_named.Goals as goal
 
-pub returns-in-Err-Malformed-clause-usage : goal.returns-in-Err-Malformed-clause-usage
-returns-in-Err-Malformed-clause-usage c = (λ e. refused_spell_none (texts_of c.args.words.now) _ (subst IsRefusal (sym c.in-Err-Malformed.field-0-is) tt) c.in-Err-Malformed.ensures, λ none. refl)
+pub returns-in-Err-NoMemory-clause-refused : goal.returns-in-Err-NoMemory-clause-refused
+returns-in-Err-NoMemory-clause-refused c =
+    let read = rw c.in-Err-NoMemory.field-0-is at c.in-Err-NoMemory.ensures in refused_memory _ read
+
+pub returns-clause-refused : goal.returns-clause-refused
+returns-clause-refused c = no_memory_at _ _ c.in-Ok.ensures

@@ -18,4 +18,5 @@ put_header-requires-clause-mask c = c.mask-mask.ensures.bits 15 (omega arith) (o
 
 pub returns : goal.returns
 returns c =
-    given_made c.args.properties.now c.args.out.now c.put_header.new.out c.args.max_payload c.args.channel c.args.class c.args.body_size c.put_header.result c.put_header.ensures
+    given_made c.args.properties.now c.args.out.now c.put_header.new.out c.args.max_payload c.args.channel c.args.class c.args.body_size c.put_header.result
+    c.put_header.ensures

@@ -19,7 +19,9 @@ returns-clause-ok c =
     let id = c.args.channel_id in
     on_ok_weaker c.append.result (λ e.
     c.get_mut.follows.holds c.append.new.self c.requires.there
-    ∙ ap (λ (h : Held). finite.insert messages id h) (e ∙ ap (λ (o : Option Held). record { progress = c.args.progress; kept = kept_in o ++ c.args.bytes.now }) c.in-Some.ensures.value)) c.append.ensures.ok
+    ∙ ap (λ (h : Held). finite.insert messages id h)
+    (e ∙ ap (λ (o : Option Held). record { progress = c.args.progress; kept = kept_in o ++ c.args.bytes.now }) c.in-Some.ensures.value))
+    c.append.ensures.ok
 
 pub returns-clause-err : goal.returns-clause-err
 returns-clause-err c =

@@ -17,7 +17,8 @@ returns-in-Err-gather-clause-gathers g c =
     let front = c.args.front.now in
     let back = c.args.back.now in
     let bytes = piece_bytes c.args.channel_id _ c.frame_head-head.result front back c.frame_head-head.ensures refl in
-    gathers_as _ _ _ _ (Err c.in-Err-gather.fault) bytes (gathers_then _ _ (front ++ (back ++ 206 ∷ [])) (Err c.in-Err-gather.fault) c.in-Ok.ensures.gathers (gathers_less (back ++ 206 ∷ []) c.in-Err-gather.ensures.gathers))
+    gathers_as _ _ _ _ (Err c.in-Err-gather.fault) bytes (gathers_then _ _ (front ++ (back ++ 206 ∷ []))
+    (Err c.in-Err-gather.fault) c.in-Ok.ensures.gathers (gathers_less (back ++ 206 ∷ []) c.in-Err-gather.ensures.gathers))
 
 pub returns-in-Err-gather-2-clause-gathers : goal.returns-in-Err-gather-2-clause-gathers
 returns-in-Err-gather-2-clause-gathers g c =
@@ -25,7 +26,8 @@ returns-in-Err-gather-2-clause-gathers g c =
     let back = c.args.back.now in
     let bytes = piece_bytes c.args.channel_id _ c.frame_head-head.result front back c.frame_head-head.ensures refl in
     let two = gathered_then c.in-Ok.ensures.gathers c.in-Ok-gather.ensures.gathers in
-    gathers_as _ _ _ _ (Err c.in-Err-gather-2.fault) (append_assoc c.frame_head-head.result front (back ++ 206 ∷ []) ∙ bytes) (gathers_then _ _ (back ++ 206 ∷ []) (Err c.in-Err-gather-2.fault) two (gathers_less (206 ∷ []) c.in-Err-gather-2.ensures.gathers))
+    gathers_as _ _ _ _ (Err c.in-Err-gather-2.fault) (append_assoc c.frame_head-head.result front (back ++ 206 ∷ []) ∙ bytes)
+    (gathers_then _ _ (back ++ 206 ∷ []) (Err c.in-Err-gather-2.fault) two (gathers_less (206 ∷ []) c.in-Err-gather-2.ensures.gathers))
 
 pub returns-clause-gathers : goal.returns-clause-gathers
 returns-clause-gathers g c =
@@ -34,4 +36,6 @@ returns-clause-gathers g c =
     let bytes = piece_bytes c.args.channel_id _ c.frame_head-head.result front back c.frame_head-head.ensures refl in
     let two = gathered_then c.in-Ok.ensures.gathers c.in-Ok-gather.ensures.gathers in
     let three = gathered_then two c.in-Ok-gather-2.ensures.gathers in
-    gathers_as _ _ _ _ c.gather-end.result (append_assoc (c.frame_head-head.result ++ front) back (206 ∷ []) ∙ append_assoc c.frame_head-head.result front (back ++ 206 ∷ []) ∙ bytes) (gathers_then _ _ (206 ∷ []) c.gather-end.result three c.gather-end.ensures.gathers)
+    gathers_as _ _ _ _ c.gather-end.result
+    (append_assoc (c.frame_head-head.result ++ front) back (206 ∷ []) ∙ append_assoc c.frame_head-head.result front (back ++ 206 ∷ []) ∙ bytes)
+    (gathers_then _ _ (206 ∷ []) c.gather-end.result three c.gather-end.ensures.gathers)

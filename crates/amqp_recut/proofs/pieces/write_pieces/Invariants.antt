@@ -10,7 +10,9 @@ invariant-loop-first g l = record {
   front : length l.first ≤ length l.front;
   back : length l.second ≤ length l.back;
   room : l.out.room ≡ l.fn.out.room;
-  given : HasGiven (g.K.Sink.store l.fn.sink) (g.K.Sink.store l.sink) l.fn.out.bytes l.out.bytes (canon_frames (frames_given l.size l.channel_id l.ends (l.front ++ l.back))) (canon_frames (frames_given l.size l.channel_id l.ends (l.first ++ l.second)));
+  given : HasGiven (g.K.Sink.store l.fn.sink) (g.K.Sink.store l.sink) l.fn.out.bytes l.out.bytes
+      (canon_frames (frames_given l.size l.channel_id l.ends (l.front ++ l.back)))
+      (canon_frames (frames_given l.size l.channel_id l.ends (l.first ++ l.second)));
 }
 
 abbrev pub decreases-loop-first : goal.decreases-loop-first

@@ -12,9 +12,14 @@ returns-in-Ok-clause-reads g c =
     let buf = c.make_room.new.buf in
     record {
       piece = take c.in-Ok.count c.read.new.buf;
-      are_bytes = part-bytes buf c.read.new.buf span.end (length buf - span.end) c.in-Ok.count (omega arith) (omega arith) (omega (arith, c.in-Ok.ensures.bound)) (λ k. Fits-lt-pow (c.type_inv.buf k));
+      are_bytes =
+          part-bytes buf c.read.new.buf span.end (length buf - span.end) c.in-Ok.count (omega arith)
+          (omega arith) (omega (arith, c.in-Ok.ensures.bound)) (λ k. Fits-lt-pow (c.type_inv.buf k));
       takes = c.in-Ok.ensures.takes;
-      held = part-put buf c.read.new.buf span.start span.end (length buf - span.end) c.in-Ok.count (omega arith) (omega arith) (omega arith) (omega (arith, c.in-Ok.ensures.bound)) ∙ ap (λ (xs : List ℕ). xs ++ take c.in-Ok.count c.read.new.buf) c.make_room.ensures.held;
+      held =
+          part-put buf c.read.new.buf span.start span.end (length buf - span.end) c.in-Ok.count
+          (omega arith) (omega arith) (omega arith) (omega (arith, c.in-Ok.ensures.bound))
+          ∙ ap (λ (xs : List ℕ). xs ++ take c.in-Ok.count c.read.new.buf) c.make_room.ensures.held;
       ok = length-take-le c.in-Ok.count c.read.new.buf (omega (arith, c.in-Ok.ensures.bound));
       end = c.in-Ok.ensures.end;
       err = tt;
@@ -28,7 +33,8 @@ returns-in-Err-clause-reads g c =
       piece = [];
       are_bytes = IsBytes-nil;
       takes = c.in-Err.ensures.takes;
-      held = part-kept buf c.read.new.buf span.start span.end (length buf - span.end) (omega arith) (omega arith) ∙ c.make_room.ensures.held ∙ sym (append-nil _);
+      held =
+          part-kept buf c.read.new.buf span.start span.end (length buf - span.end) (omega arith) (omega arith) ∙ c.make_room.ensures.held ∙ sym (append-nil _);
       ok = tt;
       end = tt;
       err = (refl, c.in-Err.ensures.fault);

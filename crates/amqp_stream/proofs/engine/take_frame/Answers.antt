@@ -1,15 +1,37 @@
 -- `take_frame`: clause `takes`, and what calls require.
-use Rattle.std.proofs.Common.{sym, inr, ◌∙◌, arith}
+use Rattle.std.proofs.Common.{drop, sym, ap, inr, ◌∙◌, arith}
 use Rattle.amqp_types.proofs.Bytes.{IsBytes-drop}
-use Rattle.amqp_stream.proofs.Standing.{stands_taken, refused_stops}
+use Rattle.amqp_wire.specs.declared.looking.FrameLayout.{FrameLayout}
+use Rattle.amqp_wire.specs.Looks.{laid_out}
+use Rattle.amqp_stream.proofs.Standing.{stands_taken, passed_as, refused_stops}
 use Rattle.amqp_stream.proofs.engine.take_frame.Goals as goal
 
 pub with-requires : goal.with-requires
 with-requires g c = omega (arith, c.frame_after.ensures.place)
 
 pub returns-in-Err-clause-takes : goal.returns-in-Err-clause-takes
-returns-in-Err-clause-takes g c = (inr (refused_stops c.frame_after.ensures.frame (rw c.in-Err.is at c.pass-passed.ensures.passes) (rw c.front-bytes.ensures at c.stop_after-error.ensures.ends)), c.skip-in-Err.ensures.held)
+returns-in-Err-clause-takes g c = (
+  inr (refused_stops c.frame_after.ensures.frame (rw c.in-Err.is at c.pass-passed.ensures.passes)
+      (rw c.front-bytes.ensures at c.stop_after-error.ensures.ends)),
+  c.skip-in-Err.ensures.held,
+)
 
 pub returns-then-stands-clause-takes : goal.returns-then-stands-clause-takes
 returns-then-stands-clause-takes g c =
-    stands_taken c.pass-passed.result (IsBytes-drop c.args.stretch.len c.args.reader.now.held c.requires.bytes) c.requires.within c.requires.lies c.frame_after.ensures.frame c.pass-passed.ensures.passes (sym c.stands.ensures ∙ c.if-stands.true) c.with.ensures
+    stands_taken c.pass-passed.result (IsBytes-drop c.args.stretch.len c.args.reader.now.held c.requires.bytes) c.requires.within
+    c.requires.lies c.frame_after.ensures.frame c.pass-passed.ensures.passes (sym c.stands.ensures ∙ c.if-stands.true) c.with.ensures
+
+pub take_decided-requires-clause-decided : goal.take_decided-requires-clause-decided
+take_decided-requires-clause-decided g c =
+    let passes = rw c.in-Ok.is at c.pass-passed.ensures.passes in
+    let bytes = drop c.args.stretch.len c.args.reader.now.held in
+    let frame = c.frame_after.ensures.frame ∙ ap (λ (l : FrameLayout). laid_out l bytes) (sym c.copy_layout-layout.ensures) in
+    (c.args.writer.now, passed_as g.W.FrameWriter.manner c.args.writer.now _ c.in-Ok.decision frame passes)
+
+pub returns-in-Ok-clause-takes : goal.returns-in-Ok-clause-takes
+returns-in-Ok-clause-takes g c =
+    let passes = rw c.in-Ok.is at c.pass-passed.ensures.passes in
+    let bytes = drop c.args.stretch.len c.args.reader.now.held in
+    let frame = c.frame_after.ensures.frame ∙ ap (λ (l : FrameLayout). laid_out l bytes) (sym c.copy_layout-layout.ensures) in
+    let takes = rw c.copy_layout-layout.ensures at c.take_decided.ensures.takes in
+    takes c.args.writer.now (passed_as g.W.FrameWriter.manner c.args.writer.now _ c.in-Ok.decision frame passes)

@@ -10,4 +10,5 @@ loop-done-preserved g c = record {
 }
 
 pub returns-in-Err : goal.returns-in-Err
-returns-in-Err g c = WritesAll-fault _ _ _ c.args.bytes.now c.loop-done.done c.in-Err.fault c.loop-done.invariant.gains c.in-Err.ensures.gains c.in-Err.ensures.fault
+returns-in-Err g c =
+    WritesAll-fault _ _ _ c.args.bytes.now c.loop-done.done c.in-Err.fault c.loop-done.invariant.gains c.in-Err.ensures.gains c.in-Err.ensures.fault

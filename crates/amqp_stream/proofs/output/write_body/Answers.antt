@@ -9,7 +9,9 @@ returns-in-Err-clause-gathers g c =
     let payload = c.args.payload.now in
     let before = c.args.out.now.bytes in
     let pushed = c.push.ensures.pushed ∙ ap (λ (xs : List ℕ). before ++ xs) c.frame_head.ensures in
-    gather_fails (payload ++ 206 ∷ []) c.in-Err.ensures.written (ap (λ (xs : List ℕ). xs ++ (payload ++ 206 ∷ [])) pushed ∙ append_assoc before (head 3 c.args.channel_id (length payload)) (payload ++ 206 ∷ [])) (ap (λ w. w.bytes) c.in-Err.ensures.empty)
+    gather_fails (payload ++ 206 ∷ []) c.in-Err.ensures.written
+    (ap (λ (xs : List ℕ). xs ++ (payload ++ 206 ∷ [])) pushed ∙ append_assoc before (head 3 c.args.channel_id (length payload)) (payload ++ 206 ∷ []))
+    (ap (λ w. w.bytes) c.in-Err.ensures.empty)
 
 pub returns-in-Err-write_all-clause-gathers : goal.returns-in-Err-write_all-clause-gathers
 returns-in-Err-write_all-clause-gathers g c =
@@ -17,7 +19,10 @@ returns-in-Err-write_all-clause-gathers g c =
     let before = c.args.out.now.bytes in
     let pushed = c.push.ensures.pushed ∙ ap (λ (xs : List ℕ). before ++ xs) c.frame_head.ensures in
     let all = WritesAll-then _ _ _ c.push.new.self.bytes payload _ _ c.in-Ok.ensures.written c.in-Err-write_all.ensures in
-    gather_fails (206 ∷ []) all (append_assoc c.push.new.self.bytes payload (206 ∷ []) ∙ ap (λ (xs : List ℕ). xs ++ (payload ++ 206 ∷ [])) pushed ∙ append_assoc before (head 3 c.args.channel_id (length payload)) (payload ++ 206 ∷ [])) (ap (λ w. w.bytes) c.in-Ok.ensures.empty)
+    gather_fails (206 ∷ []) all
+    (append_assoc c.push.new.self.bytes payload (206 ∷ []) ∙ ap (λ (xs : List ℕ). xs ++ (payload ++ 206 ∷ [])) pushed
+    ∙ append_assoc before (head 3 c.args.channel_id (length payload)) (payload ++ 206 ∷ []))
+    (ap (λ w. w.bytes) c.in-Ok.ensures.empty)
 
 pub returns-in-Ok-write_all-clause-gathers : goal.returns-in-Ok-write_all-clause-gathers
 returns-in-Ok-write_all-clause-gathers g c =
@@ -26,4 +31,5 @@ returns-in-Ok-write_all-clause-gathers g c =
     let pushed = c.push.ensures.pushed ∙ ap (λ (xs : List ℕ). before ++ xs) c.frame_head.ensures in
     let all = WritesAll-then _ _ _ c.push.new.self.bytes payload _ _ c.in-Ok.ensures.written c.in-Ok-write_all.ensures in
     let end = c.push-in-Ok-write_all.ensures.pushed ∙ ap (λ w. w.bytes ++ 206 ∷ []) c.in-Ok.ensures.empty in
-    all_but all (ap (λ (xs : List ℕ). (c.push.new.self.bytes ++ payload) ++ xs) end ∙ append_assoc c.push.new.self.bytes payload (206 ∷ []) ∙ ap (λ (xs : List ℕ). xs ++ (payload ++ 206 ∷ [])) pushed ∙ append_assoc before (head 3 c.args.channel_id (length payload)) (payload ++ 206 ∷ []))
+    all_but all (ap (λ (xs : List ℕ). (c.push.new.self.bytes ++ payload) ++ xs) end ∙ append_assoc c.push.new.self.bytes payload (206 ∷ [])
+    ∙ ap (λ (xs : List ℕ). xs ++ (payload ++ 206 ∷ [])) pushed ∙ append_assoc before (head 3 c.args.channel_id (length payload)) (payload ++ 206 ∷ []))

@@ -5,10 +5,14 @@ use Rattle.amqp_stream.proofs.Writes.{added_refused, refused_by, wrote-body, wro
 use Rattle.amqp_stream.proofs.output.write_canonical.Goals as goal
 
 pub returns-in-Ok-clause-writes : goal.returns-in-Ok-clause-writes
-returns-in-Ok-clause-writes g c = wrote-proto (raw_of c.args.raw) _ _ _ _ c.in-Ok.version c.in-ProtocolHeader.is (c.in-Ok.ensures.whole c.args.raw.channel_id) c.header_bytes.ensures c.push.ensures.pushed
+returns-in-Ok-clause-writes g c =
+    wrote-proto (raw_of c.args.raw) _ _ _ _ c.in-Ok.version c.in-ProtocolHeader.is
+    (c.in-Ok.ensures.whole c.args.raw.channel_id) c.header_bytes.ensures c.push.ensures.pushed
 
 pub returns-in-Err-clause-writes : goal.returns-in-Err-clause-writes
-returns-in-Err-clause-writes g c = rw c.payload_error.ensures (added_refused (raw_of c.args.raw) _ _ _ c.in-Err.error c.in-Err.ensures.inside (λ e. c.in-Err.ensures.memory (ap (λ x. Err x) (refused_by e))) (rw c.in-ProtocolHeader.is (c.in-Err.ensures.whole c.args.raw.channel_id)) refl)
+returns-in-Err-clause-writes g c =
+    rw c.payload_error.ensures (added_refused (raw_of c.args.raw) _ _ _ c.in-Err.error c.in-Err.ensures.inside
+    (λ e. c.in-Err.ensures.memory (ap (λ x. Err x) (refused_by e))) (rw c.in-ProtocolHeader.is (c.in-Err.ensures.whole c.args.raw.channel_id)) refl)
 
 pub returns-in-Method-clause-writes : goal.returns-in-Method-clause-writes
 returns-in-Method-clause-writes g c = c.write_typed.ensures.writes _

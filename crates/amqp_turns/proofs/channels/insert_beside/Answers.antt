@@ -19,11 +19,13 @@ pub returns-in-Some-clause-others : goal.returns-in-Some-clause-others
 returns-in-Some-clause-others g c =
     let es = c.args.others.now.entries in
     others_beside c.args.last.now es _ refl c.args.channel_id _ (λ other ne.
-    ap (λ (xs : List (ℕ × g.row.T.Denot)). kept_at xs other) (c.get_mut.follows.holds c.args.value).0 ∙ kept-set_other es c.args.channel_id c.args.value other ne)
+    ap (λ (xs : List (ℕ × g.row.T.Denot)). kept_at xs other) (c.get_mut.follows.holds c.args.value).0
+    ∙ kept-set_other es c.args.channel_id c.args.value other ne)
 
 pub returns-in_err-put_back-in-None-clause-absent : goal.returns-in_err-put_back-in-None-clause-absent
 returns-in_err-put_back-in-None-clause-absent g c =
-    on_err c.from_residual.result (kept_with c.args.last.now c.args.others.now.entries _ refl c.args.channel_id c.requires.other c.args.others.now.entries None (sym c.in-None.ensures.value))
+    on_err c.from_residual.result
+    (kept_with c.args.last.now c.args.others.now.entries _ refl c.args.channel_id c.requires.other c.args.others.now.entries None (sym c.in-None.ensures.value))
 
 pub returns-in_ok-put_back-in-None-clause-kept : goal.returns-in_ok-put_back-in-None-clause-kept
 returns-in_ok-put_back-in-None-clause-kept g c = kept-insert_same c.put_back.new.others.entries c.args.channel_id c.args.value

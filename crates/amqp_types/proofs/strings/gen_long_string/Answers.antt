@@ -5,4 +5,8 @@ use Rattle.amqp_types.proofs.Puts.{appended}
 use Rattle.amqp_types.proofs.strings.gen_long_string.Goals as goal
 
 pub returns : goal.returns
-returns c = (search rules, appended c.args.out.now.items c.grow.new.out.items c.put_long_string.new.buf (with_length c.args.value.now) c.grow.new.out.len c.in_ok-at.at (search rules) (search rules) (search rules) (search rules))
+returns c = (
+  search rules,
+  appended c.args.out.now.items c.grow.new.out.items c.put_long_string.new.buf
+      (with_length c.args.value.now) c.grow.new.out.len c.in_ok-at.at (search rules) (search rules) (search rules) (search rules),
+)

@@ -5,4 +5,6 @@ use Rattle.amqp_types.proofs.Puts.{puts_then}
 use Rattle.amqp_types.proofs.strings.put_long_string.Goals as goal
 
 pub returns : goal.returns
-returns c = puts_then _ _ _ c.args.at _ _ (number_bytes bytes4 (length c.args.value.now)) c.args.value.now c.requires.room c.put_long_uint-place.ensures c.put_bytes.ensures
+returns c =
+    puts_then _ _ _ c.args.at _ _ (number_bytes bytes4 (length c.args.value.now))
+    c.args.value.now c.requires.room c.put_long_uint-place.ensures c.put_bytes.ensures

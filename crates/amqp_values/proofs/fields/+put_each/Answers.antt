@@ -22,4 +22,5 @@ returns-in-Nothing t c =
 pub returns-in_default : goal.returns-in_default
 returns-in_default t c =
     let split = first_rest c.args.fields.now c.first-item.result (omega arith) in
-    put_more c.args.buf.now _ _ c.args.at _ _ c.args.fields.now _ c.first-item.result (rw (← c.first-item.is) at split) c.requires.room c.put_field-place.ensures c.put_each-in_default.ensures
+    put_more c.args.buf.now _ _ c.args.at _ _ c.args.fields.now _ c.first-item.result
+    (rw (← c.first-item.is) at split) c.requires.room c.put_field-place.ensures c.put_each-in_default.ensures

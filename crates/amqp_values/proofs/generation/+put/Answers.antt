@@ -24,7 +24,8 @@ put_tagged-returns t c =
     let v = value_of c.args.value.now in
     let byte : c.to_byte.result ≡ tag_byte (tag_of v) = c.to_byte.ensures ∙ ap tag_byte c.tag.ensures in
     let P : List ℕ → Type 0 = λ bytes. Puts c.args.buf.now c.put_behind.new.buf c.args.at bytes c.put_behind.result in
-    subst P (ap (λ b. b ∷ value_bytes v) byte) (puts_then c.args.buf.now _ _ c.args.at _ _ (c.to_byte.result ∷ []) (value_bytes v) (omega (arith, c.requires.room)) c.put_bytes-place.ensures c.put_behind.ensures)
+    subst P (ap (λ b. b ∷ value_bytes v) byte) (puts_then c.args.buf.now _ _ c.args.at _ _ (c.to_byte.result ∷ [])
+    (value_bytes v) (omega (arith, c.requires.room)) c.put_bytes-place.ensures c.put_behind.ensures)
 
 pub put_array-loop-value-init : goal.put_array-loop-value-init
 put_array-loop-value-init t c =
@@ -46,7 +47,8 @@ put_array-put_tagged-end-requires t c =
     let here = ap (λ x. weight (value_of x)) c.value-item.is in
     let all = ap (λ vs. values_weight (values_of vs)) l.invariant.all in
     let turn = at_place (λ vs. values_bytes (values_of vs)) xs l.value-index c.value-item.result c.loop-value-test.true c.value-item.is in
-    let short = sym (at_place (λ vs. any_value_long (values_of vs)) xs l.value-index c.value-item.result c.loop-value-test.true c.value-item.is) ∙ l.invariant.short in
+    let short =
+    sym (at_place (λ vs. any_value_long (values_of vs)) xs l.value-index c.value-item.result c.loop-value-test.true c.value-item.is) ∙ l.invariant.short in
     let P : List ℕ → Type 0 = λ bs. IsPut c.args.buf.now l.buf (c.args.at + 4) l.end l.invariant.put.0 bs (values_bytes (values_of c.args.array.now)) in
     let left = values_bytes (values_of (map value_of (drop (l.value-index + 1) xs))) in
     let room = has_room c.args.buf.now l.buf (c.args.at + 4) l.end l.invariant.put.0 (tagged_bytes v) left _ fits (subst P turn l.invariant.put.1) in
@@ -59,13 +61,18 @@ put_array-loop-value-preserved t c =
     let xs = c.as_slice-value-items.result.now in
     let v = value_of c.value-item.result in
     let turn = at_place (λ vs. values_bytes (values_of vs)) xs l.value-index c.value-item.result c.loop-value-test.true c.value-item.is in
-    let short = sym (at_place (λ vs. any_value_long (values_of vs)) xs l.value-index c.value-item.result c.loop-value-test.true c.value-item.is) ∙ l.invariant.short in
+    let short =
+    sym (at_place (λ vs. any_value_long (values_of vs)) xs l.value-index c.value-item.result c.loop-value-test.true c.value-item.is) ∙ l.invariant.short in
     let P : List ℕ → Type 0 = λ bs. IsPut c.args.buf.now l.buf (c.args.at + 4) l.end l.invariant.put.0 bs (values_bytes (values_of c.args.array.now)) in
     let left = values_bytes (values_of (map value_of (drop (l.value-index + 1) xs))) in
     record {
       all = l.invariant.all;
       short = or_right (is_long v) _ short;
-      put = (l.invariant.put.0 ++ tagged_bytes v, puts c.args.buf.now l.buf _ (c.args.at + 4) l.end _ l.invariant.put.0 (tagged_bytes v) left _ fits (subst P turn l.invariant.put.1) c.put_tagged-end.ensures);
+      put = (
+        l.invariant.put.0 ++ tagged_bytes v,
+        puts c.args.buf.now l.buf _ (c.args.at + 4) l.end _ l.invariant.put.0
+            (tagged_bytes v) left _ fits (subst P turn l.invariant.put.1) c.put_tagged-end.ensures,
+      );
     }
 
 pub put_array-returns : goal.put_array-returns
@@ -73,7 +80,8 @@ put_array-returns t c =
     let l = c.loop-value in
     let all = values_bytes (values_of c.args.array.now) in
     let none = at_drop_all (λ ys. values_bytes (values_of (map value_of ys))) c.as_slice-value-items.result.now l.value-index c.loop-value-test.false in
-    length_put c.args.buf.now l.buf _ c.args.at l.end _ all (contained c.args.buf.now l.buf c.args.at l.end l.invariant.put.0 _ all c.requires.room none l.invariant.put.1) c.put_long_uint.ensures
+    length_put c.args.buf.now l.buf _ c.args.at l.end _ all
+    (contained c.args.buf.now l.buf c.args.at l.end l.invariant.put.0 _ all c.requires.room none l.invariant.put.1) c.put_long_uint.ensures
 
 pub put_table-loop-key-init : goal.put_table-loop-key-init
 put_table-loop-key-init t c =
@@ -86,7 +94,8 @@ put_table-loop-key-init t c =
     }
 
 -- the first of the pairs that are left
-turned : (before now : List ℕ) (at place : ℕ) (done : List ℕ) (left more : List Entry) (e : Entry) (all : List ℕ) → left ≡ e ∷ more → IsPut before now at place done (entries_bytes (entries_of left)) all
+turned : (before now : List ℕ) (at place : ℕ) (done : List ℕ) (left more : List Entry) (e : Entry) (all : List ℕ)
+    → left ≡ e ∷ more → IsPut before now at place done (entries_bytes (entries_of left)) all
     → IsPut before now at place done ((length e.0 ∷ e.0) ++ (tagged_bytes e.1 ++ entries_bytes (entries_of more))) all
 turned before now at place done left more e all is p =
     let P : List ℕ → Type 0 = λ bs. IsPut before now at place done bs all in
@@ -98,7 +107,11 @@ put_table-put_short_string-end-requires t c =
     let l = c.loop-key in
     let e : Entry = (c.in-Some.key.now, value_of c.in-Some.value.now) in
     let p = turned c.args.buf.now l.buf (c.args.at + 4) l.end l.invariant.put.0 l.key-iterator c.next.new.self e _ c.in-Some.ensures.steps l.invariant.put.1 in
-    omega (arith, has_room c.args.buf.now l.buf (c.args.at + 4) l.end l.invariant.put.0 (length e.0 ∷ e.0) (tagged_bytes e.1 ++ entries_bytes (entries_of c.next.new.self)) _ fits p)
+    omega (
+      arith,
+      has_room c.args.buf.now l.buf (c.args.at + 4) l.end l.invariant.put.0 (length e.0 ∷ e.0)
+          (tagged_bytes e.1 ++ entries_bytes (entries_of c.next.new.self)) _ fits p,
+    )
 
 pub put_table-put_tagged-end-requires : goal.put_table-put_tagged-end-requires
 put_table-put_tagged-end-requires t c =
@@ -109,7 +122,9 @@ put_table-put_tagged-end-requires t c =
     let p = turned c.args.buf.now l.buf (c.args.at + 4) l.end l.invariant.put.0 l.key-iterator c.next.new.self e _ c.in-Some.ensures.steps l.invariant.put.1 in
     let all = entries_bytes (entries_of c.args.table.now) in
     let mid = c.put_short_string-end in
-    let q = puts c.args.buf.now l.buf mid.new.buf (c.args.at + 4) l.end mid.result l.invariant.put.0 (length e.0 ∷ e.0) (tagged_bytes e.1 ++ more) all fits p mid.ensures in
+    let q =
+    puts c.args.buf.now l.buf mid.new.buf (c.args.at + 4) l.end mid.result l.invariant.put.0
+    (length e.0 ∷ e.0) (tagged_bytes e.1 ++ more) all fits p mid.ensures in
     let room = has_room c.args.buf.now mid.new.buf (c.args.at + 4) mid.result (l.invariant.put.0 ++ (length e.0 ∷ e.0)) (tagged_bytes e.1) more all fits q in
     let whole = ap (λ xs. entries_weight (entries_of xs)) c.in-Some.ensures.steps in
     let short = sym (ap (λ xs. any_entry_long (entries_of xs)) c.in-Some.ensures.steps) ∙ l.invariant.short in
@@ -124,9 +139,13 @@ put_table-loop-key-preserved t c =
     let p = turned c.args.buf.now l.buf (c.args.at + 4) l.end l.invariant.put.0 l.key-iterator c.next.new.self e _ c.in-Some.ensures.steps l.invariant.put.1 in
     let all = entries_bytes (entries_of c.args.table.now) in
     let mid = c.put_short_string-end in
-    let q = puts c.args.buf.now l.buf mid.new.buf (c.args.at + 4) l.end mid.result l.invariant.put.0 (length e.0 ∷ e.0) (tagged_bytes e.1 ++ more) all fits p mid.ensures in
+    let q =
+    puts c.args.buf.now l.buf mid.new.buf (c.args.at + 4) l.end mid.result l.invariant.put.0
+    (length e.0 ∷ e.0) (tagged_bytes e.1 ++ more) all fits p mid.ensures in
     let last = c.put_tagged-end in
-    let r = puts c.args.buf.now mid.new.buf last.new.buf (c.args.at + 4) mid.result last.result (l.invariant.put.0 ++ (length e.0 ∷ e.0)) (tagged_bytes e.1) more all fits q last.ensures in
+    let r =
+    puts c.args.buf.now mid.new.buf last.new.buf (c.args.at + 4) mid.result last.result
+    (l.invariant.put.0 ++ (length e.0 ∷ e.0)) (tagged_bytes e.1) more all fits q last.ensures in
     let whole = ap (λ xs. entries_weight (entries_of xs)) c.in-Some.ensures.steps in
     let short = sym (ap (λ xs. any_entry_long (entries_of xs)) c.in-Some.ensures.steps) ∙ l.invariant.short in
     record {
@@ -140,4 +159,5 @@ put_table-returns t c =
     let l = c.loop-key in
     let all = entries_bytes (entries_of c.args.table.now) in
     let none = ap (λ es. entries_bytes (entries_of es)) c.in-None.ensures.steps.0 in
-    length_put c.args.buf.now l.buf _ c.args.at l.end _ all (contained c.args.buf.now l.buf c.args.at l.end l.invariant.put.0 _ all c.requires.room none l.invariant.put.1) c.put_long_uint.ensures
+    length_put c.args.buf.now l.buf _ c.args.at l.end _ all
+    (contained c.args.buf.now l.buf c.args.at l.end l.invariant.put.0 _ all c.requires.room none l.invariant.put.1) c.put_long_uint.ensures

@@ -23,7 +23,9 @@ invariant-put_array-loop-value l =
     record {
       all : map value_of l.value-items ≡ l.array;
       short : any_value_long (values_of (map value_of (drop l.value-index l.value-items))) ≡ false;
-      put : (done : List ℕ) × IsPut l.fn.buf l.buf (l.at + 4) l.end done (values_bytes (values_of (map value_of (drop l.value-index l.value-items)))) (values_bytes (values_of l.array));
+      put : (done : List ℕ)
+          × IsPut l.fn.buf l.buf (l.at + 4) l.end done
+          (values_bytes (values_of (map value_of (drop l.value-index l.value-items)))) (values_bytes (values_of l.array));
     }
 
 abbrev pub invariant-put_table-loop-key : goal.invariant-put_table-loop-key

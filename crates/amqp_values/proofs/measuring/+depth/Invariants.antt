@@ -16,7 +16,10 @@ decreases-table_has_room l = 2 * l.depth_left + 1
 -- what is left decides
 abbrev pub invariant-array_has_room-loop-value : goal.invariant-array_has_room-loop-value
 invariant-array_has_room-loop-value l =
-    (map value_of l.value-items ≡ l.array) × (nat_le (values_depth (values_of (map value_of (drop l.value-index l.value-items)))) l.depth_left ≡ nat_le (values_depth (values_of l.array)) l.depth_left)
+    (map value_of l.value-items ≡ l.array)
+    × (nat_le (values_depth (values_of (map value_of (drop l.value-index l.value-items)))) l.depth_left
+    ≡ nat_le (values_depth (values_of l.array)) l.depth_left)
 
 abbrev pub invariant-table_has_room-loop-value : goal.invariant-table_has_room-loop-value
-invariant-table_has_room-loop-value l = nat_le (entries_depth (entries_of l.value-iterator)) l.depth_left ≡ nat_le (entries_depth (entries_of l.table)) l.depth_left
+invariant-table_has_room-loop-value l =
+    nat_le (entries_depth (entries_of l.value-iterator)) l.depth_left ≡ nat_le (entries_depth (entries_of l.table)) l.depth_left

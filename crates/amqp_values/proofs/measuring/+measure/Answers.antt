@@ -29,4 +29,5 @@ values_length-returns-then-n-ge-LENGTH_LIMIT-clause-exact t c =
 pub values_length-returns-clause-exact : goal.values_length-returns-clause-exact
 values_length-returns-clause-exact t c =
     let l = c.loop-value in
-    sym (at_drop_all (λ ys. values_total l.n (map value_of ys)) c.as_slice-value-items.result.now l.value-index c.loop-value-test.false) ∙ l.invariant.left ∙ values_counted c.args.array.now
+    sym (at_drop_all (λ ys. values_total l.n (map value_of ys)) c.as_slice-value-items.result.now l.value-index c.loop-value-test.false)
+    ∙ l.invariant.left ∙ values_counted c.args.array.now

@@ -24,4 +24,8 @@ invariant-values_length-loop-value l =
 
 abbrev pub invariant-entries_length-loop-key : goal.invariant-entries_length-loop-key
 invariant-entries_length-loop-key l =
-    record { few : l.n < 2 ^ 32; left : entries_total l.n l.key-iterator ≡ entries_total 0 l.table; smaller : entries_weight (entries_of l.key-iterator) ≤ entries_weight (entries_of l.table) }
+    record {
+      few : l.n < 2 ^ 32;
+      left : entries_total l.n l.key-iterator ≡ entries_total 0 l.table;
+      smaller : entries_weight (entries_of l.key-iterator) ≤ entries_weight (entries_of l.table);
+    }

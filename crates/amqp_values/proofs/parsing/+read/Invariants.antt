@@ -45,11 +45,15 @@ invariant-values_in-loop-at l =
 
 abbrev pub invariant-few_entries_in-loop-at : goal.invariant-few_entries_in-loop-at
 invariant-few_entries_in-loop-at l =
-    (l.at ≤ length l.content) × (read_map (settled_on l.table) (filled (judge_entry (judge_value l.depth_left)) 0 (drop l.at l.content)) ≡ read_map settled (filled (judge_entry (judge_value l.depth_left)) 0 l.content))
+    (l.at ≤ length l.content)
+    × (read_map (settled_on l.table) (filled (judge_entry (judge_value l.depth_left)) 0 (drop l.at l.content))
+    ≡ read_map settled (filled (judge_entry (judge_value l.depth_left)) 0 l.content))
 
 abbrev pub decreases-many_entries_in-loop-at : goal.decreases-many_entries_in-loop-at
 decreases-many_entries_in-loop-at l = length l.content - l.at
 
 abbrev pub invariant-many_entries_in-loop-at : goal.invariant-many_entries_in-loop-at
 invariant-many_entries_in-loop-at l =
-    (l.at ≤ length l.content) × (after (map entry_of l.entries.items) (filled (judge_entry (judge_value l.depth_left)) 0 (drop l.at l.content)) ≡ filled (judge_entry (judge_value l.depth_left)) 0 l.content)
+    (l.at ≤ length l.content)
+    × (after (map entry_of l.entries.items) (filled (judge_entry (judge_value l.depth_left)) 0 (drop l.at l.content))
+    ≡ filled (judge_entry (judge_value l.depth_left)) 0 l.content)

@@ -10,7 +10,8 @@ use Rattle.amqp_types.specs.Values.{FieldValue}
 use Rattle.amqp_laws.proofs.ValueLaws.{array_within}
 use Rattle.amqp_values.proofs.parsing.parse_field_array.Goals as goal
 
-within : (bytes : List ℕ) (r : Result (ℕ × List FieldValue) ParserError) → IsBytes bytes → Answers (λ vs. vs) r (judge_field_array bytes) → IfOk r (λ x. IsNoLonger (array_size x.1) (array_bytes x.1) x.0)
+within : (bytes : List ℕ) (r : Result (ℕ × List FieldValue) ParserError) → IsBytes bytes
+    → Answers (λ vs. vs) r (judge_field_array bytes) → IfOk r (λ x. IsNoLonger (array_size x.1) (array_bytes x.1) x.0)
 within bytes (Ok x) fits h = array_within bytes (x.1) x.0 fits h
 within bytes (Err error) fits h = tt
 

@@ -10,7 +10,8 @@ use Rattle.amqp_types.specs.Values.{Entry}
 use Rattle.amqp_laws.proofs.ValueLaws.{table_within}
 use Rattle.amqp_values.proofs.parsing.parse_field_table.Goals as goal
 
-within : (bytes : List ℕ) (r : Result (ℕ × List Entry) ParserError) → IsBytes bytes → Answers (λ es. es) r (judge_field_table bytes) → IfOk r (λ x. IsNoLonger (table_size x.1) (table_bytes x.1) x.0)
+within : (bytes : List ℕ) (r : Result (ℕ × List Entry) ParserError) → IsBytes bytes
+    → Answers (λ es. es) r (judge_field_table bytes) → IfOk r (λ x. IsNoLonger (table_size x.1) (table_bytes x.1) x.0)
 within bytes (Ok x) fits h = table_within bytes (x.1) x.0 fits h
 within bytes (Err error) fits h = tt
 

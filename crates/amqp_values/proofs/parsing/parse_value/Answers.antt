@@ -11,7 +11,8 @@ use Rattle.amqp_values.specs.declared.value.AMQPValue.{AMQPValue}
 use Rattle.amqp_laws.proofs.ValueLaws.{value_within}
 use Rattle.amqp_values.proofs.parsing.parse_value.Goals as goal
 
-within : (bytes : List ℕ) (r : Result (ℕ × AMQPValue) ParserError) → IsBytes bytes → Answers value_of r (judge_field_value bytes) → IfOk r (λ x. IsNoLonger (tagged_size (value_of x.1)) (tagged_bytes (value_of x.1)) x.0)
+within : (bytes : List ℕ) (r : Result (ℕ × AMQPValue) ParserError) → IsBytes bytes → Answers value_of r (judge_field_value bytes)
+    → IfOk r (λ x. IsNoLonger (tagged_size (value_of x.1)) (tagged_bytes (value_of x.1)) x.0)
 within bytes (Ok x) fits h = value_within bytes (value_of x.1) x.0 fits h
 within bytes (Err error) fits h = tt
 

@@ -20,7 +20,8 @@ invariant-is_same_array-loop-i l =
       mine : map value_of l.mine ≡ l.a;
       theirs : map value_of l.theirs ≡ l.b;
       as_long : length l.mine ≡ length l.theirs;
-      left : same_items (values_of (map value_of (drop l.i l.mine))) (values_of (map value_of (drop l.i l.theirs))) ≡ same_items (values_of l.a) (values_of l.b);
+      left : same_items (values_of (map value_of (drop l.i l.mine))) (values_of (map value_of (drop l.i l.theirs)))
+          ≡ same_items (values_of l.a) (values_of l.b);
     }
 
 abbrev pub invariant-is_same_table-loop-key : goal.invariant-is_same_table-loop-key

@@ -1,6 +1,7 @@
 -- Each iteration reads and writes a frame, or ends the loop.
 use Rattle.std.proofs.Common.{Ok, refl, ap, ◌∙◌, arith}
-use Rattle.amqp_vectors_streams.proofs.Forwarded.{Forwarded-none, Forwarded-more, next_pulls, frame_room, next_falls, forwards_all, forwards_unread, forwards_unwritten}
+use Rattle.amqp_vectors_streams.proofs.Forwarded.{Forwarded-none, Forwarded-more, next_pulls, frame_room, next_less, forwards_all}
+use Rattle.amqp_vectors_streams.proofs.Forwarded.{forwards_unread, forwards_unwritten}
 use Rattle.amqp_vectors_streams.proofs.forwarding.forward.Goals as goal
 
 pub frames-init : goal.frames-init
@@ -19,12 +20,13 @@ returns-in_default-clause-forwards g c =
 pub write_now-requires-clause-room : goal.write_now-requires-clause-room
 write_now-requires-clause-room g c =
     let run = c.frames.invariant in
-    omega (arith, frame_room (next_pulls run.limit (c.in_ok-raw.was ∙ ap Ok c.in-Some.is) c.next.follows.holds-at-none), ap (λ o. o.room) run.out, c.requires.room)
+    omega
+    (arith, frame_room (next_pulls run.limit (c.in_ok-raw.was ∙ ap Ok c.in-Some.is) c.next.follows.holds-at-none), ap (λ o. o.room) run.out, c.requires.room)
 
 pub frames-smaller : goal.frames-smaller
 frames-smaller g c =
     let run = c.frames.invariant in
-    next_falls (next_pulls run.limit (c.in_ok-raw.was ∙ ap Ok c.in-Some.is) c.next.follows.holds-at-none)
+    next_less run.limit (c.in_ok-raw.was ∙ ap Ok c.in-Some.is) c.next.follows.holds-at-none
 
 pub frames-preserved : goal.frames-preserved
 frames-preserved g c =

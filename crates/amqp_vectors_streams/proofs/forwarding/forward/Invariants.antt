@@ -1,5 +1,6 @@
 -- What the loop keeps, and how it ends: each iteration uses a read or held bytes.
-use Rattle.std.proofs.Common.{◌≡◌, ◌+◌, ◌*◌, length}
+use Rattle.std.proofs.Common.{◌≡◌}
+use Rattle.amqp_stream.specs.Reading.{reading_left}
 use Rattle.amqp_vectors_streams.proofs.Forwarded.{Forwarded}
 use Rattle.amqp_vectors_streams.proofs.forwarding.forward.Given as goal
 
@@ -10,8 +11,9 @@ invariant-frames g l =
     record {
       limit : l.reader.limit ≡ l.fn.reader.limit;
       out : l.out ≡ l.fn.out;
-      forwarded : Forwarded l.fn.reader.limit l.fn.reader.held l.fn.turns l.turns (supply l.fn.source) (supply l.source) (store l.fn.sink) (store l.sink) l.reader.held 0;
+      forwarded : Forwarded l.fn.reader.limit l.fn.reader.held l.fn.budget l.budget
+          (supply l.fn.source) (supply l.source) (store l.fn.sink) (store l.sink) l.reader.held 0;
     }
 
 abbrev pub decreases-frames : goal.decreases-frames
-decreases-frames g l = l.turns * (l.fn.reader.limit + 9) + length l.reader.held
+decreases-frames g l = reading_left l.fn.reader.limit l.budget l.reader.held

@@ -10,7 +10,9 @@ put_around-requires-clause-few c = omega (arith, c.requires.short, c.put_bytes-e
 pub put_around-requires-clause-room : goal.put_around-requires-clause-room
 put_around-requires-clause-room c =
     let size = framed_length c.args.frame_type c.args.channel_id c.args.payload.now in
-    let same = puts-length c.args.buf.now c.put_bytes-end.new.buf _ c.put_bytes-end.result c.args.payload.now (omega (arith, size, c.requires.room)) c.put_bytes-end.ensures in
+    let same =
+    puts-length c.args.buf.now c.put_bytes-end.new.buf _ c.put_bytes-end.result c.args.payload.now
+    (omega (arith, size, c.requires.room)) c.put_bytes-end.ensures in
     omega (arith, size, same, c.requires.room, c.put_bytes-end.ensures.behind)
 
 pub returns : goal.returns

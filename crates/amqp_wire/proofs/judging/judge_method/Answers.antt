@@ -13,4 +13,6 @@ returns-in-Err c =
     subst P (sym c.inside.ensures) (method_refused c.args.payload.now c.in-Err.error c.in-Err.ensures.judged)
 
 pub returns-in-Ok-2 : goal.returns-in-Ok-2
-returns-in-Ok-2 c = method_all c.args.payload.now c.in-Ok.found (λ k. omega (arith, c.type_inv.payload k)) (omega (arith, c.in-Ok.ensures.used, c.if-found-payload.false)) c.in-Ok.ensures.judged
+returns-in-Ok-2 c =
+    method_all c.args.payload.now c.in-Ok.found (λ k. omega (arith, c.type_inv.payload k))
+    (omega (arith, c.in-Ok.ensures.used, c.if-found-payload.false)) c.in-Ok.ensures.judged

@@ -10,4 +10,5 @@ outline_at-requires c =
     enough_whole c.args.frame_type c.args.channel_id c.args.payload.now read (λ i. omega (arith, c.type_inv.payload i)) refl c.requires
 
 pub returns-clause-frame : goal.returns-clause-frame
-returns-clause-frame c = λ frame h. c.outline_at.ensures ∙ (outlined c.args.frame_type c.args.channel_id c.args.payload.now frame (λ i. omega (arith, c.type_inv.payload i)) h).outline_is
+returns-clause-frame c = λ frame h.
+    c.outline_at.ensures ∙ (outlined c.args.frame_type c.args.channel_id c.args.payload.now frame (λ i. omega (arith, c.type_inv.payload i)) h).outline_is

@@ -20,11 +20,14 @@ put_around-requires-clause-few c =
 pub put_around-requires-clause-room : goal.put_around-requires-clause-room
 put_around-requires-clause-room c =
     let shorter = header_shorter c.args.payload.now (λ k. omega (arith, c.type_inv.payload k)) c.requires.read in
-    let same = puts-length c.args.buf.now c.put_content_header-end.new.buf _ c.put_content_header-end.result _ (omega (arith, shorter, c.requires.room)) c.put_content_header-end.ensures in
+    let same =
+    puts-length c.args.buf.now c.put_content_header-end.new.buf _ c.put_content_header-end.result _
+    (omega (arith, shorter, c.requires.room)) c.put_content_header-end.ensures in
     omega (arith, shorter, same, c.requires.room, c.put_content_header-end.ensures.behind)
 
 pub returns : goal.returns
 returns c =
     let shorter = header_shorter c.args.payload.now (λ k. omega (arith, c.type_inv.payload k)) c.requires.read in
     let bytes = canonical_of content_header_bytes (judge_content_header c.args.payload.now) in
-    c.put_around.ensures c.args.buf.now bytes c.put_content_header-end.ensures (omega (arith, framed_length 2 c.args.channel_id bytes, shorter, c.requires.room))
+    c.put_around.ensures c.args.buf.now bytes c.put_content_header-end.ensures
+    (omega (arith, framed_length 2 c.args.channel_id bytes, shorter, c.requires.room))

@@ -20,7 +20,8 @@ put_around-requires-clause-few c =
 pub put_around-requires-clause-room : goal.put_around-requires-clause-room
 put_around-requires-clause-room c =
     let shorter = method_shorter c.args.payload.now (λ k. omega (arith, c.type_inv.payload k)) c.requires.read in
-    let same = puts-length c.args.buf.now c.put_payload-end.new.buf _ c.put_payload-end.result _ (omega (arith, shorter, c.requires.room)) c.put_payload-end.ensures in
+    let same =
+    puts-length c.args.buf.now c.put_payload-end.new.buf _ c.put_payload-end.result _ (omega (arith, shorter, c.requires.room)) c.put_payload-end.ensures in
     omega (arith, shorter, same, c.requires.room, c.put_payload-end.ensures.behind)
 
 pub returns : goal.returns

@@ -8,14 +8,20 @@ use Rattle.amqp_content.proofs.assembler.Assembler.set_header.Goals as goal
 
 pub returns-in_default-clause-kept : goal.returns-in_default-clause-kept
 returns-in_default-clause-kept c =
-    here c.get_mut.follows.lender-at-none c.args.channel_id (ap (λ es. kept_at es c.args.channel_id) c.get_mut.follows.holds-at-none ∙ sym c.in_default.ensures.value)
-    ∙ ap (λ k. with_header k (header_of c.args.header)) (found_is c.self.inside.channels c.args.self.now c.self.view_is c.args.channel_id c.in_default.ensures.value)
+    here c.get_mut.follows.lender-at-none c.args.channel_id
+    (ap (λ es. kept_at es c.args.channel_id) c.get_mut.follows.holds-at-none ∙ sym c.in_default.ensures.value)
+    ∙ ap (λ k. with_header k (header_of c.args.header))
+    (found_is c.self.inside.channels c.args.self.now c.self.view_is c.args.channel_id c.in_default.ensures.value)
 
 pub returns-clause-kept : goal.returns-clause-kept
 returns-clause-kept c =
-    (written c.self.inside.channels c.args.self.now c.self.view_is c.args.channel_id _ _ c.set_header.new.self c.in-Some.ensures.value (c.get_mut.follows.holds c.set_header.new.self)).kept
+    (written c.self.inside.channels c.args.self.now c.self.view_is c.args.channel_id _ _
+    c.set_header.new.self c.in-Some.ensures.value (c.get_mut.follows.holds c.set_header.new.self)).kept
     ∙ c.set_header.ensures
-    ∙ ap (λ k. with_header k (header_of c.args.header)) (found_is c.self.inside.channels c.args.self.now c.self.view_is c.args.channel_id c.in-Some.ensures.value)
+    ∙ ap (λ k. with_header k (header_of c.args.header))
+    (found_is c.self.inside.channels c.args.self.now c.self.view_is c.args.channel_id c.in-Some.ensures.value)
 
 pub returns-clause-others : goal.returns-clause-others
-returns-clause-others c = (written c.self.inside.channels c.args.self.now c.self.view_is c.args.channel_id _ _ c.set_header.new.self c.in-Some.ensures.value (c.get_mut.follows.holds c.set_header.new.self)).others
+returns-clause-others c =
+    (written c.self.inside.channels c.args.self.now c.self.view_is c.args.channel_id _ _
+    c.set_header.new.self c.in-Some.ensures.value (c.get_mut.follows.holds c.set_header.new.self)).others

@@ -8,7 +8,9 @@ use Rattle.amqp_in_turn.proofs.Judging.{memory_refuses}
 use Rattle.amqp_filter.proofs.message_filter.MessageFilter.begin.Goals as goal
 
 pub returns-in-Err : goal.returns-in-Err
-returns-in-Err c = memory_refuses filtering refl refl c.args.self.now c.args.self.now (raw_of c.args.raw) (subst (λ k. IsTrue (is_method_type k)) (sym c.requires.method) refl)
+returns-in-Err c =
+    memory_refuses filtering refl refl c.args.self.now c.args.self.now (raw_of c.args.raw) (subst (λ k. IsTrue (is_method_type k)) (sym c.requires.method) refl)
 
 pub returns-in-Ok : goal.returns-in-Ok
-returns-in-Ok c = λ frame h. c.requires.steps frame h ∙ ap (λ (m : OpenByChannel). Ok (given c.args.kept frame, record c.args.self.now { messages = m })) (sym c.in-Ok.ensures.ok)
+returns-in-Ok c = λ frame h.
+    c.requires.steps frame h ∙ ap (λ (m : OpenByChannel). Ok (given c.args.kept frame, record c.args.self.now { messages = m })) (sym c.in-Ok.ensures.ok)

@@ -14,11 +14,16 @@ use Rattle.amqp_filter.proofs.message_filter.MessageFilter.keep_outlined.Goals a
 
 pub returns-in-Fault : goal.returns-in-Fault
 returns-in-Fault c =
-    let mark = sym c.in-Fault.is ∙ c.step-stepped.ensures.mark ∙ ap (λ p. mark_after greatest p c.args.outline) (c.progress_of.ensures ∙ ap progress_in (c.copied-held.ensures ∙ c.get.ensures)) in
+    let mark =
+    sym c.in-Fault.is ∙ c.step-stepped.ensures.mark
+    ∙ ap (λ p. mark_after greatest p c.args.outline) (c.progress_of.ensures ∙ ap progress_in (c.copied-held.ensures ∙ c.get.ensures)) in
     let is = given_by (whole (raw_of c.args.raw)) c.requires.is_whole in
-    turn_refuses filtering refl refl c.args.self.now (raw_of c.args.raw) c.in-Fault.fault (ends.Refused (refusals.BadContent c.in-Fault.fault)) (refused_steps c.args.self.now (raw_of c.args.raw) c.args.outline c.in-Fault.fault c.requires.whole mark) (is.0, is.1, refl)
+    turn_refuses filtering refl refl c.args.self.now (raw_of c.args.raw) c.in-Fault.fault (ends.Refused (refusals.BadContent c.in-Fault.fault))
+    (refused_steps c.args.self.now (raw_of c.args.raw) c.args.outline c.in-Fault.fault c.requires.whole mark) (is.0, is.1, refl)
 
 pub returns-in-Passed : goal.returns-in-Passed
 returns-in-Passed c =
-    let mark = sym c.in-Passed.is ∙ c.step-stepped.ensures.mark ∙ ap (λ p. mark_after greatest p c.args.outline) (c.progress_of.ensures ∙ ap progress_in (c.copied-held.ensures ∙ c.get.ensures)) in
+    let mark =
+    sym c.in-Passed.is ∙ c.step-stepped.ensures.mark
+    ∙ ap (λ p. mark_after greatest p c.args.outline) (c.progress_of.ensures ∙ ap progress_in (c.copied-held.ensures ∙ c.get.ensures)) in
     passed_steps c.args.self.now (raw_of c.args.raw) c.args.outline c.decide-kept.result c.requires.whole mark c.decide-kept.ensures

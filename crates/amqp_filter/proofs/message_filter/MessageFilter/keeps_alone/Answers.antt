@@ -7,4 +7,5 @@ use Rattle.amqp_filter.proofs.message_filter.MessageFilter.keeps_alone.Goals as 
 
 pub returns : goal.returns
 returns c = λ empty.
-    alone_steps c.args.self.now (raw_of c.args.raw) true c.is_empty.result c.is_empty.ensures empty (λ frame h. c.stands_alone.ensures frame h c.if-not-stands_alone.false) (λ frame h. sym (c.keep_all.ensures (outline_of frame) c.if-not-keep_all.false))
+    alone_steps c.args.self.now (raw_of c.args.raw) true c.is_empty.result c.is_empty.ensures empty
+    (λ frame h. c.stands_alone.ensures frame h c.if-not-stands_alone.false) (λ frame h. sym (c.keep_all.ensures (outline_of frame) c.if-not-keep_all.false))

@@ -13,4 +13,5 @@ returns-clause-ok g c = on_ok_weaker c.insert-begun.result (λ e.
 
 pub returns-clause-absent : goal.returns-clause-absent
 returns-clause-absent g c = on_err_weaker c.insert-begun.result (λ e.
-    ap (λ (m : ByChannel g.row.T.Denot). finite.get m c.args.channel_id) (sym c.self.view_is) ∙ get-holding c.self.inside.channels c.args.channel_id ∙ e) c.insert-begun.ensures.absent
+    ap (λ (m : ByChannel g.row.T.Denot). finite.get m c.args.channel_id) (sym c.self.view_is) ∙ get-holding c.self.inside.channels c.args.channel_id ∙ e)
+    c.insert-begun.ensures.absent

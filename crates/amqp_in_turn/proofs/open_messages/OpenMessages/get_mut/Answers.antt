@@ -17,12 +17,18 @@ returns g c =
         λ w. holding_written es _ c.args.self.now c.args.channel_id w c.self.view_is (c.get_mut.follows.holds w),
         ap holding_of c.get_mut.follows.holds-at-none ∙ c.self.view_is,
       ),
-      record { writes_back = tt; value = c.get_mut.ensures.value ∙ sym (get-holding es c.args.channel_id) ∙ ap (λ (m : ByChannel g.row.T.Denot). finite.get m c.args.channel_id) c.self.view_is },
+      record {
+        writes_back = tt;
+        value =
+            c.get_mut.ensures.value ∙ sym (get-holding es c.args.channel_id)
+            ∙ ap (λ (m : ByChannel g.row.T.Denot). finite.get m c.args.channel_id) c.self.view_is;
+      },
     )
 
 pub invariant_of-self-lent : goal.invariant_of-self-lent
 invariant_of-self-lent g c = λ _.
     let es = c.self.inside.channels in (
-      (λ w. c.self.invariant ∙ ap (λ n. eqb n 0) (sym (length-set_value (is_at (nat_cmp c.args.channel_id)) es w)) ∙ ap (λ (entries : List (ℕ × g.row.T.Denot)). eqb (length entries) 0) (sym (c.get_mut.follows.holds w))),
+      (λ w. c.self.invariant ∙ ap (λ n. eqb n 0) (sym (length-set_value (is_at (nat_cmp c.args.channel_id)) es w))
+          ∙ ap (λ (entries : List (ℕ × g.row.T.Denot)). eqb (length entries) 0) (sym (c.get_mut.follows.holds w))),
       c.self.invariant ∙ ap (λ (entries : List (ℕ × g.row.T.Denot)). eqb (length entries) 0) (sym c.get_mut.follows.holds-at-none),
     )

@@ -8,4 +8,5 @@ use Rattle.amqp_lent.proofs.value.LentTable.get.Goals as goal
 pub returns : goal.returns
 returns c =
     let all = settles (entries_in c.self.inside.depth_left c.self.inside.content.now) in
-    c.value_of_key.ensures ∙ ap (λ key. last_at key (entries_in c.self.inside.depth_left c.self.inside.content.now)) c.as_bytes.ensures.value ∙ sym (all.last c.args.key.now) ∙ ap (value_at c.args.key.now) c.self.view_is
+    c.value_of_key.ensures ∙ ap (λ key. last_at key (entries_in c.self.inside.depth_left c.self.inside.content.now)) c.as_bytes.ensures.value
+    ∙ sym (all.last c.args.key.now) ∙ ap (value_at c.args.key.now) c.self.view_is

@@ -16,4 +16,5 @@ returns-in_ok-rest-in-len1-up t c =
     let shape = get_or c.args.shapes.now 0 (slots.Kept forms.Octet) in
     let others = rw take_rest at c.read_slots.ensures in
     as_read _ _ _ _ _ _ (slots_some c.args.shapes.now (slots.Kept forms.Octet) c.args.i.now c.in-len1-up.len_at_least)
-    (then_read _ (read_slot (slot_of shape) c.args.i.now) (read_slots (slots_of (drop 1 c.args.shapes.now))) 0 _ _ _ _ _ _ c.in_ok-rest-in-len1-up.ensures refl others)
+    (then_read _ (read_slot (slot_of shape) c.args.i.now)
+    (read_slots (slots_of (drop 1 c.args.shapes.now))) 0 _ _ _ _ _ _ c.in_ok-rest-in-len1-up.ensures refl others)

@@ -5,7 +5,8 @@ use Rattle.amqp_lines.proofs.ReadSteps.{goes_on, stops, hex_few, hex_end, hex_ne
 use Rattle.amqp_lines.proofs.reading.words.read_hex.Goals as goal
 
 pub returns-then-not-is_hex : goal.returns-then-not-is_hex
-returns-then-not-is_hex c = stops _ _ _ _ _ c.loop-rest.rest.now c.loop-rest.invariant (hex_end _ c.in-len2-up.len_at_least (sym c.is_hex.ensures ∙ c.if-not-is_hex.true)) refl
+returns-then-not-is_hex c =
+    stops _ _ _ _ _ c.loop-rest.rest.now c.loop-rest.invariant (hex_end _ c.in-len2-up.len_at_least (sym c.is_hex.ensures ∙ c.if-not-is_hex.true)) refl
 
 pub loop-rest-preserved : goal.loop-rest-preserved
 loop-rest-preserved c =

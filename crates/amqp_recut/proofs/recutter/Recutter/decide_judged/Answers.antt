@@ -14,27 +14,36 @@ use Rattle.amqp_recut.proofs.recutter.Recutter.decide_judged.Goals as goal
 pub returns-in-Fault : goal.returns-in-Fault
 returns-in-Fault c =
     let mark = sym c.in-Fault.is ∙ c.step-stepped.ensures.mark ∙ ap (λ p. mark_after greatest p c.outline_raw-outline.result) c.progress.ensures in
-    turn_refuses recutting refl refl c.args.self.now (raw_of c.args.raw) c.in-Fault.fault (ends.Refused (refusals.BadContent c.in-Fault.fault)) (typed_refused c.args.self.now (raw_of c.args.raw) c.outline_raw-outline.result c.in-Fault.fault c.requires.typed (λ frame h. ap (λ o. Some o) (c.outline_raw-outline.ensures.frame frame h)) mark) (c.requires.judged.frame, c.requires.judged.is, refl)
+    turn_refuses recutting refl refl c.args.self.now (raw_of c.args.raw) c.in-Fault.fault (ends.Refused (refusals.BadContent c.in-Fault.fault))
+    (typed_refused c.args.self.now (raw_of c.args.raw) c.outline_raw-outline.result c.in-Fault.fault c.requires.typed
+    (λ frame h. ap (λ o. Some o) (c.outline_raw-outline.ensures.frame frame h)) mark)
+    (c.requires.judged.frame, c.requires.judged.is, refl)
 
 pub returns-in-Passed : goal.returns-in-Passed
 returns-in-Passed c =
     let mark = sym c.in-Passed.is ∙ c.step-stepped.ensures.mark ∙ ap (λ p. mark_after greatest p c.outline_raw-outline.result) c.progress.ensures in
-    judged_takes recutting refl refl c.args.self.now _ _ true (raw_of c.args.raw) (decisions.Kept c.args.judged) refl (typed_passed c.args.self.now (raw_of c.args.raw) c.outline_raw-outline.result c.requires.typed (λ frame h. ap (λ o. Some o) (c.outline_raw-outline.ensures.frame frame h)) mark) (refl, c.requires.judged)
+    judged_takes recutting refl refl c.args.self.now _ _ true (raw_of c.args.raw) (decisions.Kept c.args.judged) refl
+    (typed_passed c.args.self.now (raw_of c.args.raw) c.outline_raw-outline.result c.requires.typed
+    (λ frame h. ap (λ o. Some o) (c.outline_raw-outline.ensures.frame frame h)) mark)
+    (refl, c.requires.judged)
 
 pub decide_part-requires-clause-steps : goal.decide_part-requires-clause-steps
 decide_part-requires-clause-steps c =
     let mark = sym c.in-Opening.is ∙ c.step-stepped.ensures.mark ∙ ap (λ p. mark_after greatest p c.outline_raw-outline.result) c.progress.ensures in
     let progress = c.step-stepped.ensures.progress ∙ ap (λ p. progress_after greatest p c.outline_raw-outline.result) c.progress.ensures in
-    typed_part c.args.self.now (raw_of c.args.raw) c.outline_raw-outline.result _ c.step-stepped.result.1 c.requires.typed (λ frame h. ap (λ o. Some o) (c.outline_raw-outline.ensures.frame frame h)) tt mark progress
+    typed_part c.args.self.now (raw_of c.args.raw) c.outline_raw-outline.result _ c.step-stepped.result.1 c.requires.typed
+    (λ frame h. ap (λ o. Some o) (c.outline_raw-outline.ensures.frame frame h)) tt mark progress
 
 pub decide_part-requires-in-Header-clause-steps : goal.decide_part-requires-in-Header-clause-steps
 decide_part-requires-in-Header-clause-steps c =
     let mark = sym c.in-Header.is ∙ c.step-stepped.ensures.mark ∙ ap (λ p. mark_after greatest p c.outline_raw-outline.result) c.progress.ensures in
     let progress = c.step-stepped.ensures.progress ∙ ap (λ p. progress_after greatest p c.outline_raw-outline.result) c.progress.ensures in
-    typed_part c.args.self.now (raw_of c.args.raw) c.outline_raw-outline.result _ c.step-stepped.result.1 c.requires.typed (λ frame h. ap (λ o. Some o) (c.outline_raw-outline.ensures.frame frame h)) tt mark progress
+    typed_part c.args.self.now (raw_of c.args.raw) c.outline_raw-outline.result _ c.step-stepped.result.1 c.requires.typed
+    (λ frame h. ap (λ o. Some o) (c.outline_raw-outline.ensures.frame frame h)) tt mark progress
 
 pub decide_part-requires-in-Body-clause-steps : goal.decide_part-requires-in-Body-clause-steps
 decide_part-requires-in-Body-clause-steps c =
     let mark = sym c.in-Body.is ∙ c.step-stepped.ensures.mark ∙ ap (λ p. mark_after greatest p c.outline_raw-outline.result) c.progress.ensures in
     let progress = c.step-stepped.ensures.progress ∙ ap (λ p. progress_after greatest p c.outline_raw-outline.result) c.progress.ensures in
-    typed_part c.args.self.now (raw_of c.args.raw) c.outline_raw-outline.result _ c.step-stepped.result.1 c.requires.typed (λ frame h. ap (λ o. Some o) (c.outline_raw-outline.ensures.frame frame h)) tt mark progress
+    typed_part c.args.self.now (raw_of c.args.raw) c.outline_raw-outline.result _ c.step-stepped.result.1 c.requires.typed
+    (λ frame h. ap (λ o. Some o) (c.outline_raw-outline.ensures.frame frame h)) tt mark progress

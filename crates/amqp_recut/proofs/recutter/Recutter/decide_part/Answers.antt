@@ -11,4 +11,6 @@ pub returns-in-Err : goal.returns-in-Err
 returns-in-Err c = memory_refuses recutting refl refl c.args.self.now c.args.self.now (raw_of c.args.raw) (typed_wants c.args.raw.frame_type c.requires.typed)
 
 pub returns-in-Ok : goal.returns-in-Ok
-returns-in-Ok c = judged_takes recutting refl refl c.args.self.now _ _ true (raw_of c.args.raw) (decisions.Kept c.args.judged) c.in-Ok.ensures.ok c.requires.steps (refl, c.requires.judged)
+returns-in-Ok c =
+    judged_takes recutting refl refl c.args.self.now _ _ true (raw_of c.args.raw)
+    (decisions.Kept c.args.judged) c.in-Ok.ensures.ok c.requires.steps (refl, c.requires.judged)

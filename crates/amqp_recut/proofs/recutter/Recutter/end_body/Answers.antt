@@ -16,4 +16,10 @@ returns-in-Err-clause-writes g c =
 pub returns-clause-writes : goal.returns-clause-writes
 returns-clause-writes g c =
     let same = ap (λ (k : List ℕ). canon_frames (frames_given c.args.self.now.size c.args.channel_id true (k ++ c.args.payload.now))) c.kept-kept.ensures in
-    body_written _ _ _ _ (c.requires.steps ∙ ap (λ (t : Recutter). Ok (canon_frames (frames_given c.args.self.now.size c.args.channel_id true (kept_in (held_at c.args.self.now c.args.channel_id) ++ c.args.payload.now)), t)) (sym c.forget.ensures)) (gathers_as _ _ _ _ (Ok tt) same c.in-Ok.ensures.gathers)
+    body_written _ _ _ _
+    (c.requires.steps
+    ∙ ap
+    (λ (t : Recutter).
+    Ok (canon_frames (frames_given c.args.self.now.size c.args.channel_id true (kept_in (held_at c.args.self.now c.args.channel_id) ++ c.args.payload.now)), t))
+    (sym c.forget.ensures))
+    (gathers_as _ _ _ _ (Ok tt) same c.in-Ok.ensures.gathers)

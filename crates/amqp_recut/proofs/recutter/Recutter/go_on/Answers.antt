@@ -21,7 +21,13 @@ returns-in-Ok-clause-writes g c =
     let less : length all < s.size = omega (arith, ap length c.kept-kept.ensures, length-append (kept_in (held_at s c.args.channel_id)) c.args.payload.now) in
     body_written _ _ _ _
     (c.requires.steps
-    ∙ ap (λ (k : List ℕ). Ok (canon_frames (frames_given s.size c.args.channel_id false all), record s { messages = finite.insert s.messages c.args.channel_id (record { progress = c.args.progress; kept = k }) })) (left-all s.size all less)
+    ∙ ap
+    (λ (k : List ℕ).
+    Ok (
+      canon_frames (frames_given s.size c.args.channel_id false all),
+      record s { messages = finite.insert s.messages c.args.channel_id (record { progress = c.args.progress; kept = k }) },
+    ))
+    (left-all s.size all less)
     ∙ ap (λ (t : Recutter). Ok (canon_frames (frames_given s.size c.args.channel_id false all), t)) (sym c.in-Ok.ensures.ok))
     (gathers_as _ _ _ _ (Ok tt) (sym (given_too_few s.size c.args.channel_id all less)) (gathered_none _ _ _ refl))
 
@@ -41,6 +47,12 @@ returns-in-Ok-write_pieces-clause-writes g c =
     let left = c.in-Ok-last_of.ensures ∙ left_is s.size _ _ _ refl ∙ ap (λ (k : List ℕ). left_over s.size (k ++ c.args.payload.now)) c.kept-kept.ensures in
     body_written _ _ _ _
     (c.requires.steps
-    ∙ ap (λ (k : List ℕ). Ok (canon_frames (frames_given s.size c.args.channel_id false all), record s { messages = finite.insert s.messages c.args.channel_id (record { progress = c.args.progress; kept = k }) })) (sym left)
+    ∙ ap
+    (λ (k : List ℕ).
+    Ok (
+      canon_frames (frames_given s.size c.args.channel_id false all),
+      record s { messages = finite.insert s.messages c.args.channel_id (record { progress = c.args.progress; kept = k }) },
+    ))
+    (sym left)
     ∙ ap (λ (t : Recutter). Ok (canon_frames (frames_given s.size c.args.channel_id false all), t)) (sym c.replace.ensures))
     (gathers_as _ _ _ _ (Ok tt) same c.in-Ok-write_pieces.ensures.gathers)

@@ -13,7 +13,8 @@ returns-in-None-clause-taken c = λ taken.
     let none = sym c.in-None.is ∙ c.step-stepped.ensures.progress ∙ ap (λ p. progress_after greatest p outline) c.progress.ensures in
     let empty = sym c.kept.ensures ∙ empty_is c.kept.result.now c.is_empty-2.result c.is_empty-2.ensures c.if-not-is_empty.false in
     let some = some_are c.args.payload.now c.is_empty.result c.is_empty.ensures c.if-is_empty.false in
-    body_last c.args.self.now _ c.args.channel_id c.args.payload.now c.in-Body.before c.in-Body.after c.in-Body.size mark none empty some (omega arith) c.forget.ensures
+    body_last c.args.self.now _ c.args.channel_id c.args.payload.now c.in-Body.before
+    c.in-Body.after c.in-Body.size mark none empty some (omega arith) c.forget.ensures
 
 pub returns-in-Ok-clause-taken : goal.returns-in-Ok-clause-taken
 returns-in-Ok-clause-taken c = λ taken.
@@ -22,4 +23,5 @@ returns-in-Ok-clause-taken c = λ taken.
     let more = sym c.in-Some.is ∙ c.step-stepped.ensures.progress ∙ ap (λ p. progress_after greatest p outline) c.progress.ensures in
     let empty = sym c.kept.ensures ∙ empty_is c.kept.result.now c.is_empty-2.result c.is_empty-2.ensures c.if-not-is_empty.false in
     let some = some_are c.args.payload.now c.is_empty.result c.is_empty.ensures c.if-is_empty.false in
-    body_midst c.args.self.now _ c.args.channel_id c.args.payload.now c.in-Body.before c.in-Body.after c.in-Body.size c.in-Some.progress mark more empty some (omega arith) c.in-Ok.ensures.ok
+    body_midst c.args.self.now _ c.args.channel_id c.args.payload.now c.in-Body.before c.in-Body.after
+    c.in-Body.size c.in-Some.progress mark more empty some (omega arith) c.in-Ok.ensures.ok

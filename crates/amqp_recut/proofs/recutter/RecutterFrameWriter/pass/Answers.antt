@@ -18,4 +18,5 @@ returns-in-Ok-judge c =
     record { passes = judged_takes recutting refl refl c.args.self.now _ _ true (raw_of c.args.raw) c.in-Ok-judge.decision refl passed c.in-Ok-judge.ensures }
 
 pub returns-then-pass_body : goal.returns-then-pass_body
-returns-then-pass_body c = record { passes = body_kept c.args.self.now c.pass_body.new.self (raw_of c.args.raw) c.in-Body.is (c.pass_body.ensures.taken c.if-pass_body.true) }
+returns-then-pass_body c =
+    record { passes = body_kept c.args.self.now c.pass_body.new.self (raw_of c.args.raw) c.in-Body.is (c.pass_body.ensures.taken c.if-pass_body.true) }

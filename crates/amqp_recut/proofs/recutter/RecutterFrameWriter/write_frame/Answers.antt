@@ -12,4 +12,5 @@ returns-in-ProtocolHeader-clause-writes g c =
 pub returns-in-Heartbeat-clause-writes : goal.returns-in-Heartbeat-clause-writes
 returns-in-Heartbeat-clause-writes g c =
     let passed = outside_passed c.args.self.now (raw_of c.args.raw) (subst IsOutsideType (sym c.in-Heartbeat.is) beat_is_outside) in
-    rw c.as_run-in-Heartbeat.ensures (passing c.args.self.now (raw_of c.args.raw) _ _ _ _ c.write_canonical-in-Heartbeat.result passed c.write_canonical-in-Heartbeat.ensures.writes)
+    rw c.as_run-in-Heartbeat.ensures
+    (passing c.args.self.now (raw_of c.args.raw) _ _ _ _ c.write_canonical-in-Heartbeat.result passed c.write_canonical-in-Heartbeat.ensures.writes)

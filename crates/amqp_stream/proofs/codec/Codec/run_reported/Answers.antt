@@ -6,9 +6,11 @@ use Rattle.amqp_stream.proofs.codec.Codec.run_reported.Goals as goal
 pub returns-clause-run : goal.returns-clause-run
 returns-clause-run g c =
     let none = ap (λ h. h.held) c.clear.ensures in
-    rw c.reported.ensures.error (one_run refl (rw (c.clear.ensures, c.self.view_is) at c.run_with-ended.ensures.stream) c.run_with-ended.ensures.unread (c.run_with-ended.ensures.unwritten none) (c.run_with-ended.ensures.spent none))
+    rw c.reported.ensures.error (one_run refl (rw (c.clear.ensures, c.self.view_is) at c.run_with-ended.ensures.stream) c.run_with-ended.ensures.unread
+    (c.run_with-ended.ensures.unwritten none) (c.run_with-ended.ensures.spent none))
 
 pub returns-clause-place : goal.returns-clause-place
 returns-clause-place g c =
     let limit = rw (c.clear.ensures, c.self.view_is) at c.run_with-ended.ensures.limit in
-    reports c.reported.result c.reported.ensures.error refl (rw (c.clear.ensures, c.self.view_is) at c.run_with-ended.ensures.stream) (rw limit at c.reported.ensures.few) c.reported.ensures.place c.reported.ensures.channel
+    reports c.reported.result c.reported.ensures.error refl (rw (c.clear.ensures, c.self.view_is) at c.run_with-ended.ensures.stream)
+    (rw limit at c.reported.ensures.few) c.reported.ensures.place c.reported.ensures.channel

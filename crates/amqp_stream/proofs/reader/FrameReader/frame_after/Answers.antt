@@ -7,18 +7,33 @@ use Rattle.amqp_stream.proofs.reader.FrameReader.frame_after.Goals as goal
 use Rattle.amqp_wire.proofs.Looked.{raw_with}
 
 pub overflow_add-start : goal.overflow_add-start
-overflow_add-start c = omega (arith, c.requires.lies.payload_inside, c.requires.lies.inside, length-drop c.args.passed c.args.self.now.held, c.held-held.ensures.room, c.held-held.ensures.limit)
+overflow_add-start c = omega (
+  arith,
+  c.requires.lies.payload_inside,
+  c.requires.lies.inside,
+  length-drop c.args.passed c.args.self.now.held,
+  c.held-held.ensures.room,
+  c.held-held.ensures.limit,
+)
 
 pub returns-clause-frame : goal.returns-clause-frame
 returns-clause-frame c =
     let layout = c.args.layout in
-    ap (λ (xs : List ℕ). raw_with layout xs) (part-behind c.held-held.result.now c.args.self.now.held c.args.passed layout.payload_start layout.payload_len c.held-held.ensures.held)
+    ap (λ (xs : List ℕ). raw_with layout xs)
+    (part-behind c.held-held.result.now c.args.self.now.held c.args.passed layout.payload_start layout.payload_len c.held-held.ensures.held)
 
 pub returns-clause-few : goal.returns-clause-few
 returns-clause-few c =
     let layout = c.args.layout in
     let bounds = outer-in_bounds _ _ _ _ c.requires.lies.found in
-    omega (arith, ap length (part-behind c.held-held.result.now c.args.self.now.held c.args.passed layout.payload_start layout.payload_len c.held-held.ensures.held), bounds.payload c.args.self.now.limit refl, c.held-held.ensures.limit)
+    omega (
+      arith,
+      ap length (part-behind c.held-held.result.now c.args.self.now.held c.args.passed layout.payload_start layout.payload_len c.held-held.ensures.held),
+      bounds.payload c.args.self.now.limit refl,
+      c.held-held.ensures.limit,
+    )
 
 pub returns-clause-place : goal.returns-clause-place
-returns-clause-place c = omega (arith, c.requires.passed, c.requires.lies.inside, length-drop c.args.passed c.args.self.now.held, c.held-held.ensures.room, c.held-held.ensures.limit)
+returns-clause-place c =
+    omega
+    (arith, c.requires.passed, c.requires.lies.inside, length-drop c.args.passed c.args.self.now.held, c.held-held.ensures.room, c.held-held.ensures.limit)

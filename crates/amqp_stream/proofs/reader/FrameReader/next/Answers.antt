@@ -12,18 +12,38 @@ pub returns-in-Err : goal.returns-in-Err
 returns-in-Err g c =
     let m = c.args.self.now.limit in
     let fits : m < 2 ^ 32 = omega (arith, c.self.invariant.2, ap (λ h. h.limit) c.self.view_is, c.in-Err.ensures.limit) in
-    let P : Holding → Type 0 = λ h. HasNext (g.S.Source.supply c.args.source.now) (g.S.Source.supply c.pull.new.source) c.args.turns.now c.pull.new.turns c.args.self.now h (Err c.in-Err.error) in
-    let next : P c.pull.new.self = has_next fits c.in-Err.ensures.limit (err_as (LiesIn m) (IsBorrowed m) m _ _ _ _ _ _ c.in-Err.error c.in-Err.ensures.pulls) in
-    ((refl, λ _. tt, subst P (sym c.self.view_is) (next)), record { few = tt; returns = record { new = c.pull.new.self; has_next = next }; decided = λ h. c.in-Err.ensures.unread (c.in-Err.ensures.pulls.pulls.decided h).1; unread = λ zero. c.in-Err.ensures.unread (omega (arith, c.in-Err.ensures.pulls.pulls.turns_fall, zero)); after = tt })
+    let P : Holding → Type 0 = λ h.
+    HasNext (g.S.Source.supply c.args.source.now)
+    (g.S.Source.supply c.pull.new.source) c.args.budget.now c.pull.new.budget c.args.self.now h (Err c.in-Err.error) in
+    let next : P c.pull.new.self =
+    has_next fits c.in-Err.ensures.limit (err_as (LiesIn m) (IsBorrowed m) m _ _ _ _ _ _ c.in-Err.error c.in-Err.ensures.pulls) in (
+      (refl, λ _. tt, subst P (sym c.self.view_is) (next)),
+      record {
+        few = tt;
+        returns = record { new = c.pull.new.self; has_next = next };
+        decided = λ h. c.in-Err.ensures.unread (c.in-Err.ensures.pulls.pulls.decided h).1;
+        unread = λ zero. c.in-Err.ensures.unread (omega (arith, c.in-Err.ensures.pulls.pulls.budget_falls, zero));
+        after = tt;
+      },
+    )
 
 pub returns-in-Ok-None : goal.returns-in-Ok-None
 returns-in-Ok-None g c =
     let m = c.args.self.now.limit in
     let fits : m < 2 ^ 32 = omega (arith, c.self.invariant.2, ap (λ h. h.limit) c.self.view_is, c.in-Ok-None.ensures.limit) in
-    let P : Holding → Type 0 = λ h. HasNext (g.S.Source.supply c.args.source.now) (g.S.Source.supply c.pull.new.source) c.args.turns.now c.pull.new.turns c.args.self.now h (Ok None) in
+    let P : Holding → Type 0 =
+    λ h. HasNext (g.S.Source.supply c.args.source.now) (g.S.Source.supply c.pull.new.source) c.args.budget.now c.pull.new.budget c.args.self.now h (Ok None) in
     let pulls = rw c.in-Ok-None.field-0-is at c.in-Ok-None.ensures.pulls in
-    let next : P c.pull.new.self = has_next fits c.in-Ok-None.ensures.limit (none_as (LiesIn m) (IsBorrowed m) m _ _ _ _ _ _ pulls) in
-    ((refl, λ _. tt, subst P (sym c.self.view_is) (next)), record { few = tt; returns = record { new = c.pull.new.self; has_next = next }; decided = λ h. c.in-Ok-None.ensures.unread (c.in-Ok-None.ensures.pulls.pulls.decided h).1; unread = λ zero. c.in-Ok-None.ensures.unread (omega (arith, c.in-Ok-None.ensures.pulls.pulls.turns_fall, zero)); after = tt })
+    let next : P c.pull.new.self = has_next fits c.in-Ok-None.ensures.limit (none_as (LiesIn m) (IsBorrowed m) m _ _ _ _ _ _ pulls) in (
+      (refl, λ _. tt, subst P (sym c.self.view_is) (next)),
+      record {
+        few = tt;
+        returns = record { new = c.pull.new.self; has_next = next };
+        decided = λ h. c.in-Ok-None.ensures.unread (c.in-Ok-None.ensures.pulls.pulls.decided h).1;
+        unread = λ zero. c.in-Ok-None.ensures.unread (omega (arith, c.in-Ok-None.ensures.pulls.pulls.budget_falls, zero));
+        after = tt;
+      },
+    )
 
 pub returns-in-Ok-Some : goal.returns-in-Ok-Some
 returns-in-Ok-Some g c =
@@ -36,11 +56,28 @@ returns-in-Ok-Some g c =
     let same = ap (λ h. h.limit) c.self.view_is ∙ c.in-Ok-Some.ensures.limit in
     let within : span.end ≤ length buf = omega (arith, c.self.invariant.0.within, c.deref.ensures.len, ap length c.deref.ensures.value) in
     let long = part-length buf span.start span.end c.self.invariant.0.ordered within in
-    let inside : layout.payload_start + layout.payload_len ≤ span.end - span.start = omega (arith, lies.payload_inside, lies.inside, long, ap length pulls.ends.1, ap (λ h. length h.held) c.self.view_is) in
-    let payload = part-frame buf c.deref.result.now span.start span.end layout.payload_start layout.payload_len c.deref.ensures.value c.self.invariant.0.ordered inside in
+    let inside : layout.payload_start + layout.payload_len ≤ span.end - span.start =
+    omega (arith, lies.payload_inside, lies.inside, long, ap length pulls.ends.1, ap (λ h. length h.held) c.self.view_is) in
+    let payload =
+    part-frame buf c.deref.result.now span.start span.end layout.payload_start layout.payload_len c.deref.ensures.value c.self.invariant.0.ordered inside in
     let raw = ap (λ (xs : List ℕ). raw_with layout xs) payload ∙ ap (λ h. laid_out layout h.held) c.self.view_is in
     let rest = part-drop buf span.start span.end layout.frame_len ∙ ap (λ h. drop layout.frame_len h.held) c.self.view_is in
     let fits : m < 2 ^ 32 = omega (arith, c.self.invariant.2, same) in
     let next = has_next fits same (some_as m _ _ _ _ _ _ _ layout _ pulls raw rest) in
-    let bounds = outer-in_bounds _ _ _ _ lies.found in
-    ((refl, λ _. tt, next), record { few = omega (arith, ap length payload, ap (λ h. length (take layout.payload_len (drop layout.payload_start h.held))) c.self.view_is, ap (λ (xs : List ℕ). length (take layout.payload_len (drop layout.payload_start xs))) pulls.ends.1, bounds.payload m refl, fits); returns = record { new = _; has_next = next }; decided = λ h. c.in-Ok-Some.ensures.unread (c.in-Ok-Some.ensures.pulls.pulls.decided h).1; unread = λ zero. c.in-Ok-Some.ensures.unread (omega (arith, c.in-Ok-Some.ensures.pulls.pulls.turns_fall, zero)); after = tt })
+    let bounds = outer-in_bounds _ _ _ _ lies.found in (
+      (refl, λ _. tt, next),
+      record {
+        few = omega (
+          arith,
+          ap length payload,
+          ap (λ h. length (take layout.payload_len (drop layout.payload_start h.held))) c.self.view_is,
+          ap (λ (xs : List ℕ). length (take layout.payload_len (drop layout.payload_start xs))) pulls.ends.1,
+          bounds.payload m refl,
+          fits,
+        );
+        returns = record { new = _; has_next = next };
+        decided = λ h. c.in-Ok-Some.ensures.unread (c.in-Ok-Some.ensures.pulls.pulls.decided h).1;
+        unread = λ zero. c.in-Ok-Some.ensures.unread (omega (arith, c.in-Ok-Some.ensures.pulls.pulls.budget_falls, zero));
+        after = tt;
+      },
+    )

@@ -15,25 +15,29 @@ pub returns-in-Ok-Some-clause-pulls : goal.returns-in-Ok-Some-clause-pulls
 returns-in-Ok-Some-clause-pulls g c =
     let run = c.reads.invariant in
     let lies = rw (c.in-Ok-Some.field-0-is, run.limit) at c.in-Ok-Some.ensures.finds in
-    pulls_to (LiesIn c.args.self.now.limit) (Ok (Some c.in-Ok-Some.layout)) run.pulled c.in-Ok-Some.ensures.bytes (rw run.limit at c.in-Ok-Some.ensures.room) (lies, refl)
+    pulls_to (LiesIn c.args.self.now.limit) (Ok (Some c.in-Ok-Some.layout)) run.pulled c.in-Ok-Some.ensures.bytes
+    (rw run.limit at c.in-Ok-Some.ensures.room) (lies, refl)
 
-pub returns-then-turns-eq0-clause-pulls : goal.returns-then-turns-eq0-clause-pulls
-returns-then-turns-eq0-clause-pulls g c =
+pub returns-then-budget-eq0-clause-pulls : goal.returns-then-budget-eq0-clause-pulls
+returns-then-budget-eq0-clause-pulls g c =
     let run = c.reads.invariant in
     let more = rw (c.in-Ok-None.field-0-is, run.limit) at c.in-Ok-None.ensures.finds in
-    pulls_to (LiesIn c.args.self.now.limit) (Err errors.TurnsSpent) run.pulled c.in-Ok-None.ensures.bytes (rw run.limit at c.in-Ok-None.ensures.room) ((more, c.if-turns-eq0.true), refl)
+    pulls_to (LiesIn c.args.self.now.limit) (Err errors.TurnsSpent) run.pulled c.in-Ok-None.ensures.bytes
+    (rw run.limit at c.in-Ok-None.ensures.room) ((more, c.if-budget-eq0.true), refl)
 
 pub returns-in-Err-fill-clause-pulls : goal.returns-in-Err-fill-clause-pulls
 returns-in-Err-fill-clause-pulls g c =
     let run = c.reads.invariant in
     let more = rw (c.in-Ok-None.field-0-is, run.limit) at c.in-Ok-None.ensures.finds in
-    ends_unread (LiesIn c.args.self.now.limit) run.pulled c.in-Ok-None.ensures.bytes (omega arith) more c.in-Err-fill.ensures.reads (rw run.limit at c.in-Err-fill.ensures.room)
+    ends_unread (LiesIn c.args.self.now.limit) run.pulled c.in-Ok-None.ensures.bytes
+    (omega arith) more c.in-Err-fill.ensures.reads (rw run.limit at c.in-Err-fill.ensures.room)
 
 pub returns-in-Ok-eq0-2-clause-pulls : goal.returns-in-Ok-eq0-2-clause-pulls
 returns-in-Ok-eq0-2-clause-pulls g c =
     let run = c.reads.invariant in
     let more = rw (c.in-Ok-None.field-0-is, run.limit) at c.in-Ok-None.ensures.finds in
-    ends_short (LiesIn c.args.self.now.limit) c.in-Ok-eq0.field-0-test run.pulled c.in-Ok-None.ensures.bytes (omega arith) more c.in-Ok-eq0.ensures.reads (rw run.limit at c.in-Ok-eq0.ensures.room) (λ none. absurd (let told = c.is_empty.ensures.1 none in let empty = c.if-is_empty.false in cc))
+    ends_short (LiesIn c.args.self.now.limit) c.in-Ok-eq0.field-0-test run.pulled c.in-Ok-None.ensures.bytes (omega arith) more c.in-Ok-eq0.ensures.reads
+    (rw run.limit at c.in-Ok-eq0.ensures.room) (λ none. absurd (let told = c.is_empty.ensures.1 none in let empty = c.if-is_empty.false in cc))
 
 pub reads-preserved : goal.reads-preserved
 reads-preserved g c =
@@ -43,14 +47,14 @@ reads-preserved g c =
     record {
       limit = c.in-Ok.ensures.limit ∙ run.limit;
       pulled = Pulled-more 0 run.pulled (omega arith) more read (omega (arith, read.ok, c.in-Ok.field-0-test.1));
-      unread = λ e. absurd (omega (arith, run.pulled.turns_fall));
+      unread = λ e. absurd (omega (arith, run.pulled.budget_falls));
     }
 
 pub returns-in-Err-fill-clause-unread : goal.returns-in-Err-fill-clause-unread
-returns-in-Err-fill-clause-unread g c = λ e. absurd (omega (arith, c.reads.invariant.pulled.turns_fall))
+returns-in-Err-fill-clause-unread g c = λ e. absurd (omega (arith, c.reads.invariant.pulled.budget_falls))
 
 pub returns-in-Ok-eq0-clause-unread : goal.returns-in-Ok-eq0-clause-unread
-returns-in-Ok-eq0-clause-unread g c = λ e. absurd (omega (arith, c.reads.invariant.pulled.turns_fall))
+returns-in-Ok-eq0-clause-unread g c = λ e. absurd (omega (arith, c.reads.invariant.pulled.budget_falls))
 
 pub returns-in-Ok-eq0-2-clause-unread : goal.returns-in-Ok-eq0-2-clause-unread
-returns-in-Ok-eq0-2-clause-unread g c = λ e. absurd (omega (arith, c.reads.invariant.pulled.turns_fall))
+returns-in-Ok-eq0-2-clause-unread g c = λ e. absurd (omega (arith, c.reads.invariant.pulled.budget_falls))

@@ -12,15 +12,33 @@ loop-value-init g c =
     let rest = c.into_iter-value-iterator.ensures.into_iter_gives ∙ c.values-value-items.ensures.rest in
     record {
       fits = elim c.match-self.branch [
-        | in-Some w ↦ omega (arith, w.count-is ∙ w.from-count.ensures, (one_is w.test.result).1, c.values-value-items.ensures.fits, c.values-value-items.ensures.len, ap length c.into_iter-value-iterator.ensures.into_iter_gives)
-        | in-None w ↦ omega (arith, w.count-is, c.values-value-items.ensures.fits, c.values-value-items.ensures.len, ap length c.into_iter-value-iterator.ensures.into_iter_gives)
+        | in-Some w ↦ omega (
+          arith,
+          w.count-is ∙ w.from-count.ensures,
+          (one_is w.test.result).1,
+          c.values-value-items.ensures.fits,
+          c.values-value-items.ensures.len,
+          ap length c.into_iter-value-iterator.ensures.into_iter_gives,
+        )
+        | in-None w ↦ omega (
+          arith,
+          w.count-is,
+          c.values-value-items.ensures.fits,
+          c.values-value-items.ensures.len,
+          ap length c.into_iter-value-iterator.ensures.into_iter_gives,
+        )
       ];
       counted = λ passes computes. elim c.match-self.branch [
         | in-Some w ↦
-            counted_some c.self.inside.last c.self.inside.others.entries c.args.self.now c.self.view_is passes w.in-Some.entry c.into_iter-value-iterator.result c.match-self.count
+            counted_some c.self.inside.last c.self.inside.others.entries c.args.self.now
+            c.self.view_is passes w.in-Some.entry c.into_iter-value-iterator.result c.match-self.count
             w.in-Some.is c.self.invariant c.values-value-items.ensures.ordered
-            (w.count-is ∙ w.from-count.ensures ∙ (one_is w.test.result).0 ∙ ap (λ b. cond b 1 0) (computes w.in-Some.entry.value w.test.result (record { shown = _; shows = refl; says = record { met = w.test.ensures } }))) rest
-        | in-None w ↦ counted_none c.self.inside.last c.self.inside.others.entries c.args.self.now c.self.view_is passes c.into_iter-value-iterator.result c.match-self.count w.in-None.is w.count-is rest
+            (w.count-is ∙ w.from-count.ensures ∙ (one_is w.test.result).0
+            ∙ ap (λ b. cond b 1 0) (computes w.in-Some.entry.value w.test.result (record { shown = _; shows = refl; says = record { met = w.test.ensures } })))
+            rest
+        | in-None w ↦
+            counted_none c.self.inside.last c.self.inside.others.entries c.args.self.now c.self.view_is
+            passes c.into_iter-value-iterator.result c.match-self.count w.in-None.is w.count-is rest
       ];
     }
 
@@ -30,8 +48,11 @@ loop-value-preserved-then-test g c =
     record {
       fits = omega (arith, ap length next);
       counted = λ passes computes.
-          let passed = computes c.in-Some-value.value.now c.test-in-loop-value.result (record { shown = _; shows = refl; says = record { met = c.test-in-loop-value.ensures } }) in
-          counted_more passes c.loop-value.count (c.loop-value.count + 1) _ c.next.new.self c.in-Some-value.value.now next (ap (λ b. c.loop-value.count + cond b 1 0) (sym c.if-test.true ∙ passed))
+          let passed =
+          computes c.in-Some-value.value.now c.test-in-loop-value.result
+          (record { shown = _; shows = refl; says = record { met = c.test-in-loop-value.ensures } }) in
+          counted_more passes c.loop-value.count (c.loop-value.count + 1) _ c.next.new.self c.in-Some-value.value.now next
+          (ap (λ b. c.loop-value.count + cond b 1 0) (sym c.if-test.true ∙ passed))
           ∙ c.loop-value.invariant.counted passes computes;
     }
 
@@ -41,8 +62,11 @@ loop-value-preserved g c =
     record {
       fits = omega (arith, ap length next);
       counted = λ passes computes.
-          let passed = computes c.in-Some-value.value.now c.test-in-loop-value.result (record { shown = _; shows = refl; says = record { met = c.test-in-loop-value.ensures } }) in
-          counted_more passes c.loop-value.count c.loop-value.count _ c.next.new.self c.in-Some-value.value.now next (sym (add-zero c.loop-value.count) ∙ ap (λ b. c.loop-value.count + cond b 1 0) (sym c.if-test.false ∙ passed))
+          let passed =
+          computes c.in-Some-value.value.now c.test-in-loop-value.result
+          (record { shown = _; shows = refl; says = record { met = c.test-in-loop-value.ensures } }) in
+          counted_more passes c.loop-value.count c.loop-value.count _ c.next.new.self c.in-Some-value.value.now next
+          (sym (add-zero c.loop-value.count) ∙ ap (λ b. c.loop-value.count + cond b 1 0) (sym c.if-test.false ∙ passed))
           ∙ c.loop-value.invariant.counted passes computes;
     }
 

@@ -9,7 +9,10 @@ pub returns-then-is_of : goal.returns-then-is_of
 returns-then-is_of g c =
     let of = sym c.is_of.ensures ∙ c.if-is_of.true in (
       (refl, λ w. set_last c.self.inside.last c.self.inside.others.entries c.args.self.now c.self.view_is c.args.channel_id w of, c.self.view_is),
-      record { writes_back = tt; value = c.value_mut.ensures.value ∙ kept_of c.self.inside.last c.self.inside.others.entries c.args.self.now c.self.view_is c.args.channel_id of },
+      record {
+        writes_back = tt;
+        value = c.value_mut.ensures.value ∙ kept_of c.self.inside.last c.self.inside.others.entries c.args.self.now c.self.view_is c.args.channel_id of;
+      },
     )
 
 pub invariant_of-self-lent-2 : goal.invariant_of-self-lent-2
@@ -23,8 +26,12 @@ returns g c =
     let other = sym c.is_of.ensures ∙ c.if-is_of.false in (
       (
         refl,
-        λ w. set_others c.self.inside.last c.self.inside.others.entries c.args.self.now c.self.view_is c.args.channel_id w other _ (c.get_mut.follows.holds w).0,
+        λ w.
+            set_others c.self.inside.last c.self.inside.others.entries c.args.self.now c.self.view_is c.args.channel_id w other _ (c.get_mut.follows.holds w).0,
         ap (λ (m : BTreeMap ℕ g.row.T.Denot). with_last c.self.inside.last m.entries) c.get_mut.follows.holds-at-none ∙ c.self.view_is,
       ),
-      record { writes_back = tt; value = c.get_mut.ensures.value ∙ kept_beside c.self.inside.last c.self.inside.others.entries c.args.self.now c.self.view_is c.args.channel_id other },
+      record {
+        writes_back = tt;
+        value = c.get_mut.ensures.value ∙ kept_beside c.self.inside.last c.self.inside.others.entries c.args.self.now c.self.view_is c.args.channel_id other;
+      },
     )

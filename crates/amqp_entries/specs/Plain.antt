@@ -1,0 +1,21 @@
+-- Values at the front of some bytes whose canonical bytes these are.
+use Rattle.std.specs.Prelude.{◌<◌, ◌≤◌, ◌==◌, ℕ, true, List, length}
+use Rattle.std.specs.Prelude.{Option, Some, None, if◌then◌else◌}
+use Rattle.amqp_types.specs.ValueJudging.{judge_value}
+use Rattle.amqp_canonical.specs.Judgements.{DecodesAs, IsCanonicalValue}
+
+-- how many bytes stand after a tag byte, where these are a number
+abbrev pub number_size_after : ℕ → Option ℕ
+number_size_after byte =
+    if byte == 98 then Some 1 else if byte == 66 then Some 1
+    else if byte == 115 then Some 2 else if byte == 117 then Some 2
+    else if byte == 73 then Some 4 else if byte == 105 then Some 4 else if byte == 102 then Some 4
+    else if byte == 108 then Some 8 else if byte == 100 then Some 8 else if byte == 84 then Some 8
+    else None
+
+-- a value is decoded at the front in so many bytes with its tag, and they are its canonical ones
+pub record IsCanonicalFront (depth_left : ℕ) (bytes : List ℕ) (n : ℕ) : Type 0 where
+  pub decoded : DecodesAs IsCanonicalValue (record { used = n; canonical = true }) bytes
+      (judge_value depth_left bytes)
+  pub some : 0 < n
+  pub fits : n ≤ length bytes

@@ -1,0 +1,9 @@
+-- `read_entries`: clause `bound`.
+use Rattle.amqp_fields.proofs.ContentsFound.{entries_few}
+use Rattle.amqp_fields.proofs.contents.read_entries.Goals as goal
+
+pub returns-then-count-nodes-clause-bound : goal.returns-then-count-nodes-clause-bound
+returns-then-count-nodes-clause-bound c = entries_few c.args.content.now
+
+pub returns-clause-bound : goal.returns-clause-bound
+returns-clause-bound c = entries_few c.args.content.now

@@ -1,0 +1,135 @@
+-- What a call reports: the line that it reached, by the lines of frames in front.
+use Rattle.std.proofs.Common.{◌≡◌, ℕ, ◌*◌, ◌≤◌, List, [], ◌∷◌, ◌++◌, length, Some, Result, Ok, Err, sym, ap, subst, ◌∙◌, append-nil, arith}
+use Rattle.std.specs.Prelude.{IfErr}
+use Rattle.std.specs.List.{flat_map}
+use Rattle.std.proofs.lemmas.List.{length-append}
+use Rattle.amqp_wire.specs.Frames.{Frame, Proto, Meth, Head, Body, Beat, BadBeat}
+use Rattle.amqp_stream.specs.Ends.{Supply, Store, last}
+use Rattle.amqp_lines.specs.Lines.{words, line, lines}
+use Rattle.amqp_lines.specs.LineReading.{Decides}
+use Rattle.amqp_lines.specs.Undumping.{IsLongestText, UndumpRun}
+use Rattle.amqp_lines.specs.UndumpReports.{IsLineAfter, EndsAtLine, EndsExactlyAt, IsUndumpReport, PassesLines, first_line, unreported_lines}
+use Rattle.amqp_lines.specs.declared.report.LinePlace.{LinePlace}
+use Rattle.amqp_lines.specs.declared.report.UndumpReport.{UndumpReport}
+use Rattle.amqp_lines.specs.declared.errors.UndumpError.{UndumpError}
+use Rattle.amqp_lines.specs.declared.errors.UndumpError.TheVariants as errors
+use Rattle.amqp_lines.proofs.Completing.{left_of, empty_left}
+use Rattle.amqp_lines.proofs.Exactly.{longest_more}
+use Rattle.amqp_lines.proofs.Undumps.{never_began}
+
+-- ---- the number of a line
+
+words_some : (f : Frame) → 1 ≤ length (words f)
+unfolding words
+words_some (Proto major minor revision) = omega arith
+words_some (Meth channel m) = omega arith
+words_some (Head channel header) = omega arith
+words_some (Body channel content) = omega arith
+words_some Beat = omega arith
+words_some (BadBeat channel) = omega arith
+
+line_two : (f : Frame) → 2 ≤ length (line f)
+unfolding line
+line_two f = omega (arith, words_some f, length-append (words f) (10 ∷ []))
+
+lines_two : (fs : List Frame) → 2 * length fs ≤ length (lines fs)
+unfolding lines
+lines_two [] = omega arith
+lines_two (f ∷ fs) = omega (arith, line_two f, lines_two fs, length-append (line f) (flat_map line fs))
+
+line_after : (fs : List Frame) (taken rest : List ℕ) (now : LinePlace) → taken ≡ lines fs ++ rest → PassesLines fs first_line now
+    → length taken ≤ last → IsLineAfter fs now.line now.place
+line_after fs taken rest now parts passes fits =
+    let size = ap length parts ∙ length-append (lines fs) rest in
+    let few = lines_two fs in
+    record {
+      line_is = omega (arith, passes.line (omega (arith, size, few, fits)));
+      place_is = omega (arith, passes.place (omega (arith, size, fits)));
+    }
+
+-- ---- the report of an error
+
+module _ {m budget : ℕ} {a b : Supply} {k l : Store} {now : LinePlace} where
+  ends_at_line : (error : UndumpError) → Decides m budget a b k l now (Err error) → EndsAtLine m budget a b k l error now.line now.place
+  ends_at_line error d = record {
+    taken = d.taken;
+    reads = d.reads;
+    takes = d.takes;
+    frames = d.frames;
+    are_strict = d.are_strict;
+    rest = d.rest;
+    parts = d.parts;
+    decided = d.decided;
+    written = d.written;
+    gains = d.gains;
+    writes = d.writes;
+    cause = d.cause;
+    line_after = line_after d.frames d.taken d.rest now d.parts d.passes;
+  }
+
+  ends_exactly : (error : UndumpError) → Decides m budget a b k l now (Err error) → (bytes : List ℕ) → a.left ≡ Some bytes
+      → length bytes ≤ last → EndsExactlyAt m bytes error now.line now.place
+  ends_exactly errors.BadText d bytes left fits =
+      let is = left_of bytes d.taken b.left (sym left ∙ d.takes.bytes) in
+      record {
+        frames = d.frames;
+        rest = d.rest ++ is.more;
+        text =
+            subst (λ (xs : List ℕ). IsLongestText m xs d.frames (d.rest ++ is.more)) (sym is.parts)
+            (longest_more m d.taken is.more d.frames d.rest d.cause d.decided);
+        line_after =
+            line_after d.frames d.taken d.rest now d.parts d.passes (omega (arith, fits, ap length is.parts, length-append d.taken is.more));
+      }
+  ends_exactly errors.CutShort d bytes left fits =
+      let is = left_of bytes d.taken b.left (sym left ∙ d.takes.bytes) in
+      let none = empty_left b.left is.more is.is d.cause.2 in
+      record {
+        frames = d.frames;
+        rest = d.rest;
+        text =
+            subst (λ (xs : List ℕ). IsLongestText m xs d.frames d.rest)
+            (sym (is.parts ∙ ap (λ (xs : List ℕ). d.taken ++ xs) none ∙ append-nil d.taken)) d.decided;
+        line_after =
+            line_after d.frames d.taken d.rest now d.parts d.passes (omega (arith, fits, ap length is.parts, length-append d.taken is.more));
+      }
+  ends_exactly errors.TurnsSpent d bytes left fits = tt
+  ends_exactly errors.ReadFault d bytes left fits = tt
+  ends_exactly errors.WriteFault d bytes left fits = tt
+  ends_exactly errors.NoMemory d bytes left fits = tt
+
+-- ---- by the result
+
+-- the report of a call that reached this line
+pub reported : {S : Type 0} (supply : S → Supply) {m budget : ℕ} {source source' : S} {k l : Store} {now : LinePlace}
+    {answer : Result (Unit {0}) UndumpError} (r : Result (Unit {0}) UndumpReport) → unreported_lines r ≡ answer
+    → IfErr r (λ report. report.line ≡ now.line) → IfErr r (λ report. report.place ≡ now.place)
+    → Decides m budget (supply source) (supply source') k l now answer → IfErr r (IsUndumpReport supply m budget source source' k l)
+reported supply (Ok done) is number place d = tt
+reported supply {m = m} {budget = budget} {source = source} {source' = source'} {k = k} {l = l} {now = now} (Err report) is number place d =
+    let h = subst (λ (r : Result (Unit {0}) UndumpError). Decides m budget (supply source) (supply source') k l now r) (sym is) d in
+    record {
+      ends =
+          subst (λ (n : ℕ). EndsAtLine m budget (supply source) (supply source') k l report.error report.line n) (sym place)
+          (subst (λ (n : ℕ). EndsAtLine m budget (supply source) (supply source') k l report.error n now.place) (sym number)
+          (ends_at_line report.error h));
+      exact = λ bytes left fits.
+          subst (λ (n : ℕ). EndsExactlyAt m bytes report.error report.line n) (sym place)
+          (subst (λ (n : ℕ). EndsExactlyAt m bytes report.error n now.place) (sym number)
+          (ends_exactly report.error h bytes left fits));
+    }
+
+-- the result without where it ended
+pub unreported : {S K : Type 0} {supply : S → Supply} {store : K → Store} {m budget : ℕ} {source source' : S} {sink sink' : K}
+    {answer : Result (Unit {0}) UndumpError} (r : Result (Unit {0}) UndumpReport) → unreported_lines r ≡ answer
+    → UndumpRun supply store m budget source source' sink sink' answer → UndumpRun supply store m budget source source' sink sink' (unreported_lines r)
+unreported {supply = supply} {store = store} {m = m} {budget = budget} {source = source} {source' = source'} {sink = sink} {sink' = sink'} r is h =
+    subst (λ (x : Result (Unit {0}) UndumpError). UndumpRun supply store m budget source source' sink sink' x) (sym is) h
+
+-- a call that memory did not let begin
+pub never_reported : {S : Type 0} (supply : S → Supply) (m budget : ℕ) (source : S) (k : Store) {first : LinePlace} (r : Result (Unit {0}) UndumpReport)
+    → first ≡ first_line → unreported_lines r ≡ Err errors.NoMemory
+    → IfErr r (λ report. report.line ≡ first.line) → IfErr r (λ report. report.place ≡ first.place) → IfErr r (IsUndumpReport supply m budget source source k k)
+never_reported supply m budget source k r first_is is number place =
+    reported supply r is number place
+    (subst (λ (p : LinePlace). Decides m budget (supply source) (supply source) k k p (Err errors.NoMemory)) (sym first_is)
+    (never_began m budget (supply source) k))

@@ -1,0 +1,30 @@
+-- `undump_reported`: what it ensures.
+use Rattle.std.proofs.Common.{inl}
+use Rattle.amqp_lines.proofs.Exactly.{undump_run, never_ran}
+use Rattle.amqp_lines.proofs.LineReports.{reported, unreported, never_reported}
+use Rattle.amqp_lines.proofs.undumping.undump_reported.Goals as goal
+
+pub returns-in-Err : goal.returns-in-Err
+returns-in-Err g c = record {
+  run = unreported c.reported.result c.reported.ensures.answer never_ran;
+  report =
+      never_reported g.S.Source.supply _ _ _ _ c.reported.result c.first-first.ensures
+      c.reported.ensures.answer c.reported.ensures.line c.reported.ensures.place;
+}
+
+pub returns-in-Err-open : goal.returns-in-Err-open
+returns-in-Err-open g c =
+    let r = c.reported-in-Err-open in
+    record {
+      run = unreported r.result r.ensures.answer never_ran;
+      report = never_reported g.S.Source.supply _ _ _ _ r.result c.first-first.ensures r.ensures.answer r.ensures.line r.ensures.place;
+    }
+
+pub returns : goal.returns
+returns g c =
+    let r = c.reported-in-Ok-open in
+    let run = c.run-answer.ensures in
+    record {
+      run = unreported r.result r.ensures.answer (undump_run run.stream run.unread run.unwritten (λ none. inl (run.spent none)));
+      report = reported g.S.Source.supply r.result r.ensures.answer r.ensures.line r.ensures.place run.stream;
+    }

@@ -1,0 +1,6 @@
+-- `run_rules`: clause `run`.
+use Rattle.amqp_program.proofs.TurnRuns.{turn_reports}
+use Rattle.amqp_program.proofs.filter_command.run_rules.Goals as goal
+
+pub returns-clause-run : goal.returns-clause-run
+returns-clause-run g c = turn_reports _ _ g.S.Source.supply g.K.Sink.store _ _ _ _ _ _ c.turned.ensures c.filter_reported.ensures.run

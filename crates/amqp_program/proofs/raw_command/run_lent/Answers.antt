@@ -1,0 +1,6 @@
+-- `run_lent`: clause `run`.
+use Rattle.amqp_program.proofs.RawRuns.{raw_reports}
+use Rattle.amqp_program.proofs.raw_command.run_lent.Goals as goal
+
+pub returns-clause-run : goal.returns-clause-run
+returns-clause-run g c = raw_reports g.S.Source.supply g.K.Sink.store _ _ _ _ _ _ c.streamed.ensures c.canonicalize_lent_reported.ensures.run

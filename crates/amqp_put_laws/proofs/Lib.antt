@@ -1,0 +1,3 @@
+-- The lemmas of amqp_put_laws.
+mod Generated
+mod FieldsRead

@@ -1,0 +1,2 @@
+-- The definitions of amqp_put_laws.
+pub mod PutLaws

@@ -1,7 +1,0 @@
--- `CanonicalFrameWriter::pass`: clause `passes`.
-use Rattle.std.proofs.Common.{refl}
-use Rattle.amqp_stream.proofs.Deciding.{kept_by}
-use Rattle.amqp_stream.proofs.canonical.CanonicalFrameWriter.pass.Goals as goal
-
-pub returns-in-Ok : goal.returns-in-Ok
-returns-in-Ok c = record { passes = kept_by c.in-Ok.ensures (λ f. refl) refl refl }

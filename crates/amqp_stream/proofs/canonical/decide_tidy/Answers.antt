@@ -1,7 +1,0 @@
--- `decide_tidy`: what it ensures.
-use Rattle.std.proofs.Common.{refl, sym, ◌∙◌}
-use Rattle.amqp_stream.proofs.Deciding.{kept_by}
-use Rattle.amqp_stream.proofs.canonical.decide_tidy.Goals as goal
-
-pub returns-in-Ok : goal.returns-in-Ok
-returns-in-Ok c = λ writer. kept_by c.in-Ok.ensures (λ f. refl) (sym c.in-Ok.ensures.tidy ∙ c.if-judged.true) refl

@@ -1,0 +1,32 @@
+-- `take_kept`: clause `gathers`.
+use Rattle.std.proofs.Common.{◌≡◌, ℕ, List, ◌++◌, length, take, drop, sym, ap, ◌∙◌, arith}
+use Rattle.std.proofs.lemmas.List.{take-append-drop, take_rest}
+use Rattle.amqp_wire.specs.Frames.{raw_of}
+use Rattle.amqp_stream.proofs.Keeping.{kept_in_place, kept_pending}
+use Rattle.amqp_stream.proofs.kept.take_kept.Goals.{then-stretch-gt0-2, else-stretch-gt0-2}
+use Rattle.amqp_stream.proofs.kept.take_kept.Goals as goal
+
+pub returns-then-bytes-pending-clause-gathers : goal.returns-then-bytes-pending-clause-gathers
+returns-then-bytes-pending-clause-gathers c =
+    let pending = length c.bytes-pending.result.now in
+    let seen = c.bytes-then-bytes-pending.result.now in
+    kept_in_place (raw_of c.frame_after-raw.result) c.requires.within c.requires.lies
+    c.frame_after-raw.ensures.frame c.push_judged.ensures.adds (ap length c.bytes-pending.ensures)
+    (omega (arith, c.if-bytes-pending.true, ap length c.bytes.ensures)) (take_rest seen pending ∙ ap (drop pending) c.bytes-then-bytes-pending.ensures)
+    c.replace.ensures.held c.truncate.ensures.bytes c.with.ensures
+
+pub returns-clause-gathers : goal.returns-clause-gathers
+returns-clause-gathers c =
+    let pending = length c.bytes-pending.result.now in
+    let middle = c.push_judged.new.self.bytes in
+    let passed = c.args.stretch.len in
+    let held = c.args.reader.now.held in
+    let all : c.if-stretch-gt0-2.out.bytes ≡ take pending middle ++ (take passed held ++ drop pending middle) = elim c.if-stretch-gt0-2.branch [
+      | then-stretch-gt0-2 w ↦
+          ap (λ o. o.bytes) w.out-is ∙ w.insert.ensures.inserted ∙ ap (λ (xs : List ℕ). take pending middle ++ (xs ++ drop pending middle)) w.front.ensures
+      | else-stretch-gt0-2 w ↦
+          ap (λ o. o.bytes) w.out-is ∙ sym (take-append-drop pending middle)
+          ∙ ap (λ k. take pending middle ++ (take k held ++ drop pending middle)) {x = 0} {y = passed} (omega (arith, w.if-stretch-gt0-2.false))
+    ] in
+    kept_pending (raw_of c.frame_after-raw.result) c.requires.lies c.frame_after-raw.ensures.frame c.push_judged.ensures.adds c.push_judged.ensures.compact
+    (ap length c.bytes-pending.ensures) all c.skip.ensures.held c.empty.ensures
