@@ -16,7 +16,7 @@ use Rattle.amqp_types.specs.Judging.{IsBytes}
 use Rattle.amqp_types.proofs.Bytes.{IsBytes-drop, IsBytes-take}
 use Rattle.amqp_canonical.specs.Judgements.{IsBelow}
 use Rattle.amqp_canonical.specs.Leads.{leading, key_at}
-use Rattle.amqp_canonical.specs.Marks.{Follows, IsMarkOf}
+use Rattle.amqp_canonical.specs.Marks.{Ascends, IsMarkOf}
 use Rattle.amqp_canonical.specs.Writes.{key_in}
 use Rattle.amqp_canonical.specs.declared.marks.EntryMark.{EntryMark}
 
@@ -206,19 +206,19 @@ key_fits : (bytes : List ℕ) → IsBytes bytes → IsBytes (key_in bytes)
 key_fits [] fits = fits
 key_fits (n ∷ bytes) fits = IsBytes-take n bytes (λ k. fits (suc k))
 
--- A mark with a greater number of the first eight bytes of its key follows one with a less.
+-- A key whose mark has a greater number of its first eight bytes comes after one whose mark has a less.
 pub lead_tells : (content : List ℕ) (previous mark : EntryMark) → IsBytes content → IsMarkOf content previous
-    → IsMarkOf content mark → previous.lead < mark.lead → Follows content previous mark
+    → IsMarkOf content mark → previous.lead < mark.lead → Ascends content previous mark
 lead_tells content previous mark fits p m less =
-    inl (leading-tells 8 (key_at content previous) (key_at content mark) (key_fits (drop previous.place content) (IsBytes-drop previous.place content fits))
-    (key_fits (drop mark.place content) (IsBytes-drop mark.place content fits)) (omega (arith, p.first, m.first, less)))
+    leading-tells 8 (key_at content previous) (key_at content mark) (key_fits (drop previous.place content) (IsBytes-drop previous.place content fits))
+    (key_fits (drop mark.place content) (IsBytes-drop mark.place content fits)) (omega (arith, p.first, m.first, less))
 
--- Of two marks with the same first eight bytes of their keys, the one with the greater number of the next two follows the other.
+-- Of two keys whose first eight bytes are the same, the one with the greater number of the next two comes after the other.
 pub more_tells : (content : List ℕ) (previous mark : EntryMark) → IsBytes content → IsMarkOf content previous
-    → IsMarkOf content mark → previous.lead ≡ mark.lead → previous.more < mark.more → Follows content previous mark
+    → IsMarkOf content mark → previous.lead ≡ mark.lead → previous.more < mark.more → Ascends content previous mark
 more_tells content previous mark fits p m same less =
-    inl (later-tells 8 2 (key_at content previous) (key_at content mark) (key_fits (drop previous.place content) (IsBytes-drop previous.place content fits))
-    (key_fits (drop mark.place content) (IsBytes-drop mark.place content fits)) (sym p.first ∙ same ∙ m.first) (omega (arith, p.next, m.next, less)))
+    later-tells 8 2 (key_at content previous) (key_at content mark) (key_fits (drop previous.place content) (IsBytes-drop previous.place content fits))
+    (key_fits (drop mark.place content) (IsBytes-drop mark.place content fits)) (sym p.first ∙ same ∙ m.first) (omega (arith, p.next, m.next, less))
 
 -- a key has at most 255 bytes
 pub key_is_short : (bytes : List ℕ) → IsBytes bytes → length (key_in bytes) < 256
@@ -231,10 +231,10 @@ key_at_fits content mark fits = key_fits (drop mark.place content) (IsBytes-drop
 -- where the numbers are the same, a key of no more bytes than these comes before a longer one
 pub size_tells : (content : List ℕ) (previous mark : EntryMark) → IsBytes content → IsMarkOf content previous → IsMarkOf content mark
     → previous.lead ≡ mark.lead → previous.more ≡ mark.more → previous.key_size ≤ 10 → previous.key_size < mark.key_size
-    → Follows content previous mark
+    → Ascends content previous mark
 size_tells content previous mark fits p m same next short less =
-    inl (later_shorter 8 2 (key_at content previous) (key_at content mark) (key_at_fits content previous fits) (key_at_fits content mark fits)
-    (sym p.first ∙ same ∙ m.first) (sym p.next ∙ next ∙ m.next) (omega (arith, p.key_length, short)) (omega (arith, p.key_length, m.key_length, less)))
+    later_shorter 8 2 (key_at content previous) (key_at content mark) (key_at_fits content previous fits) (key_at_fits content mark fits)
+    (sym p.first ∙ same ∙ m.first) (sym p.next ∙ next ∙ m.next) (omega (arith, p.key_length, short)) (omega (arith, p.key_length, m.key_length, less))
 
 -- and two of one length are the same
 pub size_ties : (content : List ℕ) (a b : EntryMark) → IsBytes content → IsMarkOf content a → IsMarkOf content b

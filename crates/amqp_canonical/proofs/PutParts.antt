@@ -82,6 +82,19 @@ boolean_put nest t bytes is =
     → (0 < length bytes) × (canonical_of value_bytes (judge_behind nest u bytes) ≡ boolean_bytes (not (nat_eq (get_or bytes 0 0) 0))) in
     subst P (sym (is_boolean t is)) (boolean_parts nest bytes)
 
+low_truth : (bytes : List ℕ) → 0 < length bytes → get_or bytes 0 0 ≤ 1 → take 1 bytes ≡ boolean_bytes (not (nat_eq (get_or bytes 0 0) 0))
+low_truth [] some low = absurd (omega (arith, some))
+low_truth (zero ∷ bytes) some low = refl
+low_truth (suc zero ∷ bytes) some low = refl
+low_truth (suc (suc n) ∷ bytes) some low = absurd (omega (arith, low))
+
+-- After the tag of a boolean, a byte of 0 or 1 is the canonical byte of the truth value.
+pub boolean_copied : (nest : Option (Judge FieldValue)) (t : FieldTag) (bytes : List ℕ) → layout_at t ≡ layout.OneBoolean
+    → get_or bytes 0 0 ≤ 1 → IsRead (judge_behind nest t bytes) → IsCopied value_bytes bytes 1 (judge_behind nest t bytes)
+boolean_copied nest t bytes is low read =
+    let h = boolean_put nest t bytes is read in
+    record { within = omega (arith, h.0); bytes_are = low_truth bytes h.0 low ∙ sym h.1 }
+
 -- ---- arrays and tables in a value
 
 zero_or_more : (n : ℕ) → (n ≡ 0) ⊎ (0 < n)

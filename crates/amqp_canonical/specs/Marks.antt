@@ -63,10 +63,14 @@ pub record AreMarks (depth_left : ℕ) (content : List ℕ) (marks : List EntryM
 
 -- ---- marks in order
 
+-- the key comes after the previous one
+abbrev pub Ascends : List ℕ → EntryMark → EntryMark → Type 0
+Ascends content previous mark = IsBelow (key_at content previous) (key_at content mark)
+
 -- the key comes after the previous one, or is the same at a later place
 abbrev pub Follows : List ℕ → EntryMark → EntryMark → Type 0
 Follows content previous mark =
-    IsBelow (key_at content previous) (key_at content mark)
+    Ascends content previous mark
     ⊎ ((key_at content previous ≡ key_at content mark) × (previous.place < mark.place))
 
 -- what is found where there is no mark
@@ -78,6 +82,12 @@ abbrev pub AreInOrder : List ℕ → List EntryMark → Type 0
 AreInOrder content marks =
     (k : ℕ) → suc k < length marks
     → Follows content (slice_index_or marks k blank) (slice_index_or marks (suc k) blank)
+
+-- the key of each comes after that of the one before it
+abbrev pub AreAscending : List ℕ → List EntryMark → Type 0
+AreAscending content marks =
+    (k : ℕ) → suc k < length marks
+    → Ascends content (slice_index_or marks k blank) (slice_index_or marks (suc k) blank)
 
 -- the next entry has the same key
 abbrev pub ties : Entry → List Entry → Bool

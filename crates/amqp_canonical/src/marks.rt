@@ -4,8 +4,9 @@ ghost use Rattle.std.specs.Prelude.{◌≡◌, ◌≢◌, ◌≤◌, ◌<◌, �
 ghost use Rattle.std.specs.Prelude.{slice_index_or, All, IfSome, IsTrue};
 ghost use Rattle.std.specs.List.Sorted.{IsPermutation};
 ghost use Rattle.amqp_canonical.specs.Leads.{key_at};
-ghost use Rattle.amqp_canonical.specs.Marks.{AreEntries, AreInOrder, AreMarks, AreOfTable, AreRead};
-ghost use Rattle.amqp_canonical.specs.Marks.{Follows, IsMarkOf, blank, marked_entry, ties};
+ghost use Rattle.amqp_canonical.specs.Marks.{AreAscending, AreEntries, AreInOrder, AreMarks};
+ghost use Rattle.amqp_canonical.specs.Marks.{AreOfTable, AreRead, Ascends, Follows, IsMarkOf};
+ghost use Rattle.amqp_canonical.specs.Marks.{blank, marked_entry, ties};
 
 use crate::leads::first_ten;
 use crate::spans::{Span, bytes_from, entry_span, split_key};
@@ -144,26 +145,25 @@ fn sort(marks: &mut [EntryMark], content: &[u8])
     marks.sort_unstable_by(|a, b| order(content, a, b));
 }
 
-/// Whether an entry comes after the previous one, by their keys, and where those are equal, by their places.
+/// Whether the key of an entry comes after the previous one.
 #[inline(never)]
-fn key_follows(content: &[u8], previous: EntryMark, mark: EntryMark) -> bool
-    ensures { IsTrue result → Follows content.now previous mark }
+fn key_ascends(content: &[u8], previous: EntryMark, mark: EntryMark) -> bool
+    ensures { IsTrue result → Ascends content.now previous mark }
 {
     let (previous_key, _) = split_key(marked(content, previous));
     let (key, _) = split_key(marked(content, mark));
     match previous_key.cmp(key) {
         Ordering::Less => true,
-        Ordering::Equal => previous.place < mark.place,
-        Ordering::Greater => false,
+        _ => false,
     }
 }
 
-/// Whether an entry comes after the previous one, by the first bytes of their keys where these differ, and by the
-/// lengths of the keys and then their places where one has no other bytes.
+/// Whether the key of an entry comes after the previous one, by their first bytes where these differ, and by the
+/// lengths of the keys where one has no other bytes.
 #[inline(always)]
-fn follows(content: &[u8], previous: &EntryMark, mark: &EntryMark) -> bool
+fn ascends(content: &[u8], previous: &EntryMark, mark: &EntryMark) -> bool
     requires { IsMarkOf content.now previous.now × IsMarkOf content.now mark.now }
-    ensures { IsTrue result → Follows content.now previous.now mark.now }
+    ensures { IsTrue result → Ascends content.now previous.now mark.now }
 {
     if previous.lead != mark.lead {
         return previous.lead < mark.lead;
@@ -172,12 +172,70 @@ fn follows(content: &[u8], previous: &EntryMark, mark: &EntryMark) -> bool
         return previous.more < mark.more;
     }
     if previous.key_size > MARKED && mark.key_size > MARKED {
-        return key_follows(content, *previous, *mark);
+        return key_ascends(content, *previous, *mark);
     }
-    if previous.key_size != mark.key_size {
-        return previous.key_size < mark.key_size;
+    previous.key_size < mark.key_size
+}
+
+/// Whether two keys are the same.
+#[inline(never)]
+fn is_same_key(content: &[u8], mark: EntryMark, next: EntryMark) -> bool
+    ensures { IsTrue result ↔ (key_at content.now mark ≡ key_at content.now next) }
+{
+    let (key, _) = split_key(marked(content, mark));
+    let (next_key, _) = split_key(marked(content, next));
+    key == next_key
+}
+
+/// Whether two entries have the same key, by its first bytes and its length, and by the other bytes where it has some.
+#[inline(always)]
+fn is_same(content: &[u8], mark: &EntryMark, next: &EntryMark) -> bool
+    requires { IsMarkOf content.now mark.now × IsMarkOf content.now next.now }
+    ensures { IsTrue result ↔ (key_at content.now mark.now ≡ key_at content.now next.now) }
+{
+    if mark.lead != next.lead {
+        return false;
     }
-    previous.place < mark.place
+    if mark.more != next.more {
+        return false;
+    }
+    if mark.key_size != next.key_size {
+        return false;
+    }
+    if mark.key_size <= MARKED {
+        return true;
+    }
+    is_same_key(content, *mark, *next)
+}
+
+/// Whether an entry comes after the previous one, by their keys, and where those are equal, by their places.
+#[inline(always)]
+fn follows(content: &[u8], previous: &EntryMark, mark: &EntryMark) -> bool
+    requires { IsMarkOf content.now previous.now × IsMarkOf content.now mark.now }
+    ensures { IsTrue result → Follows content.now previous.now mark.now }
+{
+    if ascends(content, previous, mark) {
+        return true;
+    }
+    if previous.place >= mark.place {
+        return false;
+    }
+    is_same(content, previous, mark)
+}
+
+/// Whether the key of each mark comes after that of the one before it.
+fn are_ascending(marks: &[EntryMark], content: &[u8]) -> bool
+    requires { All (IsMarkOf content.now) marks.now }
+    ensures { IsTrue result → AreAscending content.now marks.now }
+{
+    let mut k = 1;
+    while k < marks.len() {
+        if !ascends(content, &marks[k - 1], &marks[k]) {
+            return false;
+        }
+        k += 1;
+    }
+    true
 }
 
 /// Whether each mark follows the one before it.
@@ -195,67 +253,55 @@ fn are_in_order(marks: &[EntryMark], content: &[u8]) -> bool
     true
 }
 
-/// Puts marks in order, and returns whether they are.
-fn put_in_order(marks: &mut [EntryMark], content: &[u8]) -> bool
+/// Puts marks in order, and returns whether no two have the same key. None where they are not in order.
+fn put_in_order(marks: &mut [EntryMark], content: &[u8]) -> Option<bool>
     requires { All (IsMarkOf content.now) marks.old }
     ensures permuted { IsPermutation marks.old marks.new }
-    ensures order { IsTrue result → AreInOrder content.now marks.new }
+    ensures order { IfSome result (λ apart. AreInOrder content.now marks.new) }
+    ensures apart { IfSome result (λ apart.
+        IsTrue apart → AreAscending content.now marks.new) }
 {
     sort(marks, content);
-    are_in_order(marks, content)
+    if are_ascending(marks, content) {
+        return Some(true);
+    }
+    if are_in_order(marks, content) {
+        return Some(false);
+    }
+    None
 }
 
-/// Marks the entries that fill a table in ascending key order, and returns how many there are. None where there are
-/// more than marks.
-pub(crate) fn mark_in_order(marks: &mut [EntryMark], content: &[u8]) -> Option<usize>
-    ensures within { IfSome result (λ count. count ≤ length marks.new) }
-    ensures each { IfSome result (λ count. All (IsMarkOf content.now) (take count marks.new)) }
-    ensures table { IfSome result (λ count. (depth_left : ℕ)
+/// Marks the entries that fill a table in ascending key order, and returns how many there are, and whether no two have
+/// the same key. None where there are more than marks.
+pub(crate) fn mark_in_order(marks: &mut [EntryMark], content: &[u8]) -> Option<(usize, bool)>
+    ensures within { IfSome result (λ found. found.0 ≤ length marks.new) }
+    ensures each { IfSome result (λ found. All (IsMarkOf content.now) (take found.0 marks.new)) }
+    ensures apart { IfSome result (λ found.
+        IsTrue found.1 → AreAscending content.now (take found.0 marks.new)) }
+    ensures table { IfSome result (λ found. (depth_left : ℕ)
         → AreEntries depth_left content.now
-        → AreOfTable depth_left content.now (take count marks.new)) }
+        → AreOfTable depth_left content.now (take found.0 marks.new)) }
 {
     let count = mark_entries(marks, content)?;
-    if put_in_order(&mut marks[..count], content) {
-        Some(count)
-    } else {
-        None
-    }
+    let apart = put_in_order(&mut marks[..count], content)?;
+    Some((count, apart))
 }
 
-/// Whether two keys are the same.
-#[inline(never)]
-fn is_same_key(content: &[u8], mark: EntryMark, next: EntryMark) -> bool
-    ensures { IsTrue result ↔ (key_at content.now mark ≡ key_at content.now next) }
-{
-    let (key, _) = split_key(marked(content, mark));
-    let (next_key, _) = split_key(marked(content, next));
-    key == next_key
-}
-
-/// Whether the next mark has the same key as this one.
+/// Whether the next mark has the same key as this one. None has where no two have the same key.
 #[inline(always)]
-pub(crate) fn is_tied(marks: &[EntryMark], content: &[u8], k: usize) -> bool
+pub(crate) fn is_tied(marks: &[EntryMark], content: &[u8], k: usize, apart: bool) -> bool
     requires here { k < length marks.now }
     requires each { All (IsMarkOf content.now) marks.now }
+    requires apart { IsTrue apart → AreAscending content.now marks.now }
     ensures { (depth_left : ℕ) → AreRead depth_left content.now marks.now
         → result ≡ ties (marked_entry depth_left content.now (slice_index_or marks.now k blank))
         (map (marked_entry depth_left content.now) (drop (k + 1) marks.now)) }
 {
+    if apart {
+        return false;
+    }
     if k + 1 == marks.len() {
         return false;
     }
-    let (mark, next) = (&marks[k], &marks[k + 1]);
-    if mark.lead != next.lead {
-        return false;
-    }
-    if mark.more != next.more {
-        return false;
-    }
-    if mark.key_size != next.key_size {
-        return false;
-    }
-    if mark.key_size <= MARKED {
-        return true;
-    }
-    is_same_key(content, *mark, *next)
+    is_same(content, &marks[k], &marks[k + 1])
 }

@@ -1,6 +1,7 @@
 //! Where the parts of values and entries lie, by tags and lengths alone, in bytes that were decoded.
 
-ghost use Rattle.std.specs.Prelude.{◌≡◌, ◌≤◌, ◌<◌, ◌+◌, ℕ, length, drop, IsTrue};
+ghost use Rattle.std.specs.Prelude.{◌≡◌, ◌≤◌, ◌<◌, ◌+◌, ℕ, length, drop};
+ghost use Rattle.std.specs.Prelude.{slice_index_or, IsTrue};
 ghost use Rattle.amqp_types.specs.Judging.{Judge};
 ghost use Rattle.amqp_types.specs.Strings.{judge_long_string};
 ghost use Rattle.amqp_types.specs.ValueBytes.{tagged_bytes, value_bytes};
@@ -52,6 +53,18 @@ pub(crate) fn size_in(layout: Layout, i: &[u8]) -> usize
     }
 }
 
+/// Whether a truth value is copied: its byte is 0 or 1, and the tag byte before it is written.
+#[inline(always)]
+fn is_truth_copied(written: bool, i: &[u8]) -> bool
+    ensures written { IsTrue result → IsTrue written }
+    ensures low { IsTrue result → slice_index_or i.now 0 0 ≤ 1 }
+{
+    match i {
+        [byte, ..] if *byte <= 1 => written,
+        _ => false,
+    }
+}
+
 /// What the value after a tag takes at the front, where it was decoded there.
 #[inline(always)]
 fn span_after(tag: TagByte, i: &[u8]) -> Span
@@ -77,7 +90,7 @@ fn span_after(tag: TagByte, i: &[u8]) -> Span
         },
         Layout::OneBoolean => Span {
             size: 1,
-            copied: false,
+            copied: is_truth_copied(tag.written, i),
         },
         Layout::Values | Layout::Entries => Span {
             size: long_size(i),

@@ -1,6 +1,6 @@
 //! Writing the canonical bytes of values, arrays and tables that were decoded, without memory.
 
-ghost use Rattle.std.specs.Prelude.{drop, All};
+ghost use Rattle.std.specs.Prelude.{drop, All, IsTrue};
 ghost use Rattle.amqp_types.specs.ValueJudging.{filled, nested, judge_array, judge_behind};
 ghost use Rattle.amqp_types.specs.ValueJudging.{judge_entry, judge_table, judge_value};
 ghost use Rattle.amqp_canonical.specs.Writes.{IsRead, IsFilled, HasRoomFor, PutsIfRoom};
@@ -8,7 +8,7 @@ ghost use Rattle.amqp_canonical.specs.CanonicalValues.{canonical_after_tag, cano
 ghost use Rattle.amqp_canonical.specs.CanonicalValues.{canonical_entries, canonical_entry};
 ghost use Rattle.amqp_canonical.specs.CanonicalValues.{canonical_table, canonical_value};
 ghost use Rattle.amqp_canonical.specs.CanonicalValues.{canonical_values, marked_entries};
-ghost use Rattle.amqp_canonical.specs.Marks.{AreEntries, IsMarkOf, entry_at};
+ghost use Rattle.amqp_canonical.specs.Marks.{AreAscending, AreEntries, IsMarkOf, entry_at};
 
 use crate::marks::{EntryMark, is_tied, mark_in_order};
 use crate::rooms::{Room, put_if_room, truth_byte};
@@ -147,15 +147,16 @@ pub fn put_entries<R: Room>(
     ensures { PutsIfRoom buf.old buf.new at (canonical_entries depth_left content.now) result }
 {
     match mark_in_order(scratch, content) {
-        Some(count) => {
+        Some((count, apart)) => {
             let (marks, rest) = scratch.split_at_mut(count);
-            put_marked::<R>(buf, at, rest, content, marks, depth_left)
+            put_marked::<R>(buf, at, rest, content, marks, apart, depth_left)
         }
         None => put_selected::<R>(buf, at, scratch, content, depth_left),
     }
 }
 
-/// Puts the canonical bytes of marked entries. Of duplicate keys, which are neighbours here, the last one wins.
+/// Puts the canonical bytes of marked entries. Of duplicate keys, which are neighbours here, the last one wins. Most
+/// tables have none, and their marks are `apart`.
 #[cycle(write)]
 fn put_marked<R: Room>(
     buf: &mut [u8],
@@ -163,10 +164,12 @@ fn put_marked<R: Room>(
     scratch: &mut [EntryMark],
     content: &[u8],
     marks: &[EntryMark],
+    apart: bool,
     depth_left: usize,
 ) -> usize
     requires read { All (λ mark. IsRead (entry_at depth_left content.now mark.place)) marks.now }
     requires each { All (IsMarkOf content.now) marks.now }
+    requires apart { IsTrue apart → AreAscending content.now marks.now }
     requires room { HasRoomFor R.sure buf.old at (marked_entries depth_left content.now marks.now) }
     ensures { PutsIfRoom buf.old buf.new at
         (marked_entries depth_left content.now marks.now) result }
@@ -174,7 +177,7 @@ fn put_marked<R: Room>(
     let mut end = at;
     let mut k = 0;
     while k < marks.len() {
-        if !is_tied(marks, content, k) {
+        if !is_tied(marks, content, k, apart) {
             end = put_mark::<R>(buf, end, scratch, content, &marks[k], depth_left);
         }
         k += 1;

@@ -2,7 +2,7 @@
 use Rattle.std.proofs.Common.{inl, inr, ◌∙◌, sym, arith}
 use Rattle.amqp_types.specs.ValueJudging.{nested}
 use Rattle.amqp_canonical.proofs.Sizes.{fixed_taken, used_taken, boolean_used, long_at}
-use Rattle.amqp_canonical.proofs.PutParts.{fixed_copied, counted_copied}
+use Rattle.amqp_canonical.proofs.PutParts.{fixed_copied, counted_copied, boolean_copied}
 use Rattle.amqp_canonical.proofs.spans.span_after.Goals as goal
 
 pub returns-in-Fixed-clause-used : goal.returns-in-Fixed-clause-used
@@ -29,6 +29,10 @@ returns-in-Counted-clause-copied c = λ set room t is read.
 
 pub returns-in-OneBoolean-clause-used : goal.returns-in-OneBoolean-clause-used
 returns-in-OneBoolean-clause-used c = λ room t is read. boolean_used (nested room) t c.args.i.now (is ∙ c.in-OneBoolean.is) read
+
+pub returns-in-OneBoolean-clause-copied : goal.returns-in-OneBoolean-clause-copied
+returns-in-OneBoolean-clause-copied c = λ set room t is read.
+    boolean_copied (nested room) t c.args.i.now (is ∙ c.in-OneBoolean.is) (c.is_truth_copied.ensures.low set) read
 
 pub returns-in-Values-clause-used : goal.returns-in-Values-clause-used
 returns-in-Values-clause-used c = λ room t is read.
