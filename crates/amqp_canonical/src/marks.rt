@@ -30,13 +30,16 @@ pub struct EntryMark {
     /// How many bytes the key has.
     key_size: u8,
 
-    /// How many bytes the entry takes, where they are its canonical bytes by its tag alone. Else 0, and where they are
-    /// more than 255.
+    /// How many bytes the entry takes, where they are its canonical bytes by its tag, or by its tag and its truth value.
+    /// Else 0, and where they are more than 255.
     pub(crate) size: u8,
 }
 
 /// How many bytes of a key its mark has.
 const MARKED: u8 = 10;
+
+/// So many marks take fewer comparisons by falling gaps than by the sort of slices.
+const FEW: usize = 44;
 
 impl Default for EntryMark {
     /// A mark of zeros, as a scratch is filled before it is passed.
@@ -138,8 +141,48 @@ fn order(content: &[u8], a: &EntryMark, b: &EntryMark) -> Ordering {
     a.place.cmp(&b.place)
 }
 
-/// Sorts marks. Split for the proof: nothing rests on which order that is, since it is tested after.
+/// Moves a mark down by steps of `gap` while it comes before the one there.
+#[inline(always)]
+fn move_down(marks: &mut [EntryMark], content: &[u8], gap: usize, from: usize)
+    requires { (0 < gap) × (from < length marks.old) }
+    ensures { IsPermutation marks.old marks.new }
+{
+    let mut k = from;
+    while k >= gap {
+        if order(content, &marks[k], &marks[k - gap]) != Ordering::Less {
+            return;
+        }
+        marks.swap(k, k - gap);
+        k -= gap;
+    }
+}
+
+/// Puts marks in order among those that stand steps of `gap` apart.
+fn sort_by_gap(marks: &mut [EntryMark], content: &[u8], gap: usize)
+    requires { 0 < gap }
+    ensures { IsPermutation marks.old marks.new }
+{
+    let mut k = gap;
+    while k < marks.len() {
+        move_down(marks, content, gap, k);
+        k += 1;
+    }
+}
+
+/// Sorts marks, a few by falling gaps (Shell's method). Nothing rests on which order that is, since it is tested after.
 fn sort(marks: &mut [EntryMark], content: &[u8])
+    ensures { IsPermutation marks.old marks.new }
+{
+    if marks.len() > FEW {
+        return sort_many(marks, content);
+    }
+    sort_by_gap(marks, content, 10);
+    sort_by_gap(marks, content, 3);
+    sort_by_gap(marks, content, 1);
+}
+
+/// Sorts any number of marks.
+fn sort_many(marks: &mut [EntryMark], content: &[u8])
     ensures { IsPermutation marks.old marks.new }
 {
     marks.sort_unstable_by(|a, b| order(content, a, b));

@@ -21,7 +21,7 @@ pub(crate) struct Span {
     /// How many.
     pub(crate) size: usize,
 
-    /// Whether they are its canonical bytes by its tag alone, so that they can be copied.
+    /// Whether they are its canonical bytes by its tag, or by its tag and its truth value, so that they can be copied.
     pub(crate) copied: bool,
 }
 
