@@ -1,6 +1,5 @@
 -- How filtering goes from frame to frame: what is written for a frame, and what is kept after it.
-use Rattle.std.specs.Prelude.{◌≡◌, ℕ, ◌==◌, Bool, true, false, List, Option, Some, None}
-use Rattle.std.specs.Prelude.{Result, Ok, Err, if◌then◌else◌}
+use Rattle.std.specs.Prelude.{◌≡◌, ℕ, Bool, true, false, List, Option, Result, Ok, Err}
 use Rattle.std.specs.FinMap as finite
 use Rattle.amqp_types.specs.Levels.{plain}
 use Rattle.amqp_wire.specs.declared.frame_type.AMQPFrameType.{AMQPFrameType}
@@ -18,6 +17,7 @@ use Rattle.amqp_stream.specs.Decisions.{RefusesTo}
 use Rattle.amqp_stream.specs.Steps.{Manner}
 use Rattle.amqp_in_turn.specs.declared.errors.Refusal.{Refusal}
 use Rattle.amqp_in_turn.specs.declared.errors.Refusal.TheVariants as refusals
+use Rattle.amqp_in_turn.specs.Ending.{least_channel, refused_at_end}
 use Rattle.amqp_in_turn.specs.Judging.{given}
 use Rattle.amqp_filter.specs.declared.messages.Open.{Open}
 use Rattle.amqp_filter.specs.declared.message_filter.MessageFilter.{MessageFilter}
@@ -98,7 +98,7 @@ is_method_type kinds.Heartbeat = false
 
 -- no message may be open at the end of a stream
 abbrev pub end_filtering : MessageFilter → Option Refusal
-end_filtering s = if finite.len s.messages == 0 then None else Some refusals.OpenContent
+end_filtering s = refused_at_end (least_channel s.messages)
 
 -- filtering as a manner of writing: frames are read at level plain, and a content fault, or a
 -- message that is open at the end of input, is refused

@@ -16,7 +16,8 @@ use std::alloc::Global;
 
 /// Writes the canonical bytes of the messages whose openings rules keep, and of each other frame that they keep. All
 /// others are read and decoded all the same. It goes on to the end of input, the first frame that is not in turn, or an
-/// error, and reports where that is. Each read takes one of the read budget. No body is held, of whatever size.
+/// error, and reports where that is: where the input ends inside a message, with the least channel on which one is open.
+/// Each read takes one of the read budget. No body is held, of whatever size.
 pub fn filter_reported<S: Source, K: Sink>(
     alloc: Global,
     rules: &Rules,

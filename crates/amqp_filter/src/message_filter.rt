@@ -245,10 +245,6 @@ impl<'a> FrameDecider for MessageFilter<'a> {
     }
 
     fn finish(&self) -> Result<(), Refusal> {
-        if self.messages.is_empty() {
-            Ok(())
-        } else {
-            Err(Refusal::OpenContent)
-        }
+        self.messages.finish()
     }
 }

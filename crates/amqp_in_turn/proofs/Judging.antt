@@ -64,7 +64,7 @@ module _ {S : Type 0} (w : Manner S Refusal) (level : w.level ≡ plain) (compac
     kept a x y same,
     refl,
   )
-  refused_as s raw bad (refused_by refusals.OpenContent) a x y same steps h = absurd h
+  refused_as s raw bad (refused_by (refusals.OpenContent channel)) a x y same steps h = absurd h
   refused_as s raw bad finished a x y same steps h = absurd h
   refused_as s raw bad (stopped_by (faulty worse)) a x y same steps h = (subst (λ l. IsFaulty l raw worse) (sym level) h, kept a x y same, refl)
   refused_as s raw bad (stopped_by cut_short) a x y same steps h = absurd h

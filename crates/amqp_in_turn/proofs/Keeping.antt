@@ -1,7 +1,8 @@
 -- A writer that keeps something of each channel on which a message has begun: what it keeps stands for the frames so far.
-use Rattle.std.proofs.Common.{◌≡◌, ◌≢◌, ℕ, true, false, Bool, cond, eqb, List, [], ◌∷◌, ◌++◌, refl, sym, ap, subst, ◌∙◌, inl, inr}
+use Rattle.std.proofs.Common.{◌≡◌, ◌≢◌, ℕ, true, false, Bool, cond, List, [], ◌∷◌, ◌++◌, refl, sym, ap, subst, ◌∙◌, inl, inr}
 use Rattle.std.proofs.Common.{Option, Some, None, Result, Ok, Err}
-use Rattle.std.proofs.lemmas.Bool.{cases_eq, eq-eqb, ne_eqb}
+use Rattle.std.proofs.lemmas.Bool.{cases_eq}
+use Rattle.std.specs.Prelude.{IsSome}
 use Rattle.std.specs.FinMap as finite
 use Rattle.std.specs.FinMap.{get-empty}
 use Rattle.std.specs.Ordering.{nat_cmp}
@@ -9,22 +10,21 @@ use Rattle.amqp_wire.specs.Frames.{Frame, channel_id_of}
 use Rattle.amqp_wire.specs.Outlines.{outline_of}
 use Rattle.amqp_turns.specs.declared.fault.ContentFault.{ContentFault}
 use Rattle.amqp_turns.specs.ByChannel.{ByChannel, set_at}
-use Rattle.amqp_turns.specs.InTurn.{greatest, IsOpen, NoneIsOpen, state_on}
+use Rattle.amqp_turns.specs.InTurn.{greatest, EndsBegun, NoneIsOpen, state_on}
 use Rattle.amqp_turns.specs.Units.{Begun, Nothing, IsBegun, is_content, of_channel}
 use Rattle.amqp_turns.specs.Answers.{Answer, Wrong, IsLastAnswer}
 use Rattle.amqp_turns.specs.Stands.{State, At, Lost, Stands}
 use Rattle.amqp_turns.specs.Steps.{step}
 use Rattle.amqp_turns.proofs.Running.{run_stands, stands_run, advance}
 use Rattle.amqp_turns.proofs.Apart.{of_channel-in, of_own}
-use Rattle.amqp_turns.proofs.Holding.{at_itself, at_other, get-set_at, none_held, some_held}
+use Rattle.amqp_turns.proofs.Holding.{at_itself, at_other, get-set_at, none_held}
 use Rattle.amqp_turns.proofs.Turns.{state_on-own, state_on-other, state_on-outside, begun_on}
 use Rattle.amqp_in_turn.specs.declared.errors.Refusal.{Refusal}
 use Rattle.amqp_in_turn.specs.declared.errors.Refusal.TheVariants as refusals
+use Rattle.amqp_in_turn.specs.Ending.{least_channel, refused_at_end}
+use Rattle.amqp_in_turn.specs.Reports.{IsLeastOpen}
+use Rattle.amqp_in_turn.proofs.Least.{least_kept, least_none}
 use Rattle.amqp_in_turn.proofs.Turning.{IsFresh, Stepped, takes, refuses, GoesByTurns}
-
--- why a writer may not end that keeps so many messages
-abbrev pub end_by : ℕ → Option Refusal
-end_by n = cond (eqb n 0) None (Some refusals.OpenContent)
 
 -- what a writer keeps stands for the frames so far, which are in turn; all else of it is its own
 pub record StandsFor {S H : Type 0} (messages : S → ByChannel H) (Own : S → Type 0)
@@ -49,7 +49,7 @@ pub record KeepsByTurns {S H : Type 0} (messages : S → ByChannel H) (put : S �
   pub none : (earlier : List Frame) → after earlier [] ≡ []
   pub more : (earlier : List Frame) (frame : Frame) (frames : List Frame)
       → after earlier (frame ∷ frames) ≡ given earlier frame ++ after (earlier ++ frame ∷ []) frames
-  pub ends : (s : S) → end s ≡ end_by (finite.len (messages s))
+  pub ends : (s : S) → end s ≡ refused_at_end (least_channel (messages s))
   pub puts : (s : S) (channel : ℕ) (held : Option H) → messages (put s channel held) ≡ set_at (messages s) channel held
   pub own : (s : S) (channel : ℕ) (held : Option H) → Own s → Own (put s channel held)
   pub nothing : held_of (At Nothing) ≡ None
@@ -60,30 +60,24 @@ pub record KeepsByTurns {S H : Type 0} (messages : S → ByChannel H) (put : S �
       → IsBegun outline_of greatest begun → finite.get (messages s) (channel_id_of frame) ≡ held_of (At begun)
       → is_content (outline_of frame) ≡ true → Continues steps put held_of s (given earlier frame) begun frame
 
-none_is_some : (why : Refusal) → None ≡ Some why → ⊥
-none_is_some why e = cc
-
-some_is_none : Some refusals.OpenContent ≡ None → ⊥
-some_is_none e = cc
-
-same_why : (why : Refusal) → Some refusals.OpenContent ≡ Some why → why ≡ refusals.OpenContent
-same_why why e = cc
-
 none_is_kept : {H : Type 0} (kept : H) → None ≡ Some kept → ⊥
 none_is_kept kept e = cc
 
--- whether content is open, by whether the writer may end
-end_none : (n : ℕ) → end_by n ≡ None → n ≡ 0
-end_none n e = elim (cases_eq n 0) [
-  | inl none ↦ none
-  | inr some ↦ let open_end = rw (ne_eqb n 0 some) at e in absurd (some_is_none open_end)
-]
+-- the least channel of which something is kept, by whether the writer may end
+end_none : (least : Option ℕ) → refused_at_end least ≡ None → least ≡ None
+end_none None e = refl
+end_none (Some channel) e = absurd cc
 
-end_some : (n : ℕ) (why : Refusal) → end_by n ≡ Some why → (n ≢ 0) × (why ≡ refusals.OpenContent)
-end_some n why e = elim (cases_eq n 0) [
-  | inl none ↦ let no_end = rw (eq-eqb n 0 none) at e in absurd (none_is_some why no_end)
-  | inr some ↦ let open_end = rw (ne_eqb n 0 some) at e in (some, same_why why open_end)
-]
+end_open : (least : Option ℕ) (channel : ℕ) → refused_at_end least ≡ Some (refusals.OpenContent channel) → least ≡ Some channel
+end_open None channel e = absurd cc
+end_open (Some other) channel e = ap (λ c. Some c) (same_open other channel e)
+  where
+    same_open : (other channel : ℕ) → Some (refusals.OpenContent other) ≡ Some (refusals.OpenContent channel) → other ≡ channel
+    same_open other channel e = cc
+
+end_bad : (least : Option ℕ) (bad : ContentFault) → refused_at_end least ≡ Some (refusals.BadContent bad) → ⊥
+end_bad None bad e = cc
+end_bad (Some other) bad e = cc
 
 stands_on : (frames : List Frame) (channel : ℕ) (now : State Frame) → state_on frames channel ≡ now
     → Stands outline_of greatest (of_channel outline_of channel frames) now
@@ -192,32 +186,50 @@ module _ {S H : Type 0} {messages : S → ByChannel H} {put : S → ℕ → Opti
 
   ended_none : (s : S) (frames : List Frame) → ForFrames s frames → end s ≡ None → NoneIsOpen frames
   ended_none s frames h e channel =
-      let none = end_none (finite.len (messages s)) (sym (by.ends s) ∙ e) in
+      let none = least_none (messages s) (end_none (least_channel (messages s)) (sym (by.ends s) ∙ e)) in
       stands_on frames channel (At Nothing) (nothing_at frames channel (h.in_turn channel) (sym (h.held_is channel) ∙ none_held (messages s) none channel))
 
-  ended_open : (s : S) (frames : List Frame) (why : Refusal) → ForFrames s frames → end s ≡ Some why → IsOpen frames
-  ended_open s frames why h e =
-      let found = some_held (messages s) (end_some (finite.len (messages s)) why (sym (by.ends s) ∙ e)).0 in
-      let at = begun_on frames found.0 (h.in_turn found.0) in
-      let kept : held_of (At at.begun) ≡ Some found.1 = ap held_of (sym at.is) ∙ sym (h.held_is found.0) ∙ found.2 in (
-        found.0,
-        record {
-          begun = at.begun;
-          some = λ none. absurd (none_is_kept found.1 (sym by.nothing ∙ ap (λ b. held_of (At b)) (sym none) ∙ kept));
-          stands = stands_on frames found.0 (At at.begun) at.is;
-        },
-      )
+  -- of a channel on which a message is open something is kept
+  open_kept : (s : S) (frames : List Frame) (channel : ℕ) → ForFrames s frames → EndsBegun frames channel → IsSome (held_at s channel)
+  open_kept s frames channel h begun = by_held (held_at s channel) refl
+    where
+      by_held : (held : Option H) → held_at s channel ≡ held → IsSome held
+      by_held (Some kept) e = refl
+      by_held None e =
+          let now : state_on frames channel ≡ At begun.begun =
+          sym (stands_run outline_of greatest (of_channel outline_of channel frames) (At begun.begun) begun.stands) in
+          absurd (begun.some (by.something begun.begun (ap held_of (sym now) ∙ sym (h.held_is channel) ∙ e)))
+
+  -- a message is open on a channel of which something is kept
+  kept_open : (s : S) (frames : List Frame) (channel : ℕ) (kept : H) → ForFrames s frames → held_at s channel ≡ Some kept → EndsBegun frames channel
+  kept_open s frames channel kept h e =
+      let at = begun_on frames channel (h.in_turn channel) in
+      let found : held_of (At at.begun) ≡ Some kept = ap held_of (sym at.is) ∙ sym (h.held_is channel) ∙ e in
+      record {
+        begun = at.begun;
+        some = λ none. absurd (none_is_kept kept (sym by.nothing ∙ ap (λ b. held_of (At b)) (sym none) ∙ found));
+        stands = stands_on frames channel (At at.begun) at.is;
+      }
+
+  ended_open : (s : S) (frames : List Frame) (channel : ℕ) → ForFrames s frames → end s ≡ Some (refusals.OpenContent channel) → IsLeastOpen frames channel
+  ended_open s frames channel h e =
+      let found = least_kept (messages s) channel (end_open (least_channel (messages s)) channel (sym (by.ends s) ∙ e)) in
+      record {
+        begun = kept_open s frames channel found.value h found.kept;
+        least = λ other begun. found.least other (open_kept s frames other h begun);
+      }
 
   -- where no content is open, nothing is kept
   may_end : (s : S) (frames : List Frame) → ForFrames s frames → NoneIsOpen frames → end s ≡ None
-  may_end s frames h none = elim (cases_eq (finite.len (messages s)) 0) [
-    | inl empty ↦ by.ends s ∙ ap end_by empty
-    | inr some ↦
-        let found = some_held (messages s) some in
-        let now : state_on frames found.0 ≡ At Nothing =
-        sym (stands_run outline_of greatest (of_channel outline_of found.0 frames) (At Nothing) (none found.0)) in
-        absurd (none_is_kept found.1 (sym by.nothing ∙ ap held_of (sym now) ∙ sym (h.held_is found.0) ∙ found.2))
-  ]
+  may_end s frames h none = by.ends s ∙ by_least (least_channel (messages s)) refl
+    where
+      by_least : (least : Option ℕ) → least_channel (messages s) ≡ least → refused_at_end least ≡ None
+      by_least None e = refl
+      by_least (Some channel) e =
+          let found = least_kept (messages s) channel e in
+          let now : state_on frames channel ≡ At Nothing =
+          sym (stands_run outline_of greatest (of_channel outline_of channel frames) (At Nothing) (none channel)) in
+          absurd (none_is_kept found.value (sym by.nothing ∙ ap held_of (sym now) ∙ sym (h.held_is channel) ∙ found.kept))
 
   -- ---- all of it
 
@@ -228,7 +240,7 @@ module _ {S H : Type 0} {messages : S → ByChannel H} {put : S → ℕ → Opti
     more = by.more;
     steps = λ s earlier frame h. step_by s earlier frame (is_content (outline_of frame)) h refl;
     in_turn = λ s earlier h. h.in_turn;
-    only_open = λ s why e. (end_some (finite.len (messages s)) why (sym (by.ends s) ∙ e)).1;
+    only_open = λ s bad e. end_bad (least_channel (messages s)) bad (sym (by.ends s) ∙ e);
     ends_none = ended_none;
     ends_open = ended_open;
     may_end = may_end;

@@ -22,24 +22,31 @@ use Rattle.amqp_stream.specs.Steps.{Manner}
 use Rattle.amqp_stream.specs.Transcribing.{IsSequence}
 use Rattle.amqp_stream.specs.Streaming.{stopped_by, error_ending, refused_of, state_of}
 use Rattle.amqp_stream.specs.Resuming.{IsRefusedThere}
-use Rattle.amqp_stream.specs.Reports.{IsRestBy, IsReportBy, IsAtStart, WriterReport, NeverRanReport, NeverBeganReport, unreported}
+use Rattle.amqp_stream.specs.Reports.{channel_in, IsRestBy, IsReportBy, IsAtStart, WriterReport, NeverRanReport, NeverBeganReport, unreported}
 use Rattle.amqp_in_turn.specs.declared.errors.TurnError.{TurnError}
 use Rattle.amqp_in_turn.specs.declared.errors.TurnError.TheVariants as errors
 use Rattle.amqp_in_turn.specs.declared.errors.Refusal.{Refusal}
 use Rattle.amqp_in_turn.specs.declared.errors.Refusal.TheVariants as refusals
 use Rattle.amqp_in_turn.specs.Errors.{turn_error, as_turned}
 use Rattle.amqp_in_turn.specs.Turning.{frames_at, TurnRun}
-use Rattle.amqp_in_turn.specs.Reports.{IsRestOf, IsRestInTurn, IsTurnReport, TurnReport, as_turned_report}
-use Rattle.amqp_in_turn.proofs.Turning.{plainly, Stepped, takes, refuses, GoesByTurns, bad_is_not_open, whole_by, ran_all, whole_in_turn, turn_run}
+use Rattle.amqp_in_turn.specs.Reports.{IsRestOf, IsRestInTurn, next_channel, IsTurnReport, named_channel, TurnReport, as_turned_report}
+use Rattle.amqp_in_turn.proofs.Turning.{plainly, Stepped, takes, refuses, GoesByTurns, whole_by, ran_all, whole_in_turn, turn_run}
 
 -- A run returns the same errors with its report as without it.
 pub unreported_turned : (r : Result (Unit {0}) (RunReport (RunError Refusal))) → unreported (as_turned_report r) ≡ as_turned (unreported r)
 unreported_turned (Ok done) = refl
 unreported_turned (Err report) = refl
 
-started : (r : Result (Unit {0}) (RunReport (RunError Refusal))) → IfErr r IsAtStart → IfErr (as_turned_report r) IsAtStart
-started (Ok done) h = tt
-started (Err report) h = record { place_is = h.place_is; no_channel = h.no_channel }
+-- where memory ran out before anything was read
+started : (r : Result (Unit {0}) (RunReport (RunError Refusal))) → unreported r ≡ Err (runs_end.Stream streams.NoMemory)
+    → IfErr r IsAtStart → IfErr (as_turned_report r) IsAtStart
+started (Ok done) e h = tt
+started (Err report) e h = record {
+  place_is = h.place_is;
+  no_channel =
+      let is : report.error ≡ runs_end.Stream streams.NoMemory = cc in
+      ap (λ error. named_channel error report.channel) is ∙ h.no_channel;
+}
 
 -- the frames of a sequence come before those of what follows it
 sequence_then : (m : ℕ) (sequence rest : List ℕ) → IsSequence plain m sequence → frames_at m (sequence ++ rest) ≡ frames_at m sequence ++ frames_at m rest
@@ -86,8 +93,9 @@ module _ {S : Type 0} {step : S → Frame → Result (List ℕ × S) Refusal} {e
                 same last;
           }
 
-  never_refused_open : (m : ℕ) (rest : List ℕ) (t : S) (earlier : List Frame) → StandsFor t earlier → IsRefusedThere w t m rest refusals.OpenContent → ⊥
-  never_refused_open m rest t earlier h there = by_step (by.steps t earlier there.frame h)
+  never_refused_open : (m : ℕ) (rest : List ℕ) (t : S) (earlier : List Frame) (channel : ℕ) → StandsFor t earlier
+      → IsRefusedThere w t m rest (refusals.OpenContent channel) → ⊥
+  never_refused_open m rest t earlier channel h there = by_step (by.steps t earlier there.frame h)
     where
       by_step : Stepped step StandsFor given t earlier there.frame → ⊥
       by_step (takes u e g) = absurd (let other = sym e ∙ there.refuses in cc)
@@ -101,18 +109,31 @@ module _ {S : Type 0} {step : S → Frame → Result (List ℕ × S) Refusal} {e
   rest_of t m taken rest budget_spent h = h
   rest_of t m taken rest read_failed h = h
 
-  rest_in_turn : (s : S) (m : ℕ) (taken sequence rest : List ℕ) (error : RunError Refusal) → StandsFor s []
+  rest_in_turn : (s : S) (m : ℕ) (taken sequence rest : List ℕ) (error : RunError Refusal) (next : Option ℕ) → StandsFor s []
       → taken ≡ sequence ++ rest → IsSequence plain m sequence → refused_of w s m sequence ≡ None
-      → IsRestBy w (state_of w s m sequence) m taken rest (error_ending error) → IsRestInTurn wants m taken sequence rest (turn_error error)
-  rest_in_turn s m taken sequence rest (runs_end.Stream error) new parts is none h = rest_of (state_of w s m sequence) m taken rest (cause_of error) h
-  rest_in_turn s m taken sequence rest (runs_end.Refused (refusals.BadContent fault)) new parts is none (inl there) =
+      → IsRestBy w (state_of w s m sequence) m taken rest (error_ending error)
+      → IsRestInTurn wants m taken sequence rest (named_channel error next) (turn_error error)
+  rest_in_turn s m taken sequence rest (runs_end.Stream error) next new parts is none h =
+      rest_of (state_of w s m sequence) m taken rest (cause_of error) h
+  rest_in_turn s m taken sequence rest (runs_end.Refused (refusals.BadContent fault)) next new parts is none (inl there) =
       subst (λ (xs : List ℕ). IsNextFault (frames_at m xs) (frames_at m sequence) fault) (sym parts)
       (next_refused m sequence rest (state_of w s m sequence) fault is (stands_after s m sequence new none) there)
-  rest_in_turn s m taken sequence rest (runs_end.Refused (refusals.BadContent fault)) new parts is none (inr h) =
-      absurd (bad_is_not_open fault (by.only_open _ (refusals.BadContent fault) h.1))
-  rest_in_turn s m taken sequence rest (runs_end.Refused refusals.OpenContent) new parts is none (inl there) =
-      absurd (never_refused_open m rest (state_of w s m sequence) (frames_at m sequence) (stands_after s m sequence new none) there)
-  rest_in_turn s m taken sequence rest (runs_end.Refused refusals.OpenContent) new parts is none (inr h) = h.0
+  rest_in_turn s m taken sequence rest (runs_end.Refused (refusals.BadContent fault)) next new parts is none (inr h) = absurd (by.only_open _ fault h.1)
+  rest_in_turn s m taken sequence rest (runs_end.Refused (refusals.OpenContent channel)) next new parts is none (inl there) =
+      absurd (never_refused_open m rest (state_of w s m sequence) (frames_at m sequence) channel (stands_after s m sequence new none) there)
+  rest_in_turn s m taken sequence rest (runs_end.Refused (refusals.OpenContent channel)) next new parts is none (inr h) =
+      (h.0, by.ends_open (state_of w s m sequence) (frames_at m sequence) channel (stands_after s m sequence new none) h.1)
+
+  -- the channel of the next frame; at the end of input there is none
+  next_named : (s : S) (m : ℕ) (taken sequence rest : List ℕ) (error : RunError Refusal) (next : Option ℕ) → StandsFor s []
+      → refused_of w s m sequence ≡ None → IsRestBy w (state_of w s m sequence) m taken rest (error_ending error)
+      → next ≡ channel_in rest → next_channel (turn_error error) (named_channel error next) ≡ channel_in rest
+  unfolding channel_in
+  next_named s m taken sequence rest (runs_end.Stream error) next new none h is = is
+  next_named s m taken sequence rest (runs_end.Refused (refusals.BadContent fault)) next new none h is = is
+  next_named s m taken sequence rest (runs_end.Refused (refusals.OpenContent channel)) next new none (inl there) is =
+      absurd (never_refused_open m rest (state_of w s m sequence) (frames_at m sequence) channel (stands_after s m sequence new none) there)
+  next_named s m taken sequence rest (runs_end.Refused (refusals.OpenContent channel)) next new none (inr h) is = ap channel_in (sym h.0)
 
   reports_in_turn : (s : S) (m : ℕ) (a b : Supply) (r : Result (Unit {0}) (RunReport (RunError Refusal)))
       → StandsFor s [] → IfErr r (IsReportBy w s m a b) → IfErr (as_turned_report r) (IsTurnReport wants m a b)
@@ -128,10 +149,10 @@ module _ {S : Type 0} {step : S → Frame → Result (List ℕ × S) Refusal} {e
     few = h.few;
     there = (
       (whole_in_turn wants compact by s m h.sequence new h.there.0).in_turn,
-      rest_in_turn s m h.taken h.sequence h.rest report.error new h.parts h.is_sequence h.there.0 h.there.1,
+      rest_in_turn s m h.taken h.sequence h.rest report.error report.channel new h.parts h.is_sequence h.there.0 h.there.1,
     );
     place_is = h.place_is;
-    channel_is = h.channel_is;
+    channel_is = next_named s m h.taken h.sequence h.rest report.error report.channel new h.there.0 h.there.1 h.channel_is;
   }
 
   -- a call that ran, or never began, with its report
@@ -156,5 +177,5 @@ module _ {S : Type 0} {step : S → Frame → Result (List ℕ × S) Refusal} {e
   reported_run s t r new (inr h) =
       inr (
         record { no_memory = unreported_turned r ∙ ap as_turned h.0.0.no_memory; source_stays = h.0.0.source_stays; sink_stays = h.0.0.sink_stays },
-        started r h.1,
+        started r h.0.0.no_memory h.1,
       )

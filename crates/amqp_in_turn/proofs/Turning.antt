@@ -35,6 +35,7 @@ use Rattle.amqp_in_turn.specs.declared.errors.TurnError.TheVariants as errors
 use Rattle.amqp_in_turn.specs.declared.errors.Refusal.{Refusal}
 use Rattle.amqp_in_turn.specs.declared.errors.Refusal.TheVariants as refusals
 use Rattle.amqp_in_turn.specs.Errors.{as_turned}
+use Rattle.amqp_in_turn.specs.Reports.{IsLeastOpen}
 use Rattle.amqp_turns.specs.InTurn.{greatest, AreInTurn, IsLongestInTurn, IsNextFault, IsOpen, NoneIsOpen, state_on}
 use Rattle.amqp_in_turn.specs.Turning.{frames_at, AtWanted, IsAllInTurn, HasCauseInTurn, HasWrittenInTurn, GoesInTurn, IsAnsweredTo, IsExactlyInTurn}
 use Rattle.amqp_in_turn.specs.Turning.{UnlessStoppedInTurn, GoesExactly, IsComplete, IsOkOrNoMemory, TurnRun}
@@ -68,10 +69,15 @@ pub record GoesByTurns {S : Type 0} (step : S → Frame → Result (List ℕ × 
       → after earlier (frame ∷ frames) ≡ given earlier frame ++ after (earlier ++ frame ∷ []) frames
   pub steps : (s : S) (earlier : List Frame) (frame : Frame) → StandsFor s earlier → Stepped step StandsFor given s earlier frame
   pub in_turn : (s : S) (earlier : List Frame) → StandsFor s earlier → (channel : ℕ) → state_on earlier channel ≢ Lost
-  pub only_open : (s : S) (why : Refusal) → end s ≡ Some why → why ≡ refusals.OpenContent
+  pub only_open : (s : S) (bad : ContentFault) → end s ≡ Some (refusals.BadContent bad) → ⊥
   pub ends_none : (s : S) (frames : List Frame) → StandsFor s frames → end s ≡ None → NoneIsOpen frames
-  pub ends_open : (s : S) (frames : List Frame) (why : Refusal) → StandsFor s frames → end s ≡ Some why → IsOpen frames
+  pub ends_open : (s : S) (frames : List Frame) (channel : ℕ) → StandsFor s frames
+      → end s ≡ Some (refusals.OpenContent channel) → IsLeastOpen frames channel
   pub may_end : (s : S) (frames : List Frame) → StandsFor s frames → NoneIsOpen frames → end s ≡ None
+
+-- where a message is open on a channel, one is open
+is_open : (frames : List Frame) (channel : ℕ) → IsLeastOpen frames channel → IsOpen frames
+is_open frames channel h = (channel, h.begun)
 
 -- ---- frames one after another
 
@@ -114,12 +120,8 @@ none_is_some why e = cc
 bad_is_none : (bad : ContentFault) → Some (refusals.BadContent bad) ≡ None → ⊥
 bad_is_none bad e = cc
 
-bad_is_open : (bad : ContentFault) → Some (refusals.BadContent bad) ≡ Some refusals.OpenContent → ⊥
-bad_is_open bad e = cc
-
--- A fault of content is no message that is open at the end.
-pub bad_is_not_open : (bad : ContentFault) → refusals.BadContent bad ≡ refusals.OpenContent → ⊥
-bad_is_not_open bad e = cc
+bad_is_open : (bad : ContentFault) (channel : ℕ) → Some (refusals.BadContent bad) ≡ Some (refusals.OpenContent channel) → ⊥
+bad_is_open bad channel e = cc
 
 same_bad : (worse bad : ContentFault) → Some (refusals.BadContent worse) ≡ Some (refusals.BadContent bad) → worse ≡ bad
 same_bad worse bad e = cc
@@ -128,33 +130,33 @@ same_bad worse bad e = cc
 abbrev turned_ending : Ending Refusal → Result (Unit {0}) TurnError
 turned_ending finished = Ok tt
 turned_ending (refused_by (refusals.BadContent bad)) = Err (errors.BadContent bad)
-turned_ending (refused_by refusals.OpenContent) = Err errors.OpenContent
+turned_ending (refused_by (refusals.OpenContent channel)) = Err errors.OpenContent
 turned_ending (stopped_by cause) = Err (errors.Stream (error_by cause))
 
 back : (r : Result (Unit {0}) (RunError Refusal)) → as_turned r ≡ turned_ending (ending_of r)
 back (Ok done) = refl
 back (Err (runs_end.Stream error)) = ap (λ e. Err (errors.Stream e)) (sym (error_by-cause error))
 back (Err (runs_end.Refused (refusals.BadContent bad))) = refl
-back (Err (runs_end.Refused refusals.OpenContent)) = refl
+back (Err (runs_end.Refused (refusals.OpenContent channel))) = refl
 
 unless_turned : {P Q : Type 0} (r : Result (Unit {0}) (RunError Refusal)) → (P → Q) → UnlessStoppedBy (ending_of r) P → UnlessStoppedInTurn (as_turned r) Q
 unless_turned (Ok done) g h = g h
 unless_turned (Err (runs_end.Stream error)) g h = unless (cause_of error) g h
 unless_turned (Err (runs_end.Refused (refusals.BadContent bad))) g h = g h
-unless_turned (Err (runs_end.Refused refusals.OpenContent)) g h = g h
+unless_turned (Err (runs_end.Refused (refusals.OpenContent channel))) g h = g h
 
 turns_by : (r : Result (Unit {0}) (RunError Refusal)) (error : StreamError)
     → as_turned r ≡ Err (errors.Stream error) → ending_of r ≡ stopped_by (cause_of error)
 turns_by (Ok done) error e = absurd cc
 turns_by (Err (runs_end.Stream other)) error e = let same : other ≡ error = cc in ap (λ x. stopped_by (cause_of x)) same
 turns_by (Err (runs_end.Refused (refusals.BadContent bad))) error e = absurd cc
-turns_by (Err (runs_end.Refused refusals.OpenContent)) error e = absurd cc
+turns_by (Err (runs_end.Refused (refusals.OpenContent channel))) error e = absurd cc
 
 done_or_memory : (r : Result (Unit {0}) (RunError Refusal)) → IsDoneOrWanting (ending_of r) → IsOkOrNoMemory (as_turned r)
 done_or_memory (Ok done) h = tt
 done_or_memory (Err (runs_end.Stream error)) h = h
 done_or_memory (Err (runs_end.Refused (refusals.BadContent bad))) h = absurd h
-done_or_memory (Err (runs_end.Refused refusals.OpenContent)) h = absurd h
+done_or_memory (Err (runs_end.Refused (refusals.OpenContent channel))) h = absurd h
 
 -- ---- where the frames end
 
@@ -175,9 +177,9 @@ next_by frames front rest why bad parts (fault next more worse is e lost last ne
       (same_bad worse bad (sym e ∙ h)) last;
 }
 
-never_open : (front rest : List Frame) (why : Option Refusal) → Ends [] front rest why → why ≡ Some refusals.OpenContent → ⊥
-never_open front rest why (all none e) h = none_is_some refusals.OpenContent (sym e ∙ h)
-never_open front rest why (fault next more bad is e lost last news) h = bad_is_open bad (sym e ∙ h)
+never_open : (front rest : List Frame) (why : Option Refusal) (channel : ℕ) → Ends [] front rest why → why ≡ Some (refusals.OpenContent channel) → ⊥
+never_open front rest why channel (all none e) h = none_is_some (refusals.OpenContent channel) (sym e ∙ h)
+never_open front rest why channel (fault next more bad is e lost last news) h = bad_is_open bad channel (sym e ∙ h)
 
 -- ---- sizes
 
@@ -334,7 +336,7 @@ module _ {S : Type 0} {step : S → Frame → Result (List ℕ × S) Refusal} {e
   writes_by s m taken written text_is (Ok done) h e = h.text_is ∙ e
   writes_by s m taken written text_is (Err (runs_end.Stream error)) h e = written_unless w s m taken text_is written (cause_of error) e h
   writes_by s m taken written text_is (Err (runs_end.Refused (refusals.BadContent bad))) h e = h ∙ e
-  writes_by s m taken written text_is (Err (runs_end.Refused refusals.OpenContent)) h e = h ∙ e
+  writes_by s m taken written text_is (Err (runs_end.Refused (refusals.OpenContent channel))) h e = h ∙ e
 
   in_turn_by : (s : S) (m : ℕ) (taken written : List ℕ) (frames : List Frame) (cause : Cause) → HasWrittenBy w s m taken written (stopped_by cause)
       → (refused_of w s m taken ≡ None → frames ≡ frames_at m taken) → IsAllInTurn (frames_at m taken) frames cause
@@ -374,14 +376,14 @@ module _ {S : Type 0} {step : S → Frame → Result (List ℕ × S) Refusal} {e
   cause_by s m budget taken written a b k l (Err (runs_end.Refused (refusals.BadContent bad))) new ran wrote (inl is) =
       next_by (frames_at m taken) ran.front ran.rest (refused_of w s m taken) bad ran.parts ran.ends is
   cause_by s m budget taken written a b k l (Err (runs_end.Refused (refusals.BadContent bad))) new ran wrote (inr h) =
-      absurd (bad_is_not_open bad (by.only_open _ (refusals.BadContent bad) h.ends))
-  cause_by s m budget taken written a b k l (Err (runs_end.Refused refusals.OpenContent)) new ran wrote (inl is) =
-      absurd (never_open ran.front ran.rest (refused_of w s m taken) ran.ends is)
-  cause_by s m budget taken written a b k l (Err (runs_end.Refused refusals.OpenContent)) new ran wrote (inr h) = (
+      absurd (by.only_open _ bad h.ends)
+  cause_by s m budget taken written a b k l (Err (runs_end.Refused (refusals.OpenContent channel))) new ran wrote (inl is) =
+      absurd (never_open ran.front ran.rest (refused_of w s m taken) channel ran.ends is)
+  cause_by s m budget taken written a b k l (Err (runs_end.Refused (refusals.OpenContent channel))) new ran wrote (inr h) = (
     h.sequence,
     h.empty,
     whole_by (frames_at m taken) ran.front ran.rest (refused_of w s m taken) ran.parts ran.ends h.none_refused,
-    by.ends_open (state_of w s m taken) ran.front refusals.OpenContent ran.stands h.ends,
+    is_open ran.front channel (by.ends_open (state_of w s m taken) ran.front channel ran.stands h.ends),
   )
 
   goes : (s t : S) (m budget : ℕ) (a b : Supply) (k l : Store) (r : Result (Unit {0}) (RunError Refusal)) → StandsFor s []
@@ -439,7 +441,7 @@ module _ {S : Type 0} {step : S → Frame → Result (List ℕ × S) Refusal} {e
           let sequence = front-is_sequence plain (Some m) run.taken run.are_bytes in
           fresh_by (frames_at m run.taken) ran.front ran.rest (refused_of w s m run.taken) bad ran.parts
           (sequence_fits (Some m) sequence.used (frames_at m run.taken) sequence.sequence) ran.ends is
-      by_cause (inr h) = absurd (bad_is_not_open bad (by.only_open _ (refusals.BadContent bad) h.ends))
+      by_cause (inr h) = absurd (by.only_open _ bad h.ends)
 
   -- A fault of content that ends the run of a new writer is neither a body above the limit nor a fault that came before.
   pub fresh : {A K : Type 0} {s t : S} {supply : A → Supply} {store : K → Store} {m budget : ℕ}
@@ -448,7 +450,7 @@ module _ {S : Type 0} {step : S → Frame → Result (List ℕ × S) Refusal} {e
       → as_turned r ≡ Err (errors.BadContent bad) → (bad ≢ faults.BodyTooLarge) × (bad ≢ faults.Faulted)
   fresh (Ok done) bad new h e = absurd cc
   fresh (Err (runs_end.Stream error)) bad new h e = absurd cc
-  fresh (Err (runs_end.Refused refusals.OpenContent)) bad new h e = absurd cc
+  fresh (Err (runs_end.Refused (refusals.OpenContent channel))) bad new h e = absurd cc
   fresh {s = s} {t = t} {supply = supply} {store = store} {m = m} {budget = budget} {source = source} {source' = source'}
       {sink = sink} {sink' = sink'} (Err (runs_end.Refused (refusals.BadContent worse))) bad new (inl run) e =
       let same : worse ≡ bad = cc in
@@ -463,9 +465,9 @@ module _ {S : Type 0} {step : S → Frame → Result (List ℕ × S) Refusal} {e
       → StandsFor t front → IsAnsweredTo m bytes front (turned_ending (answer_at_end last answer))
   answered_end m bytes front t None (Ok done) e is whole h = (whole, is, by.ends_none t front h e)
   answered_end m bytes front t None (Err error) e is whole h = (whole, is ∙ ap (λ x. Err x) (sym (error_by-cause error)))
-  answered_end m bytes front t (Some why) (Ok done) e is whole h =
-      let open_is = by.only_open t why e in
-      subst (λ (w : Refusal). IsAnsweredTo m bytes front (turned_ending (refused_by w))) (sym open_is) (whole, is, by.ends_open t front why h e)
+  answered_end m bytes front t (Some (refusals.BadContent bad)) (Ok done) e is whole h = absurd (by.only_open t bad e)
+  answered_end m bytes front t (Some (refusals.OpenContent channel)) (Ok done) e is whole h =
+      (whole, is, is_open front channel (by.ends_open t front channel h e))
   answered_end m bytes front t (Some why) (Err error) e is whole h = (whole, is ∙ ap (λ x. Err x) (sym (error_by-cause error)))
 
   answered : (m : ℕ) (bytes : List ℕ) (front rest : List Frame) (t : S) (why : Option Refusal) → Ends [] front rest why → frames_at m bytes ≡ front ++ rest
@@ -474,7 +476,8 @@ module _ {S : Type 0} {step : S → Frame → Result (List ℕ × S) Refusal} {e
       answered_end m bytes front t (end t) (answer_to plain m bytes) refl refl (whole_by (frames_at m bytes) front rest None parts ends refl) h
   answered m bytes front rest t (Some (refusals.BadContent bad)) ends parts h =
       next_by (frames_at m bytes) front rest (Some (refusals.BadContent bad)) bad parts ends refl
-  answered m bytes front rest t (Some refusals.OpenContent) ends parts h = absurd (never_open front rest (Some refusals.OpenContent) ends refl)
+  answered m bytes front rest t (Some (refusals.OpenContent channel)) ends parts h =
+      absurd (never_open front rest (Some (refusals.OpenContent channel)) channel ends refl)
 
   exactly : (s : S) (m : ℕ) (bytes written : List ℕ) (r : Result (Unit {0}) (RunError Refusal)) → StandsFor s []
       → IsExactRun w s m bytes written (ending_of r) → IsExactlyInTurn (after []) m bytes written (as_turned r)

@@ -23,7 +23,7 @@ turn_error_status errors.OpenContent = 25
 -- the refusal of a frame, or of the end of input, as one of these
 abbrev pub refusal_error : Refusal → TurnError
 refusal_error (refusals.BadContent fault) = errors.BadContent fault
-refusal_error refusals.OpenContent = errors.OpenContent
+refusal_error (refusals.OpenContent channel) = errors.OpenContent
 
 -- the error of a run, as one of these
 abbrev pub turn_error : RunError Refusal → TurnError

@@ -36,7 +36,7 @@ JudgesKept kept raw (Err error) = IsFaultyBy raw (cause_of error)
 abbrev pub RefusesFrame : Raw → ContentFault → Ending Refusal → Type 0
 RefusesFrame raw fault (refused_by (refusals.BadContent bad)) =
     (frame : Frame) × (whole raw ≡ Ok frame) × (bad ≡ fault)
-RefusesFrame raw fault (refused_by refusals.OpenContent) = ⊥
+RefusesFrame raw fault (refused_by (refusals.OpenContent channel)) = ⊥
 RefusesFrame raw fault (stopped_by (faulty bad)) = IsFaulty plain raw bad
 RefusesFrame raw fault (stopped_by cause) = ⊥
 RefusesFrame raw fault finished = ⊥

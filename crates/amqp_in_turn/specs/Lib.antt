@@ -4,4 +4,5 @@ pub mod Errors
 pub mod Turning
 pub mod Reports
 pub mod Judging
+pub mod Ending
 pub mod Lent

@@ -2,10 +2,11 @@
 
 ghost use Rattle.std.specs.Prelude.{◌≡◌};
 ghost use Rattle.amqp_in_turn.specs.Errors.{as_turned};
-ghost use Rattle.amqp_in_turn.specs.Reports.{as_turned_report};
+ghost use Rattle.amqp_in_turn.specs.Reports.{as_turned_report, named_channel};
 
 use amqp_stream::{RunError, RunReport, StreamError};
 use amqp_turns::ContentFault;
+use amqp_types::ChannelId;
 use std::error::Error;
 use std::fmt;
 
@@ -18,7 +19,7 @@ pub enum TurnError {
     /// The next frame is not in turn on its channel. All frames before it are written.
     BadContent(ContentFault),
 
-    /// The input ended between two frames, inside a message.
+    /// The input ended between two frames, inside a message. A report names the least channel on which one is open.
     OpenContent,
 }
 
@@ -68,8 +69,8 @@ pub enum Refusal {
     /// The frame is not in turn on its channel.
     BadContent(ContentFault),
 
-    /// The input ends inside a message.
-    OpenContent,
+    /// The input ends inside a message: the least channel on which one is open.
+    OpenContent(ChannelId),
 }
 
 impl From<StreamError> for TurnError {
@@ -93,7 +94,7 @@ impl From<RunError<Refusal>> for TurnError {
         match error {
             RunError::Stream(error) => TurnError::Stream(error),
             RunError::Refused(Refusal::BadContent(fault)) => TurnError::BadContent(fault),
-            RunError::Refused(Refusal::OpenContent) => TurnError::OpenContent,
+            RunError::Refused(Refusal::OpenContent(_)) => TurnError::OpenContent,
         }
     }
 }
@@ -108,6 +109,17 @@ pub fn as_turned(answer: Result<(), RunError<Refusal>>) -> Result<(), TurnError>
     }
 }
 
+/// The channel that a report names: of the frame that comes next, or of a message that is open at the end of input.
+fn named_channel(error: &RunError<Refusal>, next: Option<ChannelId>) -> Option<ChannelId>
+    ensures { result ≡ named_channel error.now next }
+{
+    match error {
+        RunError::Refused(Refusal::OpenContent(channel_id)) => Some(*channel_id),
+        RunError::Refused(Refusal::BadContent(_)) => next,
+        RunError::Stream(_) => next,
+    }
+}
+
 /// What a run returns and reports, with its error as one of these.
 pub fn as_turned_report(
     answer: Result<(), RunReport<RunError<Refusal>>>,
@@ -116,10 +128,13 @@ pub fn as_turned_report(
 {
     match answer {
         Ok(()) => Ok(()),
-        Err(report) => Err(RunReport {
-            error: TurnError::from(report.error),
-            place: report.place,
-            channel: report.channel,
-        }),
+        Err(report) => {
+            let channel = named_channel(&report.error, report.channel);
+            Err(RunReport {
+                error: TurnError::from(report.error),
+                place: report.place,
+                channel,
+            })
+        }
     }
 }

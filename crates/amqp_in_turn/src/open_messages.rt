@@ -5,8 +5,11 @@ ghost use Rattle.std.specs.Option.{option_copied, option_copied_mut};
 ghost use Rattle.std.specs.Borrow.{sem};
 ghost use Rattle.std.specs.FinMap as finite;
 ghost use Rattle.amqp_turns.specs.ByChannel.{set_at};
+ghost use Rattle.amqp_stream.specs.Streaming.{end_result};
+ghost use Rattle.amqp_in_turn.specs.Ending.{least_channel, refused_at_end};
 ghost use Rattle.amqp_in_turn.specs.Lent.{lends_held};
 
+use crate::errors::Refusal;
 use amqp_turns::Channels;
 use amqp_types::{ChannelId, NoMemory};
 use std::alloc::Global;
@@ -50,6 +53,16 @@ impl<T: Drop> OpenMessages<T> {
         ensures { result ≡ (finite.len self.now == 0) }
     {
         self.empty
+    }
+
+    /// The end of input, where no message may be open.
+    pub fn finish(&self) -> Result<(), Refusal>
+        ensures { result ≡ end_result (refused_at_end (least_channel self.now)) }
+    {
+        match self.channels.least() {
+            None => Ok(()),
+            Some(channel_id) => Err(Refusal::OpenContent(channel_id)),
+        }
     }
 
     /// What is kept of a channel.

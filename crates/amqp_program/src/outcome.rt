@@ -56,7 +56,8 @@ pub fn whole(index: usize, expected: Expected) -> ArgumentFault
 #[derive(Clone, Copy, Debug)]
 pub enum Place {
     /// In the input, after so many bytes of whole frames, and on the channel of the frame that begins there. A protocol
-    /// header has none, nor has a frame whose header was not read.
+    /// header has none, nor has a frame whose header was not read. Where the input ends inside a message, it is the least
+    /// channel on which one is open.
     Input {
         /// How many bytes these frames have, as they came.
         at: u64,

@@ -1,6 +1,6 @@
 -- How recutting goes from frame to frame: what is written for a frame, and what is kept after it.
-use Rattle.std.specs.Prelude.{ℕ, ◌==◌, Bool, true, false, List, [], ◌++◌, Option, Some, None}
-use Rattle.std.specs.Prelude.{Result, Ok, Err, if◌then◌else◌}
+use Rattle.std.specs.Prelude.{ℕ, ◌==◌, Bool, true, false, List, [], ◌++◌, Option}
+use Rattle.std.specs.Prelude.{Result, Ok, Err}
 use Rattle.std.specs.FinMap as finite
 use Rattle.amqp_types.specs.Levels.{plain}
 use Rattle.amqp_wire.specs.declared.frame_type.AMQPFrameType.{AMQPFrameType}
@@ -16,6 +16,7 @@ use Rattle.amqp_turns.specs.Steps.{mark_after, progress_after}
 use Rattle.amqp_stream.specs.Steps.{Manner}
 use Rattle.amqp_in_turn.specs.declared.errors.Refusal.{Refusal}
 use Rattle.amqp_in_turn.specs.declared.errors.Refusal.TheVariants as refusals
+use Rattle.amqp_in_turn.specs.Ending.{least_channel, refused_at_end}
 use Rattle.amqp_recut.specs.declared.recutter.Recutter.{Recutter}
 use Rattle.amqp_turns.specs.InTurn.{greatest}
 use Rattle.amqp_recut.specs.Held.{Held, progress_in, kept_in, held_with, set_at}
@@ -93,7 +94,7 @@ is_content_type kinds.Heartbeat = false
 
 -- nothing may be kept at the end of a stream
 abbrev pub end_recutting : Recutter → Option Refusal
-end_recutting s = if finite.len s.messages == 0 then None else Some refusals.OpenContent
+end_recutting s = refused_at_end (least_channel s.messages)
 
 -- recutting as a manner of writing: frames are read at level plain, and a content fault, or content
 -- that is open at the end of input, is refused

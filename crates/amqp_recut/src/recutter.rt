@@ -445,10 +445,6 @@ impl FrameWriter for Recutter {
     }
 
     fn finish(&self) -> Result<(), Refusal> {
-        if self.messages.is_empty() {
-            Ok(())
-        } else {
-            Err(Refusal::OpenContent)
-        }
+        self.messages.finish()
     }
 }

@@ -14,8 +14,8 @@ use std::alloc::Global;
 
 /// Writes the canonical bytes of a stream's frames, with the bodies of messages cut into body frames of `size` bytes,
 /// the last of a message shorter. It goes on to the end of input, the first frame that is not in turn, or an error, and
-/// reports where that is. Each read takes one of the read budget. Of each message that is not complete, fewer than
-/// `size` bytes are held.
+/// reports where that is: where the input ends inside a message, with the least channel on which one is open. Each read
+/// takes one of the read budget. Of each message that is not complete, fewer than `size` bytes are held.
 pub fn recut_reported<S: Source, K: Sink>(
     alloc: Global,
     source: &mut S,

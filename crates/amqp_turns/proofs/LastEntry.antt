@@ -1,17 +1,18 @@
 -- What channels have, by the entry that lies apart and the others.
 use Rattle.std.proofs.Common.{◌≡◌, ◌≢◌, ℕ, Bool, true, false, cond, eqb, List, [], length, arith, refl, sym, ap, subst, ◌∙◌, ◌+◌, ◌≤◌, ◌∷◌, lit≤, add_comm}
-use Rattle.std.proofs.Common.{add_assoc, zero-add, Option, Some, None}
+use Rattle.std.proofs.Common.{add_assoc, zero-add, Option, Some, None, min, inl, inr}
 use mir.Val.{bool_byte}
-use Rattle.std.proofs.lemmas.Bool.{eqb-true, eq-eqb, ne_eqb}
+use Rattle.std.proofs.lemmas.Bool.{eqb-true, eq-eqb, ne_eqb, cases_lt}
 use Rattle.std.proofs.lemmas.List.Sums.{sum_by-cons}
 use Rattle.std.specs.Option.{option_map}
+use Rattle.std.specs.Prelude.{IsSome}
 use Rattle.std.specs.Ordering.{nat_cmp}
 use Rattle.std.specs.Map.{keys_of, values_of, set_value}
 use Rattle.std.specs.List.{count_by}
 use Rattle.std.specs.List.Sorted.{IsStrictlySortedBy}
 use Rattle.std.specs.BTreeMap.{is_at, insert_entry}
 use Rattle.amqp_turns.specs.declared.channels.Entry.{Entry}
-use Rattle.amqp_turns.specs.Stands.{kept_at, OthersStay}
+use Rattle.amqp_turns.specs.Stands.{kept_at, OthersStay, NoneIsBelow}
 use Rattle.amqp_turns.specs.LastEntry.{is_of, takes, with_last, with_value, IsApart}
 use Rattle.amqp_turns.proofs.Entries.{kept-insert_same, kept-insert_other, set-insert_same, set-insert_other, kept-set_none}
 use Rattle.amqp_turns.proofs.Entries.{some_inserted, sorted-insert, count-insert}
@@ -122,6 +123,43 @@ module _ {T : Type 0} (last : Option (Entry T)) (others seen : List (ℕ × T)) 
   some_seen entry is =
       sym (some_inserted others entry.channel_id entry.value)
       ∙ ap (λ (o : Option (Entry T)). eqb (length (with_last o others)) 0) (sym is) ∙ ap (λ (es : List (ℕ × T)). eqb (length es) 0) view
+
+  -- ---- the least channel, where an entry lies apart
+
+  own_some : (entry : Entry T) → last ≡ Some entry → IsSome (kept_at seen entry.channel_id)
+  own_some entry is =
+      let found : kept_at seen entry.channel_id ≡ Some entry.value =
+      sym (ap (λ (es : List (ℕ × T)). kept_at es entry.channel_id) view)
+      ∙ ap (λ (o : Option (Entry T)). kept_at (with_last o others) entry.channel_id) is ∙ kept-insert_same others entry.channel_id entry.value in
+      subst (λ (o : Option T). IsSome o) (sym found) refl
+
+  other_some : (entry : Entry T) → last ≡ Some entry → (q : ℕ) → IsSome (kept_at others q) → IsSome (kept_at seen q)
+  other_some entry is q there =
+      subst (λ (o : Option T). IsSome o) (kept q)
+      (subst (λ (o : Option (Entry T)). IsSome (cond (is_of last q) (value_in o) (kept_at others q))) (sym is) (by_test (is_of last q)))
+    where
+      by_test : (b : Bool) → IsSome (cond b (Some entry.value) (kept_at others q))
+      by_test true = refl
+      by_test false = there
+
+  -- Of the lesser of its channel and one of which the others keep something, something is kept.
+  pub lesser_some : (entry : Entry T) (other n : ℕ) → last ≡ Some entry → IsSome (kept_at others other)
+      → n ≡ min other entry.channel_id → IsSome (kept_at seen n)
+  lesser_some entry other n is there lesser = elim (cases_lt other entry.channel_id) [
+    | inl low ↦ let same : other ≡ n = omega (arith, lesser, low) in subst (λ q. IsSome (kept_at seen q)) same (other_some entry is other there)
+    | inr high ↦ let same : entry.channel_id ≡ n = omega (arith, lesser, high) in subst (λ q. IsSome (kept_at seen q)) same (own_some entry is)
+  ]
+
+  -- Nothing is kept below the lesser of its channel and the least of the others.
+  pub lesser_least : (entry : Entry T) (other n : ℕ) → last ≡ Some entry → NoneIsBelow others other
+      → n ≡ min other entry.channel_id → NoneIsBelow seen n
+  lesser_least entry other n is least lesser = λ q some. by_test q (is_of last q) refl (subst (λ (o : Option T). IsSome o) (sym (kept q)) some)
+    where
+      by_test : (q : ℕ) (b : Bool) → is_of last q ≡ b → IsSome (cond b (value_in last) (kept_at others q)) → n ≤ q
+      by_test q true e some =
+          let same : eqb entry.channel_id q ≡ true = sym (ap (λ (o : Option (Entry T)). is_of o q) is) ∙ e in
+          omega (arith, lesser, eqb-true entry.channel_id q same)
+      by_test q false e some = omega (arith, lesser, least q some)
 
   -- ---- all channels
 

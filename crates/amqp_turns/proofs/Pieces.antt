@@ -4,7 +4,7 @@ use Rattle.std.proofs.Common.{drop, refl, sym, ap, ◌∙◌, arith}
 use Rattle.std.specs.Prelude.{slice_get}
 use Rattle.std.proofs.Math.Seq.{take-add}
 use Rattle.std.proofs.lemmas.List.{append-nil, append_assoc, drop-drop, drop_all, drop-append-le, take-append-le, length-append, length-drop, length-take}
-use Rattle.std.proofs.lemmas.List.{take_all, take_min, drop_min, nil_from_length}
+use Rattle.std.proofs.lemmas.List.{take_all, take_min, drop_min}
 use Rattle.std.proofs.lemmas.Nat.{div-add-mod'}
 use Rattle.std.specs.List.{flat_map, AllByRecursion}
 use Rattle.amqp_turns.specs.Splits.{chunks, cut_count, pieces, pieces_given, whole_pieces, left_over}

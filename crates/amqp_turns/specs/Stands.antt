@@ -1,5 +1,5 @@
 -- What is kept of a channel after some frames.
-use Rattle.std.specs.Prelude.{◌≡◌, ◌≢◌, ℕ, List, [], ◌∷◌, Option}
+use Rattle.std.specs.Prelude.{◌≡◌, ◌≢◌, ℕ, ◌≤◌, List, [], ◌∷◌, Option, IsSome}
 use Rattle.std.specs.Map.{lookup}
 use Rattle.std.specs.Ordering.{nat_cmp}
 use Rattle.std.specs.BTreeMap.{is_at}
@@ -31,3 +31,7 @@ kept_at entries channel = lookup (is_at (nat_cmp channel)) entries
 abbrev pub OthersStay : {K : Type 0} → ℕ → List (ℕ × K) → List (ℕ × K) → Type 0
 OthersStay channel before after =
     (other : ℕ) → other ≢ channel → kept_at after other ≡ kept_at before other
+
+-- something is kept of no channel below this one
+abbrev pub NoneIsBelow : {K : Type 0} → List (ℕ × K) → ℕ → Type 0
+NoneIsBelow entries channel = (other : ℕ) → IsSome (kept_at entries other) → channel ≤ other

@@ -1,6 +1,7 @@
 //! A value for each channel that has one, by a map with the entry used last apart.
 
 ghost use Rattle.std.specs.Prelude.{◌≡◌, ◌≢◌, ◌==◌, ℕ, [], Some, None, OnOk, OnErr};
+ghost use Rattle.std.specs.Prelude.{IsSome, IfSome, IfNone};
 ghost use Rattle.std.specs.Prelude.{false, length, count_by, Bool};
 ghost use Rattle.std.specs.Fn.{FnReturnsAt};
 ghost use Rattle.std.specs.Option.{option_copied, option_copied_mut, option_map};
@@ -8,7 +9,7 @@ ghost use Rattle.std.specs.Borrow.{sem};
 ghost use Rattle.std.specs.Ordering.{nat_cmp};
 ghost use Rattle.std.specs.Map.{keys_of, values_of};
 ghost use Rattle.std.specs.List.Sorted.{IsStrictlySortedBy};
-ghost use Rattle.amqp_turns.specs.Stands.{kept_at, OthersStay};
+ghost use Rattle.amqp_turns.specs.Stands.{kept_at, OthersStay, NoneIsBelow};
 ghost use Rattle.amqp_turns.specs.LastEntry.{is_of, takes, with_last, IsApart};
 ghost use Rattle.amqp_turns.specs.Lent.{lends_last, lends_value};
 
@@ -66,6 +67,18 @@ fn get_from<T>(others: &BTreeMap<ChannelId, T>, channel_id: ChannelId) -> Option
         return None;
     }
     others.get(&channel_id)
+}
+
+/// The least channel in the map.
+fn least_in<T>(others: &BTreeMap<ChannelId, T>) -> Option<ChannelId>
+    ensures none { IfNone result (others.now.entries ≡ []) }
+    ensures kept { IfSome result (λ channel. IsSome (kept_at others.now.entries channel)) }
+    ensures least { IfSome result (λ channel. NoneIsBelow others.now.entries channel) }
+{
+    match others.first_key_value() {
+        Some((channel_id, _)) => Some(*channel_id),
+        None => None,
+    }
 }
 
 /// The value of the entry, to be changed in its place.
@@ -184,6 +197,22 @@ impl<T: Drop> Channels<T> {
         match &self.last {
             Some(_) => false,
             None => self.others.len() == 0,
+        }
+    }
+
+    /// The least channel that has a value.
+    pub fn least(&self) -> Option<ChannelId>
+        ensures none { IfNone result (self.now ≡ []) }
+        ensures kept { IfSome result (λ channel. IsSome (kept_at self.now channel)) }
+        ensures least { IfSome result (λ channel. NoneIsBelow self.now channel) }
+    {
+        let other = least_in(&self.others);
+        let Some(entry) = &self.last else {
+            return other;
+        };
+        match other {
+            Some(other) => Some(other.min(entry.channel_id)),
+            None => Some(entry.channel_id),
         }
     }
 

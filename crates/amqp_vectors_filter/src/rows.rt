@@ -1,10 +1,10 @@
 //! Worked streams: which of their bytes are kept, and how each ends.
 
-use amqp_filter::{FilterError, filter};
+use amqp_filter::{FilterError, filter, filter_reported};
 use amqp_select::{RuleError, Rules};
 use amqp_stream::{PieceSource, StreamError, VecSink};
 use amqp_turns::ContentFault;
-use amqp_vectors::asking::same_in;
+use amqp_vectors::asking::{same, same_in};
 use std::alloc::{AllocError, Global};
 use std::test::Fail;
 
@@ -260,6 +260,32 @@ fn open_messages_are_no_end(rt: HostRuntime) -> Result<(), Fail> {
         let found = filter(rt.alloc(), &rules, &mut source, &mut sink, LIMIT, 1000);
         same_in(words, found, Err(FilterError::OpenContent))?;
         same_in(words, sink.bytes().len(), count)?;
+    }
+    Ok(())
+}
+
+/// `basic.publish` on channels 3, 1 and 2, of 17 bytes each.
+const OPENED: &[u8] = &[
+    1, 0, 3, 0, 0, 0, 9, 0, 60, 0, 40, 0, 0, 0, 0, 0, 206, 1, 0, 1, 0, 0, 0, 9, 0, 60, 0, 40, 0, 0,
+    0, 0, 0, 206, 1, 0, 2, 0, 0, 0, 9, 0, 60, 0, 40, 0, 0, 0, 0, 0, 206,
+];
+
+#[test]
+fn the_least_open_channel_is_reported(rt: HostRuntime) -> Result<(), Fail> {
+    let rules = parse(rt.alloc(), &["drop"])?;
+    for (count, channel) in [(17, 3), (34, 1), (51, 1)] {
+        for pieces in [[].as_slice(), ONES] {
+            let open = OPENED.get(..count).unwrap_or(&[]);
+            let mut source = PieceSource::new(open, pieces, &[]);
+            let mut sink = VecSink::new(rt.alloc());
+            let found = filter_reported(rt.alloc(), &rules, &mut source, &mut sink, LIMIT, 1000);
+            let Err(report) = found else {
+                return Err(Fail::new(format_args!("no error")));
+            };
+            same(report.error, FilterError::OpenContent)?;
+            same(report.place, open.len() as u64)?;
+            same(report.channel, Some(channel))?;
+        }
     }
     Ok(())
 }

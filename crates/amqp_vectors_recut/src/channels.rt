@@ -17,9 +17,11 @@ fn values(channels: &Channels<u8>) -> [Option<u8>; 3] {
 fn channels_have_values(rt: HostRuntime) -> Result<(), Fail> {
     let mut channels = Channels::new(rt.alloc());
     same(channels.is_empty(), true)?;
+    same(channels.least(), None)?;
     channels.insert(1, 10)?;
     channels.insert(2, 20)?;
     channels.insert(1, 11)?;
+    same(channels.least(), Some(1))?;
     if let Some(value) = channels.get_mut(2) {
         *value = 21;
     }
@@ -28,6 +30,9 @@ fn channels_have_values(rt: HostRuntime) -> Result<(), Fail> {
     same(channels.remove(1), Some(11))?;
     same(channels.remove(3), None)?;
     same(values(&channels), [None, Some(21), None])?;
+    same(channels.least(), Some(2))?;
+    channels.insert(3, 30)?;
+    same(channels.least(), Some(2))?;
     same(channels.is_empty(), false)
 }
 

@@ -1,6 +1,6 @@
 //! Worked cases of recutting: what is written, and how the stream ends.
 
-use amqp_recut::{RecutError, recut};
+use amqp_recut::{RecutError, recut, recut_reported};
 use amqp_stream::{PieceSource, ScriptSink, Sink, SliceSource, Source, StreamError, VecSink};
 use amqp_turns::ContentFault;
 use amqp_vectors::asking::{same, same_in, shows};
@@ -316,6 +316,29 @@ fn ends_fail(rt: HostRuntime) -> Result<(), Fail> {
     ends(alloc, (&[], &[]), 0, spent, &[])?;
     ends(alloc, (&[], &[]), 1, spent, front(&MESSAGE, 56))?;
     ends(alloc, (&[], &[]), 2, spent, &BY_TWO)
+}
+
+/// `basic.publish` on channels 3, 1 and 2, of 17 bytes each.
+const OPENED: [u8; 51] = [
+    1, 0, 3, 0, 0, 0, 9, 0, 60, 0, 40, 0, 0, 0, 0, 0, 206, 1, 0, 1, 0, 0, 0, 9, 0, 60, 0, 40, 0, 0,
+    0, 0, 0, 206, 1, 0, 2, 0, 0, 0, 9, 0, 60, 0, 40, 0, 0, 0, 0, 0, 206,
+];
+
+#[test]
+fn the_least_open_channel_is_reported(rt: HostRuntime) -> Result<(), Fail> {
+    for (count, channel) in [(17, 3), (34, 1), (51, 1)] {
+        let open = OPENED.get(..count).unwrap_or(&[]);
+        let mut source = PieceSource::new(open, &[1; 60], &[]);
+        let mut sink = VecSink::new(rt.alloc());
+        let found = recut_reported(rt.alloc(), &mut source, &mut sink, LIMIT, 2, 1000);
+        let Err(report) = found else {
+            return Err(Fail::new(format_args!("no error")));
+        };
+        same(report.error, RecutError::OpenContent)?;
+        same(report.place, open.len() as u64)?;
+        same(report.channel, Some(channel))?;
+    }
+    Ok(())
 }
 
 /// Memory that runs out ends a stream at a method, a content header or a body, and what stands then is a front of what

@@ -86,7 +86,7 @@ pub const ROWS: &[Row] = &[
         &[PUBLISH, HEADER],
         &[],
         25,
-        "OpenContent (25) at byte 56: ",
+        "OpenContent (25) at byte 56, channel 1: ",
     ),
     (
         &["filter", "drop"],
@@ -114,7 +114,7 @@ pub const ROWS: &[Row] = &[
         &[PUBLISH, HEADER],
         &[PUBLISH, HEADER],
         25,
-        "OpenContent (25) at byte 56: ",
+        "OpenContent (25) at byte 56, channel 1: ",
     ),
     (
         &["recut", "2"],
