@@ -17,6 +17,7 @@ use Rattle.amqp_stream.specs.Transcribing.{place_verdict, answer_at, answer_to, 
 use Rattle.amqp_stream.specs.Steps.{Manner, text, refused}
 use Rattle.amqp_stream.specs.Streaming.{Ending, finished, refused_by, stopped_by, text_of, refused_of, state_of, IsUnended, IsAllWritten, Streams}
 use Rattle.amqp_stream.specs.Streaming.{answer_at_end, answer_of, answer_by, IsExactRun, UnlessStoppedBy, StreamsExactly, IsWelcome, IsDoneOrWanting}
+use Rattle.amqp_stream.proofs.Adding.{taken_of}
 use Rattle.amqp_stream.proofs.Passing.{settled}
 
 -- ---- the bytes taken, and those that are left
@@ -136,16 +137,16 @@ exact_at : {S E : Type 0} (w : Manner S E) (s t : S) (m budget : ℕ) (a b : Sup
     → a.left ≡ Some bytes → (c : Streams w s t m budget a b k l e) → UnlessStoppedBy e (IsExactRun w s m bytes c.written e)
 exact_at w s t m budget a b k l finished bytes left c =
     let P : List ℕ → Type 0 = λ xs. IsExactRun w s m xs c.written finished in
-    subst P (all_taken bytes c.taken b.left (sym left ∙ c.takes.bytes) c.cause.1) (record {
+    subst P (all_taken bytes c.taken b.left (taken_of left c.takes) c.cause.1) (record {
       answer = sym (known w s m c.taken None None (Ok tt) c.writes.none_refused c.cause.2 (answer_sequence w.level m c.taken c.cause.0));
       text_is = c.writes.text_is;
     })
-exact_at w s t m budget a b k l (refused_by why) bytes left c = exact_refusal w s m bytes c.taken c.written b why (sym left ∙ c.takes.bytes) c.writes c.cause
+exact_at w s t m budget a b k l (refused_by why) bytes left c = exact_refusal w s m bytes c.taken c.written b why (taken_of left c.takes) c.writes c.cause
 exact_at w s t m budget a b k l (stopped_by (faulty bad)) bytes left c =
-    exact_bad w s m bytes c.taken c.written b.left bad (sym left ∙ c.takes.bytes) c.cause c.writes
+    exact_bad w s m bytes c.taken c.written b.left bad (taken_of left c.takes) c.cause c.writes
 exact_at w s t m budget a b k l (stopped_by cut_short) bytes left c =
     let P : List ℕ → Type 0 = λ xs. IsExactRun w s m xs c.written (stopped_by cut_short) in
-    subst P (all_taken bytes c.taken b.left (sym left ∙ c.takes.bytes) c.cause.1) (record {
+    subst P (all_taken bytes c.taken b.left (taken_of left c.takes) c.cause.1) (record {
       answer = sym (known_error w s m c.taken errors.CutShort c.writes.none_refused (answer_more w.level m c.taken c.cause.0.0 c.cause.0.1));
       text_is = c.writes.text_is;
     })
@@ -165,7 +166,7 @@ done_at : {S E : Type 0} (w : Manner S E) (s t : S) (m budget : ℕ) (a b : Supp
     → (c : Streams w s t m budget a b k l e) → UnlessStoppedBy e (IsExactRun w s m bytes c.written e) → IsDoneOrWanting e
 done_at w s t m budget a b k l finished bytes p enough left f c h = tt
 done_at w s t m budget a b k l (stopped_by budget_spent) bytes p enough left f c h =
-    let t = split_of bytes c.taken b.left (sym left ∙ c.takes.bytes) in
+    let t = split_of bytes c.taken b.left (taken_of left c.takes) in
     absurd (omega (arith, c.cause.1, ap length t.parts, length-append c.taken t.rest))
 done_at w s t m budget a b k l (stopped_by read_failed) bytes p enough left f c h = absurd (omega (arith, c.cause.1 f.source_below, f.source))
 done_at w s t m budget a b k l (stopped_by write_failed) bytes p enough left f c h = absurd (omega (arith, c.cause f.sink_below, f.sink))

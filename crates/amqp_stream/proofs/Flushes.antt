@@ -1,8 +1,52 @@
--- What a flush leaves.
-use Rattle.std.proofs.Common.{List, ℕ, Option}
+-- What a writer of the system has after a write and a flush, and what its sink reports.
+use Rattle.std.proofs.Common.{◌≡◌, ◌≤◌, ◌-◌, List, [], ◌++◌, ℕ, length, take, Option, Some, None, refl, sym, ap, ◌∙◌, arith, append-nil}
+use Rattle.std.proofs.Math.Seq.{take-append_seam}
+use Rattle.std.proofs.lemmas.List.{length-append, length-take-le, take_all}
 use Rattle.std.specs.Io.KnownBytes.{Appends, Keeps}
 use Rattle.std.proofs.KnownBytes.{Appends-kept}
+use Rattle.amqp_stream.specs.Ends.{Gains, Grows, Bytes}
+use Rattle.amqp_stream.specs.Scripts.{without_last, store_over}
 
 -- bytes that were appended stay after a flush
 pub flushed : (a b c : Option (List ℕ)) (bytes : List ℕ) → Appends a b bytes → Keeps b c → Appends a c bytes
 flushed a b c bytes = Appends-kept a b c bytes
+
+-- a write that failed appended nothing
+pub failed : (a b : Option (List ℕ)) (piece : List ℕ) → Keeps a b → Appends a b (take 0 piece)
+failed None b piece h = tt
+failed (Some x) None piece h = absurd h
+failed (Some x) (Some y) piece h = h ∙ sym (append-nil x)
+
+all_but : (n : ℕ) (bytes : List ℕ) → n ≡ 0 → take (length bytes - n) bytes ≡ bytes
+all_but n bytes none = take_all (length bytes - n) bytes (omega arith)
+
+all_of : (bytes : List ℕ) → take (length bytes - 0) bytes ≡ bytes
+all_of bytes = all_but 0 bytes refl
+
+-- What a write took and a flush let through is what the sink got.
+pub all_gained : (a b : Option (List ℕ)) (bytes : List ℕ) → Appends a b bytes → Grows (without_last 0 a) (without_last 0 b) bytes
+all_gained None b bytes h = tt
+all_gained (Some x) None bytes h = absurd h
+all_gained (Some x) (Some y) bytes h = ap Bytes (all_of y ∙ h ∙ ap (λ (xs : List ℕ). xs ++ bytes) (sym (all_of x)))
+
+-- What a write took and no flush let through is not reported.
+pub none_gained : (a b : Option (List ℕ)) (piece : List ℕ) (n : ℕ) → n ≤ length piece → Appends a b (take n piece)
+    → Grows (without_last 0 a) (without_last n b) []
+none_gained None b piece n few h = tt
+none_gained (Some x) None piece n few h = absurd h
+none_gained (Some x) (Some y) piece n few h =
+    let len : length y - n ≡ length x = omega (arith, ap length h, length-append x (take n piece), length-take-le n piece few) in
+    ap Bytes (
+    ap (λ (k : ℕ). take k y) len ∙ ap (take (length x)) h ∙ take-append_seam x (take n piece)
+    ∙ sym (append-nil (take (length x - 0) x) ∙ all_of x)
+    )
+
+-- What a sink over a writer gained stands in the writer, after what the writer had, where all is flushed.
+pub stands_after : (a b : Option (List ℕ)) (u v p q : ℕ) (bytes : List ℕ) → u ≡ 0 → v ≡ 0
+    → Gains (store_over a u p) (store_over b v q) bytes → Appends a b bytes
+stands_after None b u v p q bytes first then h = tt
+stands_after (Some x) None u v p q bytes first then h = absurd (let gained = h.bytes in cc)
+stands_after (Some x) (Some y) u v p q bytes first then h =
+    let gained = h.bytes in
+    let same : take (length y - v) y ≡ take (length x - u) x ++ bytes = cc in
+    sym (all_but v y then) ∙ same ∙ ap (λ (xs : List ℕ). xs ++ bytes) (all_but u x first)

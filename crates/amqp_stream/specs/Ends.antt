@@ -1,6 +1,7 @@
 -- The two ends of a stream: what a source and a sink report of themselves.
 use Rattle.std.specs.Prelude.{◌≡◌, ℕ, ◌+◌, ◌-◌, ◌^◌, ◌<◌, ◌≤◌, min, max, List, [], ◌++◌, length}
 use Rattle.std.specs.Prelude.{take, Option, Some, None, Result, Ok, Err}
+use Rattle.std.specs.Io.KnownBytes.{Consumes}
 
 -- the last value of a count, at which it stays
 abbrev pub last : ℕ
@@ -27,9 +28,10 @@ abbrev pub prepended : List ℕ → Option (List ℕ) → Option (List ℕ)
 prepended piece None = None
 prepended piece (Some rest) = Some (piece ++ rest)
 
--- these bytes were taken, in so many reads
+-- These bytes were taken, in so many reads. What was reported as left begins with them, and the
+-- rest is reported after. Where nothing was reported, nothing is said of what is after.
 pub record Takes (old new : Supply) (piece : List ℕ) (reads : ℕ) : Type 0 where
-  pub bytes : old.left ≡ prepended piece new.left
+  pub bytes : Consumes old.left new.left piece
   pub counts : new.reads ≡ counted reads old.reads
   pub faults : old.faults ≤ new.faults
 
@@ -49,11 +51,12 @@ pub data Reported : Type 0 where
   Number : ℕ → Reported
   Bytes : List ℕ → Reported
 
--- the same after one more piece
-abbrev pub grown : Reported → List ℕ → Reported
-grown Nothing piece = Nothing
-grown (Number n) piece = Number (n + length piece)
-grown (Bytes bytes) piece = Bytes (bytes ++ piece)
+-- What was reported grew by a piece. Where nothing was reported, nothing is said of what is
+-- reported after.
+abbrev pub Grows : Reported → Reported → List ℕ → Type 0
+Grows Nothing new piece = Unit {0}
+Grows (Number n) new piece = new ≡ Number (n + length piece)
+Grows (Bytes bytes) new piece = new ≡ Bytes (bytes ++ piece)
 
 -- A sink: what it reports of the bytes that it has taken, and a count of faults.
 pub record Store : Type 0 where
@@ -62,5 +65,5 @@ pub record Store : Type 0 where
 
 -- these bytes were written
 pub record Gains (old new : Store) (piece : List ℕ) : Type 0 where
-  pub bytes : new.taken ≡ grown old.taken piece
+  pub bytes : Grows old.taken new.taken piece
   pub faults : old.faults ≤ new.faults

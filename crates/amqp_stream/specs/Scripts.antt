@@ -1,8 +1,8 @@
 -- Sources and sinks in memory, and a sink that counts. Some follow a script: which calls fail, and
 -- how many bytes each call takes at most.
-use Rattle.std.specs.Prelude.{ℕ, min, max, List, length, nat_lt}
-use Rattle.std.specs.Prelude.{if◌then◌else◌, slice_index, Some, None}
-use Rattle.amqp_stream.specs.Ends.{Supply, Store, Nothing, Number, Bytes}
+use Rattle.std.specs.Prelude.{ℕ, ◌-◌, min, max, List, length, nat_lt}
+use Rattle.std.specs.Prelude.{if◌then◌else◌, slice_index, take, Option, Some, None}
+use Rattle.amqp_stream.specs.Ends.{Supply, Store, Reported, Nothing, Number, Bytes}
 
 -- at most so many bytes: as the script has it for the call, one at least, and after its
 -- end as many as fit
@@ -56,15 +56,25 @@ pub record CountedReads (R : Type 0) : Type 0 where
   pub reader : R
   pub faults : ℕ
 
--- a source that reports its faults alone
-abbrev pub unreported_supply : ℕ → Supply
-unreported_supply faults = record { left = None; reads = None; faults = faults }
+-- What a source over a reader reports: the bytes that the reader has left, where it reports them,
+-- and the failed reads.
+abbrev pub supply_over : Option (List ℕ) → ℕ → Supply
+supply_over left faults = record { left = left; reads = None; faults = faults }
 
--- a writer of the system, and how many of its writes failed
+-- A writer of the system, how many of the last bytes that it took are not known to be flushed, and
+-- how many writes failed.
 pub record CountedWrites (W : Type 0) : Type 0 where
   pub writer : W
+  pub unflushed : ℕ
   pub faults : ℕ
 
--- a sink that reports its faults alone
-abbrev pub unreported_store : ℕ → Store
-unreported_store faults = record { taken = Nothing; faults = faults }
+-- the bytes that a writer has, where it reports them, without so many of the last
+abbrev pub without_last : ℕ → Option (List ℕ) → Reported
+without_last unflushed None = Nothing
+without_last unflushed (Some bytes) = Bytes (take (length bytes - unflushed) bytes)
+
+-- What a sink over a writer reports: what the writer has, without the bytes that are not known to
+-- be flushed, and the failed writes.
+abbrev pub store_over : Option (List ℕ) → ℕ → ℕ → Store
+store_over contents unflushed faults =
+    record { taken = without_last unflushed contents; faults = faults }

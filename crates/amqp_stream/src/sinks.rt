@@ -1,10 +1,10 @@
 //! Sinks in memory, and a writer of the system.
 
 ghost use Rattle.std.specs.Prelude.{◌≡◌, ◌+◌, ◌<◌, ◌≤◌, [], length, min, take};
-ghost use Rattle.std.specs.Prelude.{Contains, IfOk, IsErr, OnOk, OnErr};
+ghost use Rattle.std.specs.Prelude.{Contains, IfOk, IsErr, OnOk, OnErr, MatchResult};
 ghost use Rattle.std.specs.Io.KnownBytes.{Appends, WriteAppends};
 ghost use Rattle.amqp_stream.specs.Ends.{Gains, Rises, last, piece_of};
-ghost use Rattle.amqp_stream.specs.Scripts.{store_of, most_of, unreported_store};
+ghost use Rattle.amqp_stream.specs.Scripts.{store_of, most_of, store_over};
 
 use crate::sink::{Sink, SinkFault};
 use crate::sources::most_at;
@@ -182,11 +182,34 @@ fn write_again<W: Write>(writer: &mut W, piece: &[u8]) -> Result<usize, SinkFaul
     Err(SinkFault)
 }
 
-/// A writer of the system, flushed in each write. It reports nothing of its bytes; each failed write
-/// is counted. One that a signal interrupts is made again.
+/// One write, and a flush of what was taken. Where one of them fails, or nothing was taken, the error is how many bytes were
+/// taken and are not known to be flushed.
+#[tactic(auto, using(crate::proofs::Flushes::flushed, crate::proofs::Flushes::failed))]
+fn write_flushed<W: Write>(writer: &mut W, piece: &[u8]) -> Result<usize, usize>
+    ensures some { IfOk result (λ n. 0 < n) }
+    ensures bound { MatchResult result (λ n. n ≤ length piece.now) (λ n. n ≤ length piece.now) }
+    ensures bytes { MatchResult result
+        (λ n. Appends (W.contents writer.old) (W.contents writer.new) (take n piece.now))
+        (λ n. Appends (W.contents writer.old) (W.contents writer.new) (take n piece.now)) }
+{
+    match write_again(writer, piece) {
+        Ok(count) if count > 0 => match writer.flush() {
+            Ok(()) => Ok(count),
+            Err(_) => Err(count),
+        },
+        _ => Err(0),
+    }
+}
+
+/// A writer of the system, flushed in each write. What was taken is what the writer has, where it reports its bytes; each
+/// failed write is counted. One that a signal interrupts is made again.
+///
+/// Where a flush fails, so does the write, and what becomes of the bytes that the writer took in it is not known. They are
+/// not reported as taken, and each later write fails and writes nothing.
 #[derive(Drop)]
 pub struct StdSink<W> {
     writer: W,
+    unflushed: usize,
     faults: u64,
 }
 
@@ -196,29 +219,43 @@ impl<W> Model for StdSink<W> {
 
     ghost Value = { CountedWrites W };
 
-    ghost view = { λ sink. record { writer = sink.writer; faults = sink.faults } };
+    ghost view = { λ sink.
+        record { writer = sink.writer; unflushed = sink.unflushed; faults = sink.faults } };
 
-    ghost invariant = { λ sink. sink.faults < 2 ^ 64 };
+    ghost invariant = { λ sink. (sink.faults < 2 ^ 64) × (sink.unflushed < 2 ^ 64) };
 }
 
 impl<W: Write> StdSink<W> {
     /// No write has failed yet.
     pub fn new(writer: W) -> StdSink<W>
-        ensures { result ≡ record { writer = writer; faults = 0 } }
+        ensures { result ≡ record { writer = writer; unflushed = 0; faults = 0 } }
     {
-        StdSink { writer, faults: 0 }
+        StdSink {
+            writer,
+            unflushed: 0,
+            faults: 0,
+        }
+    }
+
+    /// How many of the last bytes that the writer took are not known to be flushed: 0, until a flush fails.
+    pub fn unflushed(&self) -> usize
+        ensures { result ≡ self.now.unflushed }
+    {
+        self.unflushed
     }
 }
 
 impl<W: Write> Sink for StdSink<W> {
-    ghost store = { λ sink. unreported_store sink.faults };
+    ghost store = { λ sink. store_over (W.contents sink.writer) sink.unflushed sink.faults };
 
-    #[tactic(auto, using(crate::proofs::Flushes::flushed))]
+    #[tactic(auto, using(crate::proofs::Flushes::all_gained, crate::proofs::Flushes::none_gained))]
     fn write(&mut self, piece: &[u8]) -> Result<usize, SinkFault>
         requires { 0 < length piece.now }
         ensures some { IfOk result (λ n. (0 < n) × (n ≤ length piece.now)) }
-        ensures gains { Gains (unreported_store self.old.faults)
-            (unreported_store self.new.faults) (piece_of result piece.now) }
+        ensures gains { Gains
+            (store_over (W.contents self.old.writer) self.old.unflushed self.old.faults)
+            (store_over (W.contents self.new.writer) self.new.unflushed self.new.faults)
+            (piece_of result piece.now) }
         ensures fault { OnErr result (Rises self.old.faults self.new.faults) }
         ensures most { self.new.faults ≤ last }
         ensures faultless { OnOk result (self.new.faults ≡ self.old.faults) }
@@ -226,16 +263,25 @@ impl<W: Write> Sink for StdSink<W> {
         // Where the writer reports its bytes, those that were taken stand after the others.
         ensures bytes { IfOk result (λ n.
             Appends (W.contents self.old.writer) (W.contents self.new.writer) (take n piece.now)) }
+
+        // A write that does not fail leaves all flushed. One that fails leaves so many of the piece unflushed.
+        ensures flushed { OnOk result (self.new.unflushed ≡ 0) }
+        ensures unflushed { OnErr result (self.old.unflushed ≡ 0
+            → Appends (W.contents self.old.writer) (W.contents self.new.writer)
+            (take self.new.unflushed piece.now)) }
+
+        // After a flush that failed nothing is written.
+        ensures lasts { 0 < self.old.unflushed → IsErr result
+            × (self.new.writer ≡ self.old.writer) × (self.new.unflushed ≡ self.old.unflushed) }
     {
-        match write_again(&mut self.writer, piece) {
-            Ok(count) if count > 0 => match self.writer.flush() {
-                Ok(()) => Ok(count),
-                Err(_) => {
-                    self.faults = self.faults.saturating_add(1);
-                    Err(SinkFault)
-                }
-            },
-            _ => {
+        if self.unflushed > 0 {
+            self.faults = self.faults.saturating_add(1);
+            return Err(SinkFault);
+        }
+        match write_flushed(&mut self.writer, piece) {
+            Ok(count) => Ok(count),
+            Err(unflushed) => {
+                self.unflushed = unflushed;
                 self.faults = self.faults.saturating_add(1);
                 Err(SinkFault)
             }

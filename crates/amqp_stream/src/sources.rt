@@ -4,7 +4,7 @@ ghost use Rattle.std.specs.Prelude.{◌≡◌, ◌≢◌, ◌<◌, ◌≤◌, []
 ghost use Rattle.std.specs.Prelude.{IsErr, OnOk, OnErr, None, Some};
 ghost use Rattle.amqp_stream.specs.Ends.{Takes, Rises, IsEmpty, last, piece_of};
 ghost use Rattle.std.specs.Io.KnownBytes.{ReadConsumes};
-ghost use Rattle.amqp_stream.specs.Scripts.{supply_of, faultless, most_of, unreported_supply};
+ghost use Rattle.amqp_stream.specs.Scripts.{supply_of, faultless, most_of, supply_over};
 
 use crate::source::{Source, SourceFault};
 use std::io::{ErrorKind, Read};
@@ -172,8 +172,8 @@ fn read_again<R: Read>(reader: &mut R, buf: &mut [u8]) -> Result<usize, SourceFa
     Err(SourceFault)
 }
 
-/// A reader of the system. It reports nothing of its bytes; each failed read is counted. One that a signal interrupts is
-/// made again.
+/// A reader of the system. What is left is what the reader has left, where it reports its bytes; each failed read is
+/// counted. One that a signal interrupts is made again.
 #[derive(Drop)]
 pub struct StdSource<R> {
     reader: R,
@@ -201,20 +201,19 @@ impl<R: Read> StdSource<R> {
 }
 
 impl<R: Read> Source for StdSource<R> {
-    ghost supply = { λ source. unreported_supply source.faults };
+    ghost supply = { λ source. supply_over (R.remaining source.reader) source.faults };
 
     fn read(&mut self, buf: &mut [u8]) -> Result<usize, SourceFault>
         requires { 0 < length buf.old }
         ensures bound { IfOk result (λ n. n ≤ length buf.old) }
-        ensures takes { Takes (unreported_supply self.old.faults)
-            (unreported_supply self.new.faults) (piece_of result buf.new) 1 }
+        ensures takes { Takes
+            (supply_over (R.remaining self.old.reader) self.old.faults)
+            (supply_over (R.remaining self.new.reader) self.new.faults)
+            (piece_of result buf.new) 1 }
+        ensures end { IfOk result (λ n. n ≡ 0 → IsEmpty (R.remaining self.new.reader)) }
         ensures fault { OnErr result (Rises self.old.faults self.new.faults) }
         ensures most { self.new.faults ≤ last }
         ensures faultless { OnOk result (self.new.faults ≡ self.old.faults) }
-
-        // Where the reader reports its bytes, the next of them are given, and after a fault none is lost.
-        ensures bytes { ReadConsumes (R.remaining self.old.reader)
-            (R.remaining self.new.reader) result buf.new }
     {
         match read_again(&mut self.reader, buf) {
             Ok(count) => Ok(count),
