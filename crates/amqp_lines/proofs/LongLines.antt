@@ -4,7 +4,7 @@ use Rattle.std.proofs.Common.{sym, ap, subst, ◌∙◌, inl, inr}
 use Rattle.std.proofs.Common.{append_assoc, arith}
 use Rattle.std.specs.List.{flat_map}
 use Rattle.std.proofs.lemmas.Bool.{cases_lt}
-use Rattle.std.proofs.lemmas.List.{length-append, length-take, length-take-le, take-append-le, take_all}
+use Rattle.std.proofs.lemmas.List.{length-take, length-take-le, take-append-le, take_all}
 use Rattle.amqp_wire.specs.Frames.{Frame}
 use Rattle.amqp_wire.specs.Canonical.{canon, canon_frames}
 use Rattle.amqp_stream.specs.declared.sink.SinkFault.{SinkFault}
@@ -13,7 +13,7 @@ use Rattle.amqp_stream.specs.Writing.{WritesAll, Gathered, GatherFails}
 use Rattle.amqp_lines.specs.Lines.{line, lines, longest_line}
 use Rattle.amqp_lines.specs.OneLine.{IsStrictWithin}
 use Rattle.amqp_lines.specs.LineReading.{HasNoNewline, GathersAll, GathersLines, ReadsAs, ReadsOnce, StopsWith, Decides, end_of_text}
-use Rattle.amqp_lines.specs.Undumping.{HoldsNewline, read_size}
+use Rattle.amqp_lines.specs.Undumping.{HoldsNewline}
 use Rattle.amqp_lines.specs.UndumpReports.{PassesLines, first_line}
 use Rattle.amqp_lines.specs.declared.report.LinePlace.{LinePlace}
 use Rattle.amqp_lines.specs.declared.errors.UndumpError.{UndumpError}
