@@ -1,29 +1,25 @@
 -- The text of a value is at most four times as long as the bytes that encode it strictly, with the comma after it.
-use Rattle.std.proofs.Common.{◌≡◌, ◌≤◌, ◌<◌, ℕ, zero, suc, ℤ, pos, negsuc, ◌+◌, ◌-◌, ◌*◌, ◌^◌, Bool, true, false, cond, List, [], ◌∷◌, ◌++◌, length, map, take}
-use Rattle.std.proofs.Common.{drop, Option, Some, None, refl, sym, ap, subst, ◌∙◌, inl, inr, arith}
-use Rattle.std.proofs.lemmas.Bool.{cases_Bool}
-use Rattle.std.proofs.lemmas.Bool.Decides.{nat_tests}
+use Rattle.std.proofs.Common.{◌≡◌, ◌≤◌, ◌<◌, ℕ, zero, suc, pos, negsuc, ◌+◌, ◌-◌, ◌*◌, ◌^◌, Bool, true, false, cond, List, [], ◌∷◌, ◌++◌, length}
+use Rattle.std.proofs.Common.{refl, sym, ap, subst, ◌∙◌, arith}
 use Rattle.std.proofs.lemmas.Fmt.{length-decimal-le_wide}
-use Rattle.std.proofs.lemmas.List.{length-append, length-map, take_at}
-use Rattle.std.specs.Prelude.{codes, unwrap_or, nat_le, nat_lt, option_and_then, ◌==◌, ◌&&◌}
+use Rattle.std.proofs.lemmas.List.{length-append, length-map}
+use Rattle.std.specs.Prelude.{codes, nat_lt}
 use Rattle.std.specs.Int.{cast_signed}
-use Rattle.std.specs.Fmt.{digits_onto, digits, decimal, signed_decimal}
-use Rattle.std.specs.List.{AllByRecursion, flat_map, list_all}
+use Rattle.std.specs.Fmt.{decimal, signed_decimal}
+use Rattle.std.specs.List.{flat_map}
 use Rattle.amqp_types.specs.Levels.{strict}
-use Rattle.amqp_types.specs.Numbers.{NumberWidth, bytes1, bytes2, bytes4, bytes8, byte_count, number_bytes, number_limit, width_of, SpellsNumber}
-use Rattle.amqp_types.specs.Signed.{SpellsSigned}
+use Rattle.amqp_types.specs.Numbers.{NumberWidth, bytes1, bytes2, bytes4, bytes8, byte_count, number_bytes, number_limit, width_of}
 use Rattle.amqp_types.specs.Strings.{SpellsLongString}
-use Rattle.amqp_types.specs.Flags.{flags_from}
 use Rattle.amqp_types.specs.Values.{FieldValue, FieldValues, FieldEntries, Entry, boolean_value, signed_value, unsigned_value, decimal_value}
 use Rattle.amqp_types.specs.Values.{bytes_value, array_value, table_value, void_value, long_string, byte_array, no_values, next_value, no_entries}
-use Rattle.amqp_types.specs.Values.{next_entry, items, pairs, entries_of}
+use Rattle.amqp_types.specs.Values.{next_entry, items, pairs}
 use Rattle.amqp_types.specs.ValueBytes.{signed_width, unsigned_width}
-use Rattle.amqp_types.specs.ValueSpelling.{SpellsEach, SpellsEntry, SpellsArray, SpellsTable, SpellsBehind, SpellsTagged, SpellsValue, SpellsFieldTable}
+use Rattle.amqp_types.specs.ValueSpelling.{SpellsEach, SpellsEntry, SpellsArray, SpellsTable, SpellsBehind, SpellsTagged, SpellsValue}
 use Rattle.amqp_types.specs.Tags.{tag_of}
 use Rattle.amqp_types.specs.declared.tag.FieldTag.{FieldTag}
 use Rattle.amqp_types.specs.declared.tag.FieldTag.TheVariants as tag
 use Rattle.amqp_lines.specs.Words.{hex_byte, hex, is_plain, escaped, quoted, sign, signs, parted}
-use Rattle.amqp_lines.specs.Values.{tag_text, truth_text, content_text, values_texts, entries_texts, value_text, table_text}
+use Rattle.amqp_lines.specs.Values.{tag_text, content_text, values_texts, entries_texts}
 
 -- ---- numbers
 

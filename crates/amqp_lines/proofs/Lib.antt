@@ -19,6 +19,7 @@ pub mod Deciding
 pub mod Gathering
 pub mod LineBack
 pub mod Undumps
+pub mod LongLines
 pub mod Completing
 pub mod Exactly
 pub mod LineReports

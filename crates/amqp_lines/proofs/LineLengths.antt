@@ -1,5 +1,5 @@
 -- A line is at most four times as long as the bytes that encode its frame strictly, and 400 bytes.
-use Rattle.std.proofs.Common.{◌≡◌, ◌≢◌, ◌≤◌, ◌<◌, ℕ, zero, suc, ◌+◌, ◌*◌, ◌/◌, ◌%◌, ◌^◌, Bool, true, false, cond, List, [], ◌∷◌, ◌++◌, length, map, take, drop}
+use Rattle.std.proofs.Common.{◌≡◌, ◌≤◌, ◌<◌, ℕ, zero, suc, ◌+◌, ◌*◌, ◌/◌, ◌%◌, ◌^◌, Bool, true, false, cond, List, [], ◌∷◌, ◌++◌, length, take, drop}
 use Rattle.std.proofs.Common.{Option, Some, None, refl, sym, ap, subst, ◌∙◌, inl, inr, arith}
 use Rattle.std.proofs.lemmas.Bool.{cases_eq, eq-eqb, ne_eqb}
 use Rattle.std.proofs.lemmas.Bool.Decides.{nat_tests}
@@ -8,12 +8,11 @@ use Rattle.std.specs.Prelude.{codes, unwrap_or, nat_le, option_and_then, ◌==�
 use Rattle.std.specs.Fmt.{digit_glyph, digits_onto, digits, decimal}
 use Rattle.std.specs.List.{AllByRecursion, list_all}
 use Rattle.std.specs.Map.{lookup}
-use Rattle.amqp_types.specs.Levels.{plain, strict}
-use Rattle.amqp_types.specs.Numbers.{byte_count, number_bytes, bytes2, bytes4}
-use Rattle.amqp_types.specs.Flags.{flags_from}
-use Rattle.amqp_types.specs.Values.{Entry, pairs, entries_of}
+use Rattle.amqp_types.specs.Levels.{strict}
+use Rattle.amqp_types.specs.Numbers.{number_bytes, bytes2}
+use Rattle.amqp_types.specs.Values.{Entry, entries_of}
 use Rattle.amqp_types.specs.ValueSpelling.{SpellsTable, SpellsValue}
-use Rattle.amqp_types.specs.Slots.{Item, number_item, flag_item, text_item, bytes_item, entries_item, Form, number_form, flags_form, short_string_form}
+use Rattle.amqp_types.specs.Slots.{Item, Form, number_form, flags_form, short_string_form}
 use Rattle.amqp_types.specs.Slots.{long_string_form, table_form, Slot, kept_slot, reserved_slot}
 use Rattle.amqp_types.specs.SlotBytes.{item_count, flags_of}
 use Rattle.amqp_types.specs.SlotSpelling.{SpellsForm, SpellsSlots}
@@ -26,17 +25,17 @@ use Rattle.amqp_types.specs.PropertySpelling.{SpellsOptional, SpellsSet}
 use Rattle.amqp_types.specs.Flags.{flag_at}
 use Rattle.amqp_types.specs.ContentHeaders.{ContentHeader, SpellsContentHeader}
 use Rattle.amqp_types.proofs.FlagBytes.{flags_from_length}
-use Rattle.amqp_laws.proofs.Conversions.{entries_of-pairs, pairs-entries_of}
+use Rattle.amqp_laws.proofs.Conversions.{pairs-entries_of}
 use Rattle.amqp_laws.proofs.SlotForms.{flags_of-map, form_gives}
 use Rattle.amqp_laws.proofs.SlotLaws.{both_true}
 use Rattle.amqp_laws.proofs.HeaderLaws.{options_are}
 use Rattle.amqp_laws.proofs.PropertyLaws.{one_each}
 use Rattle.amqp_wire.specs.Frames.{Frame, Proto, Meth, Head, Body, Beat, BadBeat}
-use Rattle.amqp_wire.specs.Spelling.{Spells, framed, head, IsFramed}
-use Rattle.amqp_lines.specs.Words.{quoted, signs, hex}
+use Rattle.amqp_wire.specs.Spelling.{Spells, head, IsFramed}
+use Rattle.amqp_lines.specs.Words.{signs, hex}
 use Rattle.amqp_lines.specs.Values.{table_text}
 use Rattle.amqp_lines.specs.Slots.{form_text, slots_text, property_names, property_name, option_text, set_text}
-use Rattle.amqp_lines.specs.Lines.{spaced, method_words, header_words, beat_words, words, line}
+use Rattle.amqp_lines.specs.Lines.{spaced, method_words, header_words, words, line}
 use Rattle.amqp_lines.specs.Laws.{LinesAreBounded}
 use Rattle.amqp_lines.proofs.Lengths.{number_long, number_size, quoted_long, hex_long, signs_long, long_inner, value_long, table_long}
 use Rattle.amqp_lines.proofs.Newlines.{each_name}

@@ -1,8 +1,10 @@
 -- The longest sequence of frames whose text stands in front of some bytes.
-use Rattle.std.proofs.Common.{◌≡◌, ◌≢◌, ℕ, zero, suc, ◌+◌, ◌<◌, ◌≤◌, List, [], ◌∷◌, ◌++◌, length, get_or, take, drop, Some, None, refl, sym, ap, subst, ◌∙◌}
+use Rattle.std.proofs.Common.{◌≡◌, ◌≢◌, ℕ, zero, suc, ◌+◌, ◌<◌, ◌≤◌, List, [], ◌∷◌, ◌++◌, length, get_or, take, drop, Some, None, refl}
+use Rattle.std.proofs.Common.{sym, ap, subst, ◌∙◌, inl, inr}
 use Rattle.std.proofs.Common.{append_assoc, append-nil, arith}
 use Rattle.std.specs.List.{AllByRecursion, flat_map}
-use Rattle.std.proofs.lemmas.List.{length-append, take-append-drop}
+use Rattle.std.proofs.lemmas.Bool.{cases_lt}
+use Rattle.std.proofs.lemmas.List.{length-append, take-append-drop, take-append-le, take_all, take_at}
 use Rattle.std.proofs.Math.Seq.{take-add}
 use Rattle.amqp_types.specs.Levels.{strict}
 use Rattle.amqp_wire.specs.Frames.{Frame}
@@ -74,16 +76,22 @@ none_holds (c ∷ cs) (d ∷ ds) back h e = none_holds cs ds back h.1 (head_same
 pub holds_none : (bytes : List ℕ) → HasNoNewline bytes → HoldsNewline bytes → ⊥
 holds_none bytes h k = none_holds bytes k.front k.back h k.parts
 
--- the first bytes of those without a newline have none
+-- The first bytes of those without a newline have none.
 pub none_take : (n : ℕ) (xs : List ℕ) → HasNoNewline xs → HasNoNewline (take n xs)
 none_take zero [] h = tt
 none_take zero (x ∷ xs) h = tt
 none_take (suc n) [] h = tt
 none_take (suc n) (x ∷ xs) h = (h.0, none_take n xs h.1)
 
-none_both : (xs ys : List ℕ) → HasNoNewline xs → HasNoNewline ys → HasNoNewline (xs ++ ys)
+-- Bytes without a newline, and more of them after, have none.
+pub none_both : (xs ys : List ℕ) → HasNoNewline xs → HasNoNewline ys → HasNoNewline (xs ++ ys)
 none_both [] ys h k = k
 none_both (x ∷ xs) ys h k = (h.0, none_both xs ys h.1 k)
+
+-- The last bytes of those without a newline have none.
+pub none_back : (xs ys : List ℕ) → HasNoNewline (xs ++ ys) → HasNoNewline ys
+none_back [] ys h = h
+none_back (x ∷ xs) ys h = none_back xs ys h.1
 
 -- the byte at a place
 byte_at : (place : ℕ) (text : List ℕ) → place < length text → take 1 (drop place text) ≡ get_or text place 0 ∷ []
@@ -104,12 +112,6 @@ pub none_next : (place : ℕ) (text : List ℕ) (b : ℕ) → place < length tex
     → get_or text place 0 ≡ b → b ≢ 10 → HasNoNewline (take (place + 1) text)
 none_next place text b h none is other = subst HasNoNewline (sym (up_to place text b h is)) (none_both (take place text) (b ∷ []) none (other, tt))
 
-take_all : (n : ℕ) (xs : List ℕ) → length xs ≤ n → take n xs ≡ xs
-take_all zero [] h = refl
-take_all (suc n) [] h = refl
-take_all zero (x ∷ xs) h = absurd (omega arith)
-take_all (suc n) (x ∷ xs) h = ap (λ (ys : List ℕ). x ∷ ys) (take_all n xs (omega arith))
-
 pub none_all : (place : ℕ) (text : List ℕ) → length text ≤ place → HasNoNewline (take place text) → HasNoNewline text
 none_all place text h none = subst HasNoNewline (take_all place text h) none
 
@@ -123,6 +125,18 @@ line_first f front x y none h =
     let a = one_newline f in
     let same = newline_once a.front front x y a.none_before none (sym (line_front f x) ∙ h) in
     (a.parts ∙ ap (λ (xs : List ℕ). xs ++ 10 ∷ []) same.0, same.1)
+
+-- A text that begins with a line begins with no more bytes without a newline than the line has.
+pub line_longer : (f : Frame) (held more x : List ℕ) → HasNoNewline held → held ++ more ≡ line f ++ x → length held < length (line f)
+line_longer f held more x clean e =
+    let a = one_newline f in
+    let n = length (line f) in
+    elim (cases_lt (length held) n) [
+      | inl low ↦ low
+      | inr fits ↦
+          let front : take n held ≡ line f = sym (take-append-le n held more fits) ∙ ap (take n) e ∙ take_at (line f) x n refl in
+          absurd (none_holds (take n held) a.front [] (none_take n held clean) (front ∙ a.parts))
+    ]
 
 -- ---- the longest text
 

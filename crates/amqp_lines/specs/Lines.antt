@@ -1,5 +1,5 @@
 -- The line of a frame, and the text of a sequence of frames.
-use Rattle.std.specs.Prelude.{ℕ, ◌==◌, List, [], ◌++◌, codes, unwrap_or, if◌then◌else◌}
+use Rattle.std.specs.Prelude.{ℕ, ◌+◌, ◌*◌, ◌==◌, List, [], ◌++◌, codes, unwrap_or, if◌then◌else◌}
 use Rattle.std.specs.Fmt.{decimal}
 use Rattle.std.specs.List.{flat_map}
 use Rattle.amqp_types.specs.Rows.{slots_at}
@@ -47,3 +47,8 @@ line frame = words frame ++ codes "\n"
 -- the text of a sequence of frames: their lines
 unfoldable pub lines : List Frame → List ℕ
 lines frames = flat_map line frames
+
+-- how many bytes a line has at most, where the payload of its frame has at most m: four for each
+-- byte of the frame, and 400
+abbrev pub longest_line : ℕ → ℕ
+longest_line m = 4 * (m + 8) + 400

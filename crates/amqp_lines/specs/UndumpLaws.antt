@@ -1,5 +1,6 @@
 -- Laws of reading lines back.
-use Rattle.std.specs.Prelude.{◌≡◌, ◌≢◌, ◌↔◌, ℕ, List, [], Some, Result, Ok, Err, false}
+use Rattle.std.specs.Prelude.{◌≡◌, ◌≢◌, ◌↔◌, ◌≤◌, ℕ, List, [], length, Some}
+use Rattle.std.specs.Prelude.{Result, Ok, Err, false}
 use Rattle.amqp_types.specs.Levels.{plain, strict}
 use Rattle.amqp_types.specs.Judging.{IsBytes}
 use Rattle.amqp_wire.specs.Frames.{Frame, BadBeat}
@@ -10,10 +11,16 @@ use Rattle.amqp_wire.specs.Laws.{IsFrameHeld}
 use Rattle.amqp_stream.specs.Ends.{Store, Gains}
 use Rattle.amqp_lines.specs.Dumping.{dumped}
 use Rattle.amqp_lines.specs.Laws.{IsStrict}
-use Rattle.amqp_lines.specs.Lines.{lines}
+use Rattle.amqp_lines.specs.Lines.{line, lines, longest_line}
+use Rattle.amqp_lines.specs.OneLine.{IsStrictWithin}
 use Rattle.amqp_lines.specs.Undumping.{IsLongestText, UndumpsExactly}
 use Rattle.amqp_lines.specs.declared.errors.UndumpError.{UndumpError}
 use Rattle.amqp_lines.specs.declared.errors.UndumpError.TheVariants as errors
+
+-- the line of a frame within a limit on payloads is no longer than `longest_line` says
+abbrev pub LinesFitTheLimit : Type 0
+LinesFitTheLimit =
+    (m : ℕ) (frame : Frame) → IsStrictWithin m frame → length (line frame) ≤ longest_line m
 
 -- two longest texts are the same: the frames, and the bytes after them
 pub record IsSameText (fs gs : List Frame) (rest more : List ℕ) : Type 0 where

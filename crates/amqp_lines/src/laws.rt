@@ -4,7 +4,8 @@ ghost use Rattle.amqp_lines.specs.Dumping.{WritesLines};
 ghost use Rattle.amqp_lines.specs.Laws.{EqualLinesAreEqualFrames, EqualTextsAreEqualSequences};
 ghost use Rattle.amqp_lines.specs.Laws.{LinesAreBounded, LinesHaveOneNewline};
 ghost use Rattle.amqp_lines.specs.UndumpLaws.{CorrespondOneToOne};
-ghost use Rattle.amqp_lines.specs.UndumpLaws.{DumpedTextIsReadBack, OneLongestText};
+ghost use Rattle.amqp_lines.specs.UndumpLaws.{DumpedTextIsReadBack, LinesFitTheLimit};
+ghost use Rattle.amqp_lines.specs.UndumpLaws.{OneLongestText};
 ghost use Rattle.amqp_lines.specs.UndumpLaws.{StrictFramesAreUsual, UndumpUndoesDump};
 
 /// A line holds one newline, which is its last byte.
@@ -16,6 +17,11 @@ pub fn lines_have_one_newline()
 /// a limit on payloads has at most so many.
 pub fn lines_are_bounded()
     ensures { LinesAreBounded }
+{}
+
+/// The line of a frame within a limit on payloads has at most 432 bytes and four for each byte of the limit.
+pub fn lines_fit_the_limit()
+    ensures { LinesFitTheLimit }
 {}
 
 /// Two frames that their canonical bytes encode strictly are equal where their lines are.

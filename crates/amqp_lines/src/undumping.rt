@@ -1,8 +1,9 @@
 //! Streams of lines, whose frames are written as their canonical bytes.
 
-ghost use Rattle.std.specs.Prelude.{◌≡◌, ◌-◌, ◌<◌, ◌≤◌, [], Err, drop, length, take, vec_len};
+ghost use Rattle.std.specs.Prelude.{◌≡◌, ◌+◌, ◌-◌, ◌<◌, ◌≤◌, [], Err, drop, length, take, vec_len};
 ghost use Rattle.std.specs.Prelude.{IfErr, IfOk};
 ghost use Rattle.amqp_stream.specs.Ends.{Supply};
+ghost use Rattle.amqp_lines.specs.Lines.{longest_line};
 ghost use Rattle.amqp_lines.specs.LineReading.{EndsLine, GathersLine, GathersLines, HasNoNewline};
 ghost use Rattle.amqp_lines.specs.LineReading.{Decides, PassesLine, ReadsOnce, StopsWith};
 ghost use Rattle.amqp_lines.specs.LineReading.{end_of_text};
@@ -12,7 +13,6 @@ ghost use Rattle.amqp_lines.specs.Undumping.{UndumpRun, read_size};
 use crate::errors::UndumpError;
 use crate::line_reading::LineReader;
 use crate::report::{LinePlace, UndumpReport, unreported_lines};
-use crate::words::write_bytes;
 use amqp_canonical::bytes_from;
 use amqp_stream::{OutputBuffer, Sink, Source, flush, gather};
 use amqp_types::{ChunkSize, NoMemory};
@@ -115,6 +115,21 @@ fn keep_last(held: &mut Vec<u8>, left: usize)
     }
 }
 
+/// Drops all but the first bytes.
+fn keep_first(held: &mut Vec<u8>, most: usize)
+    ensures { held.new.items ≡ take most held.old.items }
+{
+    held.truncate(most);
+}
+
+/// How many bytes of a line are kept before a read: one more than the longest line of a frame has. A longer line is that
+/// of no frame, whatever follows, and only its end is looked for.
+fn most_held(max_payload: ChunkSize) -> usize
+    ensures { result ≡ longest_line max_payload + 1 }
+{
+    4 * (max_payload as usize + 8) + 401
+}
+
 /// Reads once, after the bytes that are held, and returns how many bytes came. None is the end of input.
 fn read_once<S: Source>(
     source: &mut S,
@@ -124,11 +139,12 @@ fn read_once<S: Source>(
     requires { length piece.old.items ≡ read_size }
     ensures reads { ReadsOnce (S.supply source.old)
         (S.supply source.new) held.old.items held.new.items result }
+    ensures few { length held.new.items ≤ length held.old.items + read_size }
     ensures room { length piece.new.items ≡ length piece.old.items }
 {
     match source.read(piece) {
         Err(_) => Err(UndumpError::ReadFault),
-        Ok(count) => match write_bytes(held, &piece[..count]) {
+        Ok(count) => match held.extend_from_slice(&piece[..count]) {
             Err(_) => Err(UndumpError::NoMemory),
             Ok(()) => Ok(count),
         },
@@ -160,26 +176,30 @@ fn end_of_input(held: &[u8]) -> Result<(), UndumpError>
     }
 }
 
-/// What a call holds between two reads, in memory that is used again: a part of a line, the place of this line in the
-/// text, and a piece for a read.
+/// What a call holds between two reads, in memory that is used again: a part of a line, of which at most `most` bytes are
+/// kept before a read, the place of this line in the text, and a piece for a read.
 #[derive(Drop)]
 struct Lines {
     reader: LineReader,
     held: Vec<u8>,
+    most: usize,
     at: LinePlace,
     piece: Vec<u8>,
     ghost room: { vec_len piece ≡ 65536 },
+    ghost few: { vec_len held ≤ most + 65536 },
 }
 
 impl Lines {
     /// Nothing is held yet.
-    fn open(alloc: Global) -> Result<Lines, NoMemory>
+    fn open(alloc: Global, max_payload: ChunkSize) -> Result<Lines, NoMemory>
         ensures held { IfOk result (λ lines. lines.held.items ≡ []) }
+        ensures most { IfOk result (λ lines. lines.most ≡ longest_line max_payload + 1) }
         ensures at { IfOk result (λ lines. lines.at ≡ first_line) }
     {
         Ok(Lines {
             reader: LineReader::open(alloc)?,
             held: Vec::new(alloc),
+            most: most_held(max_payload),
             at: LinePlace::first(),
             piece: vec![in alloc; 0u8; PIECE]?,
         })
@@ -198,8 +218,10 @@ fn run<S: Source, K: Sink>(
 ) -> Result<(), UndumpError>
     requires none { lines.old.held.items ≡ [] }
     requires first { lines.old.at ≡ first_line }
+    requires most { lines.old.most ≡ longest_line max_payload + 1 }
     ensures stream { Decides max_payload budget (S.supply source.old) (S.supply source.new)
         (K.store sink.old) (K.store sink.new) lines.new.at result }
+    ensures few { length lines.new.held.items ≤ longest_line max_payload + 1 + read_size }
     ensures unread { budget ≡ 0 → source.new ≡ source.old }
     ensures spent { budget ≡ 0 → result ≡ Err UndumpError.TurnsSpent }
     ensures unwritten { budget ≡ 0 → sink.new ≡ sink.old }
@@ -229,6 +251,7 @@ fn run<S: Source, K: Sink>(
             Err(error) => return stop(out, sink, error),
             Ok(place) => keep_last(&mut lines.held, place),
         }
+        keep_first(&mut lines.held, lines.most);
         match flush(out, sink) {
             Err(_) => return Err(UndumpError::WriteFault),
             Ok(()) => {}
@@ -238,7 +261,8 @@ fn run<S: Source, K: Sink>(
 
 /// Writes the canonical bytes of the frame of each line of a stream, to the end of input or an error, and reports at
 /// which line that is. `budget` is the read budget: so many reads at most are made, each of 65536 bytes at most. `max_payload` is in
-/// bytes; the line of a longer payload is bad text. Memory is taken for one line and one read.
+/// bytes; the line of a longer payload is bad text. Memory is taken for one line that is no longer than that of any frame
+/// within the limit, and for one read, whatever comes.
 pub fn undump_reported<S: Source, K: Sink>(
     alloc: Global,
     source: &mut S,
@@ -252,7 +276,7 @@ pub fn undump_reported<S: Source, K: Sink>(
         source.old source.new (K.store sink.old) (K.store sink.new)) }
 {
     let first = LinePlace::first();
-    match Lines::open(alloc) {
+    match Lines::open(alloc, max_payload) {
         Err(_) => first.reported(Err(UndumpError::NoMemory)),
         Ok(mut lines) => match OutputBuffer::open(alloc, PIECE) {
             Err(_) => first.reported(Err(UndumpError::NoMemory)),
