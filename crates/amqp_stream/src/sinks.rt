@@ -243,6 +243,13 @@ impl<W: Write> StdSink<W> {
     {
         self.unflushed
     }
+
+    /// The writer.
+    pub fn into_inner(self) -> W
+        ensures { result ≡ self.writer }
+    {
+        self.writer
+    }
 }
 
 impl<W: Write> Sink for StdSink<W> {
