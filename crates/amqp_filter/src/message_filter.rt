@@ -63,7 +63,7 @@ impl<'a> MessageFilter<'a> {
     ghost use Rattle.amqp_wire.specs.Judgements.{IsJudged};
     ghost use Rattle.amqp_wire.specs.Outlines.{outline_of, outline_front};
     ghost use Rattle.amqp_wire.specs.Verdicts.{whole, whole_as};
-    ghost use Rattle.amqp_stream.specs.Decisions.{DecidesBy};
+    ghost use Rattle.amqp_stream.specs.Decisions.{DecidesBy, PassesBy};
     ghost use Rattle.amqp_in_turn.specs.Judging.{JudgesKept};
     ghost use Rattle.amqp_filter.specs.Held.{held_with};
     ghost use Rattle.amqp_filter.specs.Stepping.{filtering, held_at, with_held, StepsTo, KeepsBy};
@@ -224,6 +224,17 @@ impl<'a> MessageFilter<'a> {
             }
         }
     }
+
+    /// The same, as a writer passes a frame.
+    #[inline(always)]
+    fn pass_taken(&mut self, raw: AMQPRawFrame<'_>) -> Result<Option<Decision>, RunError<Refusal>>
+        ensures { PassesBy filtering self.old self.new (raw_of raw.entry) result }
+    {
+        match self.take(raw) {
+            Ok(decision) => Ok(Some(decision)),
+            Err(error) => Err(error),
+        }
+    }
 }
 
 impl<'a> FrameDecider for MessageFilter<'a> {
@@ -235,12 +246,21 @@ impl<'a> FrameDecider for MessageFilter<'a> {
 
     #[inline(always)]
     fn decide(&mut self, raw: AMQPRawFrame<'_>) -> Result<Decision, RunError<Refusal>> {
-        // So the loop has code for each type, without the tests for other types.
+        self.take(raw)
+    }
+
+    // So the loop has code for each type, without the tests for other types. It stands here, and not in `decide`, which is
+    // called from two places: what is large is part of the loop only where that alone calls it.
+    #[inline(always)]
+    fn pass_decided(
+        &mut self,
+        raw: AMQPRawFrame<'_>,
+    ) -> Result<Option<Decision>, RunError<Refusal>> {
         match raw.frame_type {
-            AMQPFrameType::Method => self.take(raw),
-            AMQPFrameType::Header => self.take(raw),
-            AMQPFrameType::Body => self.take(raw),
-            AMQPFrameType::ProtocolHeader | AMQPFrameType::Heartbeat => self.take(raw),
+            AMQPFrameType::Method => self.pass_taken(raw),
+            AMQPFrameType::Header => self.pass_taken(raw),
+            AMQPFrameType::Body => self.pass_taken(raw),
+            AMQPFrameType::ProtocolHeader | AMQPFrameType::Heartbeat => self.pass_taken(raw),
         }
     }
 
