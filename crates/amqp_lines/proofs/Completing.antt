@@ -6,6 +6,7 @@ use Rattle.std.proofs.lemmas.List.{length-append}
 use Rattle.amqp_wire.specs.Frames.{Frame}
 use Rattle.amqp_stream.specs.Ends.{Supply, Store, prepended, IsEmpty}
 use Rattle.amqp_stream.specs.Transcribing.{NoFaults}
+use Rattle.amqp_stream.proofs.Adding.{taken_of}
 use Rattle.amqp_lines.specs.Lines.{line, lines}
 use Rattle.amqp_lines.specs.Undumping.{AreStrict, HoldsNewline, Undumps, IsValidText, IsOkOrNoMemory}
 use Rattle.amqp_lines.specs.declared.errors.UndumpError.{UndumpError}
@@ -96,16 +97,16 @@ complete {m = m} {budget = budget} {a = a} {b = b} {k = k} {l = l} {r = r} bytes
     by_answer (Ok done) u = tt
     by_answer (Err errors.NoMemory) u = tt
     by_answer (Err errors.BadText) u =
-        let is = left_of bytes u.taken b.left (sym left ∙ u.takes.bytes) in
+        let is = left_of bytes u.taken b.left (taken_of left u.takes) in
         none_held m u.rest is.more u.cause (at_none m u.taken u.frames u.rest u.text)
         (after_text m bytes u.taken is.more u.rest u.frames valid.frames valid.are_strict valid.is_text is.parts u.text.parts)
     by_answer (Err errors.CutShort) u =
-        let is = left_of bytes u.taken b.left (sym left ∙ u.takes.bytes) in
+        let is = left_of bytes u.taken b.left (taken_of left u.takes) in
         let after = after_text m bytes u.taken is.more u.rest u.frames valid.frames valid.are_strict valid.is_text is.parts u.text.parts in
         none_cut m u.rest u.cause.0 (at_none m u.taken u.frames u.rest u.text)
         (subst (λ (xs : List ℕ). Others m (u.rest ++ xs)) (empty_left b.left is.more is.is u.cause.2) after)
     by_answer (Err errors.TurnsSpent) u =
-        let is = left_of bytes u.taken b.left (sym left ∙ u.takes.bytes) in
+        let is = left_of bytes u.taken b.left (taken_of left u.takes) in
         omega (arith, valid.enough, u.cause.0, ap length is.parts, length-append u.taken is.more)
     by_answer (Err errors.ReadFault) u = omega (arith, u.cause.0 faults.source_below, faults.source)
     by_answer (Err errors.WriteFault) u = omega (arith, u.cause faults.sink_below, faults.sink)

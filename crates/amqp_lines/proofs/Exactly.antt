@@ -4,6 +4,7 @@ use Rattle.amqp_wire.specs.Frames.{Frame}
 use Rattle.amqp_wire.specs.Canonical.{canon_frames}
 use Rattle.amqp_stream.specs.Ends.{Supply, Store}
 use Rattle.amqp_stream.specs.Writing.{IsPrefix}
+use Rattle.amqp_stream.proofs.Adding.{taken_of}
 use Rattle.amqp_lines.specs.Lines.{lines}
 use Rattle.amqp_lines.specs.LineReading.{Decides}
 use Rattle.amqp_lines.specs.Undumping.{HoldsNewline, IsLongestText, HasCauseUndumped, HasWrittenUndumped, Undumps, IsAnswerToText, UndumpsExactly, UndumpRun}
@@ -139,7 +140,7 @@ module _ {m budget : ℕ} {a b : Supply} {k l : Store} (bytes : List ℕ) where
 
   -- Over a source that reports its bytes, what is returned and written is determined by all of them.
   pub exactly : (r : Result (Unit {0}) UndumpError) → Undumps m budget a b k l r → a.left ≡ Some bytes → UndumpsExactly m bytes k l r
-  exactly r u left = by_answer r u (left_of bytes u.taken b.left (sym left ∙ u.takes.bytes))
+  exactly r u left = by_answer r u (left_of bytes u.taken b.left (taken_of left u.takes))
     where
       by_answer : (r : Result (Unit {0}) UndumpError) (u : Undumps m budget a b k l r) → Left bytes u.taken b.left → UndumpsExactly m bytes k l r
       by_answer (Ok done) u is = to_end (Ok done) u is (empty_left b.left is.more is.is u.cause.1) (u.cause.0, u.writes)

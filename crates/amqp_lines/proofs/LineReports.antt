@@ -5,6 +5,7 @@ use Rattle.std.specs.List.{flat_map}
 use Rattle.std.proofs.lemmas.List.{length-append}
 use Rattle.amqp_wire.specs.Frames.{Frame, Proto, Meth, Head, Body, Beat, BadBeat}
 use Rattle.amqp_stream.specs.Ends.{Supply, Store, last}
+use Rattle.amqp_stream.proofs.Adding.{taken_of}
 use Rattle.amqp_lines.specs.Lines.{words, line, lines}
 use Rattle.amqp_lines.specs.LineReading.{Decides}
 use Rattle.amqp_lines.specs.Undumping.{IsLongestText, UndumpRun}
@@ -70,7 +71,7 @@ module _ {m budget : ℕ} {a b : Supply} {k l : Store} {now : LinePlace} where
   ends_exactly : (error : UndumpError) → Decides m budget a b k l now (Err error) → (bytes : List ℕ) → a.left ≡ Some bytes
       → length bytes ≤ last → EndsExactlyAt m bytes error now.line now.place
   ends_exactly errors.BadText d bytes left fits =
-      let is = left_of bytes d.taken b.left (sym left ∙ d.takes.bytes) in
+      let is = left_of bytes d.taken b.left (taken_of left d.takes) in
       record {
         frames = d.frames;
         rest = d.rest ++ is.more;
@@ -81,7 +82,7 @@ module _ {m budget : ℕ} {a b : Supply} {k l : Store} {now : LinePlace} where
             line_after d.frames d.taken d.rest now d.parts d.passes (omega (arith, fits, ap length is.parts, length-append d.taken is.more));
       }
   ends_exactly errors.CutShort d bytes left fits =
-      let is = left_of bytes d.taken b.left (sym left ∙ d.takes.bytes) in
+      let is = left_of bytes d.taken b.left (taken_of left d.takes) in
       let none = empty_left b.left is.more is.is d.cause.2 in
       record {
         frames = d.frames;

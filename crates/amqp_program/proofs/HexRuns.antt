@@ -20,7 +20,7 @@ use Rattle.amqp_stream.specs.Writing.{WritesAll}
 use Rattle.amqp_stream.specs.Transcribing.{IsSequence, NoFaults, answer_at, answer_to, place_verdict, IsAnswerTo}
 use Rattle.amqp_stream.specs.Canonicalizing.{canon_of, AnswersExactly}
 use Rattle.amqp_stream.specs.declared.sink.SinkFault.{SinkFault}
-use Rattle.amqp_stream.proofs.Adding.{Gains-none}
+use Rattle.amqp_stream.proofs.Adding.{Gains-none, taken_of}
 use Rattle.amqp_stream.proofs.Exactly.{split_of, all_taken}
 use Rattle.amqp_program.specs.declared.text.InputError.TheVariants as errors
 use Rattle.amqp_program.specs.declared.outcome.Outcome.{Outcome}
@@ -112,7 +112,7 @@ runs level a b k l text written reads status takes at_most gains ends = record {
   gains = gains;
   ends = ends;
   accepts = accepts level text written a b k l status ends;
-  complete = λ input e v f. completes level text written input a b k l status ends (sym e ∙ takes.bytes) v f;
+  complete = λ input e v f. completes level text written input a b k l status ends (taken_of e takes) v f;
 }
 
 -- a run that ends with 0, 3 or 5 has no place

@@ -1,11 +1,11 @@
 -- What a writer of the system has after a write and a flush, and what its sink reports.
-use Rattle.std.proofs.Common.{◌≡◌, ◌≤◌, ◌-◌, List, [], ◌++◌, ℕ, length, take, Option, Some, None, refl, sym, ap, ◌∙◌, arith, append-nil}
+use Rattle.std.proofs.Common.{◌≡◌, ◌≤◌, ◌-◌, List, [], ◌++◌, ℕ, length, take, Option, Some, None, sym, ap, ◌∙◌, arith, append-nil}
 use Rattle.std.proofs.Math.Seq.{take-append_seam}
 use Rattle.std.proofs.lemmas.List.{length-append, length-take-le, take_all}
 use Rattle.std.specs.Io.KnownBytes.{Appends, Keeps}
 use Rattle.std.proofs.KnownBytes.{Appends-kept}
-use Rattle.amqp_stream.specs.Ends.{Gains, Grows, Bytes}
-use Rattle.amqp_stream.specs.Scripts.{without_last, store_over}
+use Rattle.amqp_stream.specs.Ends.{Grows, Bytes}
+use Rattle.amqp_stream.specs.Scripts.{without_last}
 
 -- bytes that were appended stay after a flush
 pub flushed : (a b c : Option (List ℕ)) (bytes : List ℕ) → Appends a b bytes → Keeps b c → Appends a c bytes
@@ -17,11 +17,8 @@ failed None b piece h = tt
 failed (Some x) None piece h = absurd h
 failed (Some x) (Some y) piece h = h ∙ sym (append-nil x)
 
-all_but : (n : ℕ) (bytes : List ℕ) → n ≡ 0 → take (length bytes - n) bytes ≡ bytes
-all_but n bytes none = take_all (length bytes - n) bytes (omega arith)
-
 all_of : (bytes : List ℕ) → take (length bytes - 0) bytes ≡ bytes
-all_of bytes = all_but 0 bytes refl
+all_of bytes = take_all (length bytes - 0) bytes (omega arith)
 
 -- What a write took and a flush let through is what the sink got.
 pub all_gained : (a b : Option (List ℕ)) (bytes : List ℕ) → Appends a b bytes → Grows (without_last 0 a) (without_last 0 b) bytes
@@ -40,13 +37,3 @@ none_gained (Some x) (Some y) piece n few h =
     ap (λ (k : ℕ). take k y) len ∙ ap (take (length x)) h ∙ take-append_seam x (take n piece)
     ∙ sym (append-nil (take (length x - 0) x) ∙ all_of x)
     )
-
--- What a sink over a writer gained stands in the writer, after what the writer had, where all is flushed.
-pub stands_after : (a b : Option (List ℕ)) (u v p q : ℕ) (bytes : List ℕ) → u ≡ 0 → v ≡ 0
-    → Gains (store_over a u p) (store_over b v q) bytes → Appends a b bytes
-stands_after None b u v p q bytes first then h = tt
-stands_after (Some x) None u v p q bytes first then h = absurd (let gained = h.bytes in cc)
-stands_after (Some x) (Some y) u v p q bytes first then h =
-    let gained = h.bytes in
-    let same : take (length y - v) y ≡ take (length x - u) x ++ bytes = cc in
-    sym (all_but v y then) ∙ same ∙ ap (λ (xs : List ℕ). xs ++ bytes) (all_but u x first)
