@@ -1,6 +1,6 @@
 //! Tests of streams that cross crates: worked cases, hostile cases, ends that fail, the generated stream, names of
 //! faults, writers of the tests' own, a proxy, a loop over frames, streams that go on from call to call, readers and
-//! writers of the system, where a stream ended, and memory that is refused.
+//! writers of the system, a call into a vector, where a stream ended, and memory that is refused.
 #![tactic(auto)]
 
 #[cfg(test)]
@@ -34,5 +34,6 @@ mod rows;
 mod system;
 #[cfg(test)]
 mod tidy;
+pub mod vector;
 #[cfg(test)]
 mod writers;

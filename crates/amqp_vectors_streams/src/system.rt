@@ -1,10 +1,13 @@
 //! A reader and a writer of the system as source and sink: what no clause says of them.
 
-use crate::asking::HEARTBEAT;
-use amqp_stream::{Sink, SinkFault, Source, SourceFault, StdSink, StdSource};
+use crate::asking::{HEARTBEAT, LIMIT, START, START_IN_ORDER, TWO_HEARTBEATS};
+use crate::vector::canonicalized;
+use amqp_stream::{
+    Sink, SinkFault, Source, SourceFault, StdSink, StdSource, StreamError, canonicalize,
+};
 use amqp_vectors::asking::{same, same_in};
 use std::cell::Cell;
-use std::io::{Error, ErrorKind, Read, Result as IoResult, Write};
+use std::io::{Cursor, Error, ErrorKind, Read, Result as IoResult, Write};
 use std::test::Fail;
 
 /// A writer that takes at most five bytes a call, counts its calls, and fails from so many flushes on.
@@ -39,9 +42,10 @@ const WRITES: &[(Result<usize, SinkFault>, usize, usize)] = &[
     (Ok(5), 5, 5),
     (Ok(5), 10, 10),
     (Err(SinkFault), 15, 10),
+    (Err(SinkFault), 15, 10),
 ];
 
-/// Each write flushes what it wrote, and fails where that does.
+/// Each write flushes what it wrote, and fails where that does. After that nothing is written, and each write fails.
 #[test]
 fn each_write_is_flushed(_rt: HostRuntime) -> Result<(), Fail> {
     let (taken, flushes, flushed) = (Cell::new(0), Cell::new(0), Cell::new(0));
@@ -56,7 +60,37 @@ fn each_write_is_flushed(_rt: HostRuntime) -> Result<(), Fail> {
         same(taken.get(), *written)?;
         same(flushed.get(), *settled)?;
     }
-    same(flushes.get(), 3)
+    same(flushes.get(), 3)?;
+    same(sink.unflushed(), 5)
+}
+
+/// A stream ends with the first write whose flush fails.
+#[test]
+fn a_failed_flush_ends_a_stream(rt: HostRuntime) -> Result<(), Fail> {
+    let (taken, flushes, flushed) = (Cell::new(0), Cell::new(0), Cell::new(0));
+    let mut sink = StdSink::new(Tally {
+        taken: &taken,
+        flushes: &flushes,
+        flushes_taken: &flushed,
+        fails_from: 1,
+    });
+    let mut source = StdSource::new(Cursor::new(TWO_HEARTBEATS));
+    let found = canonicalize(rt.alloc(), &mut source, &mut sink, LIMIT, 100);
+    same(found, Err(StreamError::WriteFault))?;
+    same(taken.get(), 10)?;
+    same(flushed.get(), 5)?;
+    same(sink.unflushed(), 5)
+}
+
+/// What a cursor has from its position on, and what a slice has, is canonicalized into a vector.
+#[test]
+fn a_vector_has_the_canonical_bytes(rt: HostRuntime) -> Result<(), Fail> {
+    let mut cursor = Cursor::new(TWO_HEARTBEATS);
+    cursor.set_position(8);
+    let rest = canonicalized(rt.alloc(), cursor, LIMIT)?;
+    same(rest.as_slice(), HEARTBEAT.as_slice())?;
+    let start = canonicalized(rt.alloc(), START.as_slice(), LIMIT)?;
+    same(start.as_slice(), START_IN_ORDER.as_slice())
 }
 
 /// A reader that gives three bytes a call. A signal interrupts its second, and its fourth would block.
