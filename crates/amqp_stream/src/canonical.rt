@@ -51,6 +51,18 @@ impl FrameDecider for Canonical {
         }
     }
 
+    // As the provided method, which the compiler would leave a call.
+    #[inline(always)]
+    fn pass_decided(
+        &mut self,
+        raw: AMQPRawFrame<'_>,
+    ) -> Result<Option<Decision>, RunError<Infallible>> {
+        match self.decide(raw) {
+            Ok(decision) => Ok(Some(decision)),
+            Err(error) => Err(error),
+        }
+    }
+
     fn finish(&self) -> Result<(), Infallible> {
         Ok(())
     }
@@ -74,6 +86,18 @@ impl FrameDecider for TidyCanonical {
             Ok(judged) if judged.tidy => Ok(Decision::Kept(judged)),
             Ok(_) => Err(RunError::Stream(StreamError::NotTidy)),
             Err(error) => Err(RunError::Stream(payload_error(error))),
+        }
+    }
+
+    // As the provided method, which the compiler would leave a call.
+    #[inline(always)]
+    fn pass_decided(
+        &mut self,
+        raw: AMQPRawFrame<'_>,
+    ) -> Result<Option<Decision>, RunError<Infallible>> {
+        match self.decide(raw) {
+            Ok(decision) => Ok(Some(decision)),
+            Err(error) => Err(error),
         }
     }
 
