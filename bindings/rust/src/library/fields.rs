@@ -144,7 +144,8 @@ impl Found {
 }
 
 /// A frame with the fields of its payload. They are none until the library has read it, so short strings are UTF-8.
-// Options and results are told apart by the type, and what stands before it is moved as one.
+// Options and results are told apart by a bool of what was found, which is looked at where the library has given it: so a frame that is
+// returned is moved once.
 #[repr(C)]
 #[derive(Clone, Copy, Debug)]
 pub struct Fields<'a> {
@@ -363,6 +364,21 @@ mod tests {
         assert_eq!((slots.by_place(&[node(0, 6), node(13, 6)]), slots.found), (Ok(()), 0x2001));
         for other in [node(0, 1), node(14, 6), node(255, 6)] {
             assert_eq!(Slots::default().by_place(&[other]), Err(UNFIT));
+        }
+    }
+
+    #[test]
+    fn fields_are_counted_as_the_library_counts_them() {
+        let ack = [0, 60, 0, 80, 0, 0, 0, 0, 0, 0, 0, 7, 0];
+        let header = [0, 60, 0, 0, 0, 0, 0, 0, 0, 0, 0, 0, 0x90, 4, 1, b'a', 2, 0];
+        let declare = [0, 40, 0, 10, 0, 0, 1, b'e', 1, b't', 0, 0, 0, 0, 0];
+        let kinds = [(FrameType::Method, &ack[..], 2), (FrameType::Method, &declare, 8), (FrameType::Header, &header, 3)];
+        for (frame_type, payload, count) in
+            kinds.into_iter().chain([(FrameType::ProtocolHeader, &[0, 9, 1][..], 3), (FrameType::Body, &ack, 0)])
+        {
+            let mut fields = Fields::unread(frame_type, 0, payload, 0, u32::try_from(payload.len()).unwrap());
+            assert_eq!((fields.read(), fields.count()), (Ok(()), count));
+            assert_eq!(crate::frame::check(frame_type, payload), Ok(fields.summary()));
         }
     }
 }
