@@ -2,7 +2,7 @@
 
 use crate::error::Error;
 use crate::library;
-use crate::library::fields::Fields;
+use crate::library::fields::{Fields, Found};
 use crate::owned::OwnedFrame;
 use crate::payload::Payload;
 use std::fmt;
@@ -113,27 +113,9 @@ impl<'a> Frame<'a> {
     /// bytes follow.
     #[inline]
     pub fn first(bytes: &'a [u8], max_payload: u32) -> Result<Frame<'a>, Error> {
-        // It is read where it is returned, since it is large to move.
-        let mut frame = Frame::unread(bytes, max_payload);
-        if let Ok(found) = &mut frame {
-            if let Err(error) = found.fields.read() {
-                frame = Err(error);
-            }
-        }
-        frame
-    }
-
-    /// The frame in front of some bytes, whose payload is not read.
-    #[inline]
-    fn unread(bytes: &'a [u8], max_payload: u32) -> Result<Frame<'a>, Error> {
-        const UNFIT: Error = Error::Incompatible(0);
-        let outer = library::next(bytes, max_payload);
-        Error::of_status(outer.status)?;
-        let frame_type = FrameType::from_byte(outer.frame_type)?;
-        let bytes = usize::try_from(outer.used).ok().and_then(|used| bytes.get(..used)).ok_or(UNFIT)?;
-        let start = u16::try_from(outer.payload_start).map_err(|_| UNFIT)?;
-        let length = u32::try_from(outer.payload_length).map_err(|_| UNFIT)?;
-        Ok(Frame { fields: Fields::unread(frame_type, outer.channel, bytes, start, length) })
+        let mut found = Found::default();
+        let (bytes, frame_type) = found.first(bytes, max_payload)?;
+        Ok(Frame { fields: Fields::of(bytes, found, frame_type) })
     }
 
     /// The frame that is kept.
@@ -152,14 +134,14 @@ impl<'a> Frame<'a> {
     #[must_use]
     #[inline]
     pub fn frame_type(&self) -> FrameType {
-        self.fields.frame_type
+        self.fields.frame_type()
     }
 
     /// Its channel, 0 for a protocol header.
     #[must_use]
     #[inline]
     pub fn channel(&self) -> u16 {
-        self.fields.channel
+        self.fields.channel()
     }
 
     /// Its payload, of a protocol header the three version bytes.
@@ -312,12 +294,17 @@ impl<'a> Iterator for Frames<'a> {
         if self.ended || self.rest().is_empty() {
             return None;
         }
-        let frame = Some(Frame::first(self.rest(), self.max_payload));
-        match &frame {
-            Some(Ok(frame)) => self.used += frame.bytes().len(),
-            _ => self.ended = true,
-        }
-        frame
+        let rest = self.rest();
+        Some(match Frame::first(rest, self.max_payload) {
+            Ok(frame) => {
+                self.used += frame.bytes().len();
+                Ok(frame)
+            }
+            Err(error) => {
+                self.ended = true;
+                Err(error)
+            }
+        })
     }
 }
 

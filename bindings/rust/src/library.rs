@@ -35,17 +35,21 @@ pub fn open(kind: u8, content: &[u8], nodes: &mut [Node]) -> Fields {
 
 /// Appends what a call puts into the room behind a vector: first into that which is there, and where it is too short, into as much
 /// as the call says. Where it is refused, the vector is as it was.
+// The call stands here once, so that it is written where it is used.
 #[inline]
 pub fn append(out: &mut Vec<u8>, put: impl Fn(&mut [MaybeUninit<u8>]) -> Made) -> Made {
-    const NO_MEMORY: u32 = 3;
     const BUFFER_TOO_SMALL: u32 = 40;
-    let mut made = put(out.spare_capacity_mut());
-    if made.status == BUFFER_TOO_SMALL {
-        let Some(()) = usize::try_from(made.length).ok().and_then(|length| out.try_reserve(length).ok()) else {
-            return Made::refused(NO_MEMORY);
-        };
-        made = put(out.spare_capacity_mut());
-    }
+    let mut is_first = true;
+    let made = loop {
+        let made = put(out.spare_capacity_mut());
+        if made.status != BUFFER_TOO_SMALL || !is_first {
+            break made;
+        }
+        if let Err(error) = make_room(out, made.length) {
+            return refused(error);
+        }
+        is_first = false;
+    };
     if made.status == 0 {
         let length = usize::try_from(made.length).unwrap_or(usize::MAX);
         if length > out.spare_capacity_mut().len() {
@@ -55,6 +59,12 @@ pub fn append(out: &mut Vec<u8>, put: impl Fn(&mut [MaybeUninit<u8>]) -> Made) -
         unsafe { out.set_len(out.len() + length) };
     }
     made
+}
+
+/// Room for so many bytes behind a vector.
+#[cold]
+fn make_room(out: &mut Vec<u8>, length: u64) -> Result<(), Error> {
+    usize::try_from(length).ok().and_then(|length| out.try_reserve(length).ok()).ok_or(Error::NoMemory)
 }
 
 /// What a table says that cannot be handed on.

@@ -53,6 +53,8 @@ use crate::encode::Encode;
 use crate::error::Error;
 use crate::field::{Field, List, Listed};
 use crate::library::fields::Fields;
+use crate::method_info::Built;
+use crate::payload::Payload;
 use crate::put::{Put, To};
 use crate::sys::Made;
 use std::mem::MaybeUninit;
@@ -268,80 +270,92 @@ macro_rules! each {
     };
 }
 
-impl<'a> Method<'a> {
-    /// The method with these fields, whose kinds have to be its own: four bits each, the first one lowest.
-    pub(crate) fn read(fields: &Fields<'a>) -> Result<Method<'a>, Error> {
-        let kinds = fields.kinds();
-        Ok(match fields.ids() {
-            (10, 10) if kinds == 0x77811 => Method::ConnectionStart(ConnectionStart::read(fields)),
-            (10, 11) if kinds == 0x6768 => Method::ConnectionStartOk(ConnectionStartOk::read(fields)),
-            (10, 20) if kinds == 0x7 => Method::ConnectionSecure(ConnectionSecure::read(fields)),
-            (10, 21) if kinds == 0x7 => Method::ConnectionSecureOk(ConnectionSecureOk::read(fields)),
-            (10, 30) if kinds == 0x232 => Method::ConnectionTune(ConnectionTune::read(fields)),
-            (10, 31) if kinds == 0x232 => Method::ConnectionTuneOk(ConnectionTuneOk::read(fields)),
-            (10, 40) if kinds == 0x6 => Method::ConnectionOpen(ConnectionOpen::read(fields)),
-            (10, 41) if kinds == 0x0 => Method::ConnectionOpenOk(ConnectionOpenOk),
-            (10, 50) if kinds == 0x2262 => Method::ConnectionClose(ConnectionClose::read(fields)),
-            (10, 51) if kinds == 0x0 => Method::ConnectionCloseOk(ConnectionCloseOk),
-            (10, 60) if kinds == 0x6 => Method::ConnectionBlocked(ConnectionBlocked::read(fields)),
-            (10, 61) if kinds == 0x0 => Method::ConnectionUnblocked(ConnectionUnblocked),
-            (10, 70) if kinds == 0x67 => Method::ConnectionUpdateSecret(ConnectionUpdateSecret::read(fields)),
-            (10, 71) if kinds == 0x0 => Method::ConnectionUpdateSecretOk(ConnectionUpdateSecretOk),
-            (20, 10) if kinds == 0x0 => Method::ChannelOpen(ChannelOpen),
-            (20, 11) if kinds == 0x0 => Method::ChannelOpenOk(ChannelOpenOk),
-            (20, 20) if kinds == 0x5 => Method::ChannelFlow(ChannelFlow::read(fields)),
-            (20, 21) if kinds == 0x5 => Method::ChannelFlowOk(ChannelFlowOk::read(fields)),
-            (20, 40) if kinds == 0x2262 => Method::ChannelClose(ChannelClose::read(fields)),
-            (20, 41) if kinds == 0x0 => Method::ChannelCloseOk(ChannelCloseOk),
-            (30, 10) if kinds == 0x555556 => Method::AccessRequest(AccessRequest::read(fields)),
-            (30, 11) if kinds == 0x0 => Method::AccessRequestOk(AccessRequestOk),
-            (40, 10) if kinds == 0x85555566 => Method::ExchangeDeclare(ExchangeDeclare::read(fields)),
-            (40, 11) if kinds == 0x0 => Method::ExchangeDeclareOk(ExchangeDeclareOk),
-            (40, 20) if kinds == 0x556 => Method::ExchangeDelete(ExchangeDelete::read(fields)),
-            (40, 21) if kinds == 0x0 => Method::ExchangeDeleteOk(ExchangeDeleteOk),
-            (40, 30) if kinds == 0x85666 => Method::ExchangeBind(ExchangeBind::read(fields)),
-            (40, 31) if kinds == 0x0 => Method::ExchangeBindOk(ExchangeBindOk),
-            (40, 40) if kinds == 0x85666 => Method::ExchangeUnbind(ExchangeUnbind::read(fields)),
-            (40, 51) if kinds == 0x0 => Method::ExchangeUnbindOk(ExchangeUnbindOk),
-            (50, 10) if kinds == 0x8555556 => Method::QueueDeclare(QueueDeclare::read(fields)),
-            (50, 11) if kinds == 0x336 => Method::QueueDeclareOk(QueueDeclareOk::read(fields)),
-            (50, 20) if kinds == 0x85666 => Method::QueueBind(QueueBind::read(fields)),
-            (50, 21) if kinds == 0x0 => Method::QueueBindOk(QueueBindOk),
-            (50, 30) if kinds == 0x56 => Method::QueuePurge(QueuePurge::read(fields)),
-            (50, 31) if kinds == 0x3 => Method::QueuePurgeOk(QueuePurgeOk::read(fields)),
-            (50, 40) if kinds == 0x5556 => Method::QueueDelete(QueueDelete::read(fields)),
-            (50, 41) if kinds == 0x3 => Method::QueueDeleteOk(QueueDeleteOk::read(fields)),
-            (50, 50) if kinds == 0x8666 => Method::QueueUnbind(QueueUnbind::read(fields)),
-            (50, 51) if kinds == 0x0 => Method::QueueUnbindOk(QueueUnbindOk),
-            (60, 10) if kinds == 0x52 => Method::BasicQos(BasicQos::read(fields)),
-            (60, 11) if kinds == 0x0 => Method::BasicQosOk(BasicQosOk),
-            (60, 20) if kinds == 0x8555566 => Method::BasicConsume(BasicConsume::read(fields)),
-            (60, 21) if kinds == 0x6 => Method::BasicConsumeOk(BasicConsumeOk::read(fields)),
-            (60, 30) if kinds == 0x56 => Method::BasicCancel(BasicCancel::read(fields)),
-            (60, 31) if kinds == 0x6 => Method::BasicCancelOk(BasicCancelOk::read(fields)),
-            (60, 40) if kinds == 0x5566 => Method::BasicPublish(BasicPublish::read(fields)),
-            (60, 50) if kinds == 0x6662 => Method::BasicReturn(BasicReturn::read(fields)),
-            (60, 60) if kinds == 0x66546 => Method::BasicDeliver(BasicDeliver::read(fields)),
-            (60, 70) if kinds == 0x56 => Method::BasicGet(BasicGet::read(fields)),
-            (60, 71) if kinds == 0x36654 => Method::BasicGetOk(BasicGetOk::read(fields)),
-            (60, 72) if kinds == 0x0 => Method::BasicGetEmpty(BasicGetEmpty),
-            (60, 80) if kinds == 0x54 => Method::BasicAck(BasicAck::read(fields)),
-            (60, 90) if kinds == 0x54 => Method::BasicReject(BasicReject::read(fields)),
-            (60, 100) if kinds == 0x5 => Method::BasicRecoverAsync(BasicRecoverAsync::read(fields)),
-            (60, 110) if kinds == 0x5 => Method::BasicRecover(BasicRecover::read(fields)),
-            (60, 111) if kinds == 0x0 => Method::BasicRecoverOk(BasicRecoverOk),
-            (60, 120) if kinds == 0x554 => Method::BasicNack(BasicNack::read(fields)),
-            (85, 10) if kinds == 0x5 => Method::ConfirmSelect(ConfirmSelect::read(fields)),
-            (85, 11) if kinds == 0x0 => Method::ConfirmSelectOk(ConfirmSelectOk),
-            (90, 10) if kinds == 0x0 => Method::TxSelect(TxSelect),
-            (90, 11) if kinds == 0x0 => Method::TxSelectOk(TxSelectOk),
-            (90, 20) if kinds == 0x0 => Method::TxCommit(TxCommit),
-            (90, 21) if kinds == 0x0 => Method::TxCommitOk(TxCommitOk),
-            (90, 30) if kinds == 0x0 => Method::TxRollback(TxRollback),
-            (90, 31) if kinds == 0x0 => Method::TxRollbackOk(TxRollbackOk),
+/// A method with spans: a call of its own for each, which writes what it returns where that is wanted.
+#[inline(never)]
+#[allow(clippy::unnecessary_wraps)]
+fn placed<'a, M: Built>(fields: &Fields<'a>) -> Result<Payload<'a>, Error>
+where
+    M::Of<'a>: Into<Method<'a>>,
+{
+    Ok(Payload::Method(M::built(fields).into()))
+}
 
-            _ => return Err(Error::Incompatible(0)),
-        })
+impl<'a> Method<'a> {
+    /// The method with these fields, whose kinds have to be its own: four bits each, the last one lowest.
+    // Each is written where it is returned: one that is chosen first and wrapped then would be moved.
+    #[inline(never)]
+    pub(crate) fn read(fields: &Fields<'a>) -> Result<Payload<'a>, Error> {
+        let kinds = fields.kinds();
+        match fields.ids() {
+            (10, 10) if kinds == 0x11877 => placed::<ConnectionStart<'_>>(fields),
+            (10, 11) if kinds == 0x8676 => placed::<ConnectionStartOk<'_>>(fields),
+            (10, 20) if kinds == 0x7 => placed::<ConnectionSecure<'_>>(fields),
+            (10, 21) if kinds == 0x7 => placed::<ConnectionSecureOk<'_>>(fields),
+            (10, 30) if kinds == 0x232 => Ok(Payload::Method(Method::ConnectionTune(ConnectionTune::read(fields)))),
+            (10, 31) if kinds == 0x232 => Ok(Payload::Method(Method::ConnectionTuneOk(ConnectionTuneOk::read(fields)))),
+            (10, 40) if kinds == 0x6 => placed::<ConnectionOpen<'_>>(fields),
+            (10, 41) if kinds == 0x0 => Ok(Payload::Method(Method::ConnectionOpenOk(ConnectionOpenOk))),
+            (10, 50) if kinds == 0x2622 => placed::<ConnectionClose<'_>>(fields),
+            (10, 51) if kinds == 0x0 => Ok(Payload::Method(Method::ConnectionCloseOk(ConnectionCloseOk))),
+            (10, 60) if kinds == 0x6 => placed::<ConnectionBlocked<'_>>(fields),
+            (10, 61) if kinds == 0x0 => Ok(Payload::Method(Method::ConnectionUnblocked(ConnectionUnblocked))),
+            (10, 70) if kinds == 0x76 => placed::<ConnectionUpdateSecret<'_>>(fields),
+            (10, 71) if kinds == 0x0 => Ok(Payload::Method(Method::ConnectionUpdateSecretOk(ConnectionUpdateSecretOk))),
+            (20, 10) if kinds == 0x0 => Ok(Payload::Method(Method::ChannelOpen(ChannelOpen))),
+            (20, 11) if kinds == 0x0 => Ok(Payload::Method(Method::ChannelOpenOk(ChannelOpenOk))),
+            (20, 20) if kinds == 0x5 => Ok(Payload::Method(Method::ChannelFlow(ChannelFlow::read(fields)))),
+            (20, 21) if kinds == 0x5 => Ok(Payload::Method(Method::ChannelFlowOk(ChannelFlowOk::read(fields)))),
+            (20, 40) if kinds == 0x2622 => placed::<ChannelClose<'_>>(fields),
+            (20, 41) if kinds == 0x0 => Ok(Payload::Method(Method::ChannelCloseOk(ChannelCloseOk))),
+            (30, 10) if kinds == 0x655555 => placed::<AccessRequest<'_>>(fields),
+            (30, 11) if kinds == 0x0 => Ok(Payload::Method(Method::AccessRequestOk(AccessRequestOk))),
+            (40, 10) if kinds == 0x66555558 => placed::<ExchangeDeclare<'_>>(fields),
+            (40, 11) if kinds == 0x0 => Ok(Payload::Method(Method::ExchangeDeclareOk(ExchangeDeclareOk))),
+            (40, 20) if kinds == 0x655 => placed::<ExchangeDelete<'_>>(fields),
+            (40, 21) if kinds == 0x0 => Ok(Payload::Method(Method::ExchangeDeleteOk(ExchangeDeleteOk))),
+            (40, 30) if kinds == 0x66658 => placed::<ExchangeBind<'_>>(fields),
+            (40, 31) if kinds == 0x0 => Ok(Payload::Method(Method::ExchangeBindOk(ExchangeBindOk))),
+            (40, 40) if kinds == 0x66658 => placed::<ExchangeUnbind<'_>>(fields),
+            (40, 51) if kinds == 0x0 => Ok(Payload::Method(Method::ExchangeUnbindOk(ExchangeUnbindOk))),
+            (50, 10) if kinds == 0x6555558 => placed::<QueueDeclare<'_>>(fields),
+            (50, 11) if kinds == 0x633 => placed::<QueueDeclareOk<'_>>(fields),
+            (50, 20) if kinds == 0x66658 => placed::<QueueBind<'_>>(fields),
+            (50, 21) if kinds == 0x0 => Ok(Payload::Method(Method::QueueBindOk(QueueBindOk))),
+            (50, 30) if kinds == 0x65 => placed::<QueuePurge<'_>>(fields),
+            (50, 31) if kinds == 0x3 => Ok(Payload::Method(Method::QueuePurgeOk(QueuePurgeOk::read(fields)))),
+            (50, 40) if kinds == 0x6555 => placed::<QueueDelete<'_>>(fields),
+            (50, 41) if kinds == 0x3 => Ok(Payload::Method(Method::QueueDeleteOk(QueueDeleteOk::read(fields)))),
+            (50, 50) if kinds == 0x6668 => placed::<QueueUnbind<'_>>(fields),
+            (50, 51) if kinds == 0x0 => Ok(Payload::Method(Method::QueueUnbindOk(QueueUnbindOk))),
+            (60, 10) if kinds == 0x25 => Ok(Payload::Method(Method::BasicQos(BasicQos::read(fields)))),
+            (60, 11) if kinds == 0x0 => Ok(Payload::Method(Method::BasicQosOk(BasicQosOk))),
+            (60, 20) if kinds == 0x6655558 => placed::<BasicConsume<'_>>(fields),
+            (60, 21) if kinds == 0x6 => placed::<BasicConsumeOk<'_>>(fields),
+            (60, 30) if kinds == 0x65 => placed::<BasicCancel<'_>>(fields),
+            (60, 31) if kinds == 0x6 => placed::<BasicCancelOk<'_>>(fields),
+            (60, 40) if kinds == 0x6655 => placed::<BasicPublish<'_>>(fields),
+            (60, 50) if kinds == 0x2666 => placed::<BasicReturn<'_>>(fields),
+            (60, 60) if kinds == 0x64566 => placed::<BasicDeliver<'_>>(fields),
+            (60, 70) if kinds == 0x65 => placed::<BasicGet<'_>>(fields),
+            (60, 71) if kinds == 0x45663 => placed::<BasicGetOk<'_>>(fields),
+            (60, 72) if kinds == 0x0 => Ok(Payload::Method(Method::BasicGetEmpty(BasicGetEmpty))),
+            (60, 80) if kinds == 0x45 => Ok(Payload::Method(Method::BasicAck(BasicAck::read(fields)))),
+            (60, 90) if kinds == 0x45 => Ok(Payload::Method(Method::BasicReject(BasicReject::read(fields)))),
+            (60, 100) if kinds == 0x5 => Ok(Payload::Method(Method::BasicRecoverAsync(BasicRecoverAsync::read(fields)))),
+            (60, 110) if kinds == 0x5 => Ok(Payload::Method(Method::BasicRecover(BasicRecover::read(fields)))),
+            (60, 111) if kinds == 0x0 => Ok(Payload::Method(Method::BasicRecoverOk(BasicRecoverOk))),
+            (60, 120) if kinds == 0x455 => Ok(Payload::Method(Method::BasicNack(BasicNack::read(fields)))),
+            (85, 10) if kinds == 0x5 => Ok(Payload::Method(Method::ConfirmSelect(ConfirmSelect::read(fields)))),
+            (85, 11) if kinds == 0x0 => Ok(Payload::Method(Method::ConfirmSelectOk(ConfirmSelectOk))),
+            (90, 10) if kinds == 0x0 => Ok(Payload::Method(Method::TxSelect(TxSelect))),
+            (90, 11) if kinds == 0x0 => Ok(Payload::Method(Method::TxSelectOk(TxSelectOk))),
+            (90, 20) if kinds == 0x0 => Ok(Payload::Method(Method::TxCommit(TxCommit))),
+            (90, 21) if kinds == 0x0 => Ok(Payload::Method(Method::TxCommitOk(TxCommitOk))),
+            (90, 30) if kinds == 0x0 => Ok(Payload::Method(Method::TxRollback(TxRollback))),
+            (90, 31) if kinds == 0x0 => Ok(Payload::Method(Method::TxRollbackOk(TxRollbackOk))),
+
+            _ => Err(Error::Incompatible(0)),
+        }
     }
 
     fn id(&self) -> (u16, u16) {

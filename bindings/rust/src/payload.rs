@@ -39,16 +39,23 @@ impl<'a> Payload<'a> {
         Payload::of(&fields)
     }
 
-    /// What stands in a payload that was read.
+    /// What stands in a payload that was read. Methods and content headers, of which there are the most, are asked for first.
     #[inline]
     pub(crate) fn of(fields: &Fields<'a>) -> Result<Payload<'a>, Error> {
-        Ok(match fields.frame_type {
-            FrameType::Method => Payload::Method(Method::read(fields)?),
-            FrameType::Header => Payload::Header(ContentHeader::read(fields)),
-            FrameType::Body => Payload::Body(fields.payload()),
-            FrameType::Heartbeat => Payload::Heartbeat,
-            FrameType::ProtocolHeader => Payload::ProtocolHeader(ProtocolHeader::read(fields)?),
-        })
+        match fields.frame_type() {
+            FrameType::Method => Method::read(fields),
+            FrameType::Header => Properties::header(fields),
+            _ => Payload::other(fields),
+        }
+    }
+
+    /// What stands in a payload of another type.
+    fn other(fields: &Fields<'a>) -> Result<Payload<'a>, Error> {
+        match fields.frame_type() {
+            FrameType::Body => Ok(Payload::Body(fields.payload())),
+            FrameType::ProtocolHeader => ProtocolHeader::read(fields).map(Payload::ProtocolHeader),
+            _ => Ok(Payload::Heartbeat),
+        }
     }
 }
 
@@ -111,11 +118,6 @@ impl<'a> ContentHeader<'a> {
         const BASIC: u16 = 60;
         ContentHeader { class_id: BASIC, body_size, properties }
     }
-
-    #[inline]
-    fn read(fields: &Fields<'a>) -> ContentHeader<'a> {
-        ContentHeader { class_id: fields.ids().0, body_size: fields.body_size(), properties: Properties::read(fields) }
-    }
 }
 
 impl Encode for ContentHeader<'_> {}
@@ -149,10 +151,11 @@ impl Default for ProtocolHeader {
 
 impl ProtocolHeader {
     fn read(fields: &Fields<'_>) -> Result<ProtocolHeader, Error> {
-        const THREE_OCTETS: u64 = 0x111;
+        const THREE_OCTETS: u32 = 0x111;
         if fields.kinds() != THREE_OCTETS {
             return Err(Error::Incompatible(0));
         }
+        let fields = fields.places();
         Ok(ProtocolHeader { major: fields.octet(0), minor: fields.octet(1), revision: fields.octet(2) })
     }
 }

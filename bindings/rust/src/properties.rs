@@ -2,8 +2,10 @@
 
 // Made by `generate` out of the library's table. Change that, and not this file.
 
+use crate::error::Error;
 use crate::field::{Field, List};
 use crate::library::fields::Fields;
+use crate::payload::{ContentHeader, Payload};
 use crate::table::Table;
 
 /// What is said of a message beside its body. Those that are not set are not sent.
@@ -70,7 +72,11 @@ impl<'a> Properties<'a> {
     /// Their kinds, by their places.
     pub(crate) const KINDS: [u8; 14] = [6, 6, 8, 1, 1, 6, 6, 6, 6, 4, 6, 6, 6, 6];
 
+    /// Those of a content header that was read.
+    // A call of its own, and that of the header beside it: so they are written where the header is wanted.
+    #[inline(never)]
     pub(crate) fn read(fields: &Fields<'a>) -> Properties<'a> {
+        let fields = fields.places();
         let mut properties = Properties::default();
         if fields.has(0) {
             properties.content_type = Some(fields.short_string(0));
@@ -87,34 +93,46 @@ impl<'a> Properties<'a> {
         if fields.has(4) {
             properties.priority = Some(fields.octet(4));
         }
-        if fields.has(5) {
-            properties.correlation_id = Some(fields.short_string(5));
+        if fields.has_any(5..9) {
+            if fields.has(5) {
+                properties.correlation_id = Some(fields.short_string(5));
+            }
+            if fields.has(6) {
+                properties.reply_to = Some(fields.short_string(6));
+            }
+            if fields.has(7) {
+                properties.expiration = Some(fields.short_string(7));
+            }
+            if fields.has(8) {
+                properties.message_id = Some(fields.short_string(8));
+            }
         }
-        if fields.has(6) {
-            properties.reply_to = Some(fields.short_string(6));
-        }
-        if fields.has(7) {
-            properties.expiration = Some(fields.short_string(7));
-        }
-        if fields.has(8) {
-            properties.message_id = Some(fields.short_string(8));
-        }
-        if fields.has(9) {
-            properties.timestamp = Some(fields.long_long(9));
-        }
-        if fields.has(10) {
-            properties.kind = Some(fields.short_string(10));
-        }
-        if fields.has(11) {
-            properties.user_id = Some(fields.short_string(11));
-        }
-        if fields.has(12) {
-            properties.app_id = Some(fields.short_string(12));
-        }
-        if fields.has(13) {
-            properties.cluster_id = Some(fields.short_string(13));
+        if fields.has_any(9..14) {
+            if fields.has(9) {
+                properties.timestamp = Some(fields.long_long(9));
+            }
+            if fields.has(10) {
+                properties.kind = Some(fields.short_string(10));
+            }
+            if fields.has(11) {
+                properties.user_id = Some(fields.short_string(11));
+            }
+            if fields.has(12) {
+                properties.app_id = Some(fields.short_string(12));
+            }
+            if fields.has(13) {
+                properties.cluster_id = Some(fields.short_string(13));
+            }
         }
         properties
+    }
+
+    /// The content header that was read, as what stands in a frame.
+    #[inline(never)]
+    #[allow(clippy::unnecessary_wraps)]
+    pub(crate) fn header(fields: &Fields<'a>) -> Result<Payload<'a>, Error> {
+        let properties = Properties::read(fields);
+        Ok(Payload::Header(ContentHeader { class_id: fields.ids().0, body_size: fields.body_size(), properties }))
     }
 
     pub(crate) fn list(&self) -> List<'a> {

@@ -7,9 +7,13 @@ use crate::properties::Properties;
 use crate::sys::{self, Node};
 use crate::table::Table;
 use std::mem::MaybeUninit;
+use std::ops::Range;
 
 /// An answer that does not fit what was asked: no status says so.
 const UNFIT: Error = Error::Incompatible(0);
+
+/// The most fields of a method. Four bits for each are one number.
+const MOST_OF_A_METHOD: usize = 8;
 
 /// The fields by their places, in little room, since frames are moved about.
 #[repr(C)]
@@ -18,28 +22,29 @@ struct Slots {
     /// A number of at most four bytes, or where in the payload a string or table begins.
     numbers: [u32; MOST_FIELDS],
     /// The upper half of the number of eight bytes: no method has two, and of the properties one is such.
-    upper: u64,
-    /// Of a content header, a bit for each property that is set, the first one lowest; else the kinds of the fields, four bits each.
-    found: u64,
+    upper: u32,
+    /// Of a content header, a bit for each property that is set, the first one lowest; else the kinds of the fields, four bits each, the
+    /// last one lowest.
+    found: u32,
 }
 
 impl Slots {
     /// Takes as many nodes as a frame other than a content header has.
     #[inline]
     fn in_order(&mut self, nodes: &[Node]) {
-        let (mut upper, mut kinds) = (0, 0);
-        for (place, (slot, node)) in self.numbers.iter_mut().zip(nodes).enumerate() {
+        let (mut all, mut kinds) = (0, 0);
+        for (slot, node) in self.numbers.iter_mut().zip(nodes) {
             *slot = packed(node);
-            upper |= node.number >> 32;
-            kinds |= u64::from(node.kind & 15) << (4 * place);
+            all |= node.number;
+            kinds = kinds << 4 | u32::from(node.kind);
         }
-        (self.upper, self.found) = (upper, kinds);
+        (self.upper, self.found) = (upper(all), kinds);
     }
 
     /// Takes the properties that are set.
     #[inline]
     fn by_place(&mut self, nodes: &[Node]) -> Result<(), Error> {
-        let (mut upper, mut set) = (0, 0);
+        let (mut all, mut set) = (0, 0);
         for node in nodes {
             let place = usize::from(node.place);
             let (Some(slot), Some(kind)) = (self.numbers.get_mut(place), Properties::KINDS.get(place)) else { return Err(UNFIT) };
@@ -47,10 +52,10 @@ impl Slots {
                 return Err(UNFIT);
             }
             *slot = packed(node);
-            upper |= node.number >> 32;
+            all |= node.number;
             set |= 1 << place;
         }
-        (self.upper, self.found) = (upper, set);
+        (self.upper, self.found) = (upper(all), set);
         Ok(())
     }
 }
@@ -62,105 +67,148 @@ fn packed(node: &Node) -> u32 {
     node.number as u32 | node.start
 }
 
+/// What stands at a place that is beyond the payload, as the library gives none.
+#[cold]
+fn nothing<'a>() -> &'a [u8] {
+    &[]
+}
+
+/// The upper half of all numbers, of which one has some at most.
+#[inline]
+#[allow(clippy::cast_possible_truncation)]
+fn upper(all: u64) -> u32 {
+    (all >> 32) as u32
+}
+
+/// What was found of a frame beside its bytes and its type.
+#[repr(C)]
+#[derive(Clone, Copy, Debug, Default)]
+pub struct Found {
+    slots: Slots,
+    body_size: u64,
+    payload_start: u32,
+    payload_length: u32,
+    class_id: u16,
+    method_id: u16,
+    channel: u16,
+    is_canonical: bool,
+    is_tidy: bool,
+}
+
+impl Found {
+    /// The payload, where the bytes have it.
+    #[inline]
+    fn payload<'a>(&self, bytes: &'a [u8]) -> Option<&'a [u8]> {
+        let start = usize::try_from(self.payload_start).ok()?;
+        bytes.get(start..usize::try_from(self.payload_length).ok()?.saturating_add(start))
+    }
+
+    /// Reads the frame in front of some bytes, with a payload of at most so many, and gives its bytes and its type.
+    #[inline]
+    pub fn first<'a>(&mut self, bytes: &'a [u8], max_payload: u32) -> Result<(&'a [u8], FrameType), Error> {
+        let outer = super::next(bytes, max_payload);
+        Error::of_status(outer.status)?;
+        let frame_type = FrameType::from_byte(outer.frame_type)?;
+        let bytes = usize::try_from(outer.used).ok().and_then(|used| bytes.get(..used)).ok_or(UNFIT)?;
+        self.payload_start = outer.payload_start;
+        self.payload_length = u32::try_from(outer.payload_length).map_err(|_| UNFIT)?;
+        self.channel = outer.channel;
+        self.read(frame_type, bytes)?;
+        Ok((bytes, frame_type))
+    }
+
+    /// Reads the payload, without what lies inside its tables. Where that is refused, it stays unread.
+    #[inline]
+    fn read(&mut self, frame_type: FrameType, bytes: &[u8]) -> Result<(), Error> {
+        const SHALLOW: u8 = 0;
+        let payload = self.payload(bytes).ok_or(UNFIT)?;
+        let mut nodes = [MaybeUninit::<Node>::uninit(); MOST_FIELDS];
+        let pointer = nodes.as_mut_ptr().cast::<Node>();
+        // SAFETY: pointers and lengths are those of the slices, which do not overlap.
+        let read = unsafe { sys::feksroum_read(frame_type as u8, payload.as_ptr(), payload.len(), SHALLOW, pointer, MOST_FIELDS) };
+        if read.status != 0 {
+            return Err(Error::of_payload(read.status, payload));
+        }
+        let count = usize::try_from(read.nodes).unwrap_or(usize::MAX);
+        // SAFETY: at status 0 the library has written so many nodes, no more than `most`, for which there is room.
+        let given = |most| (count <= most).then(|| unsafe { std::slice::from_raw_parts(pointer, count) }).ok_or(UNFIT);
+        if frame_type == FrameType::Header {
+            self.slots.by_place(given(MOST_FIELDS)?)?;
+        } else {
+            self.slots.in_order(given(MOST_OF_A_METHOD)?);
+        }
+        (self.body_size, self.class_id, self.method_id) = (read.body_size, read.class_id, read.method_id);
+        (self.is_canonical, self.is_tidy) = (read.canonical, read.tidy);
+        Ok(())
+    }
+}
+
 /// A frame with the fields of its payload. They are none until the library has read it, so short strings are UTF-8.
-// The type comes last: options and results are told apart by it, and what stands before it is moved as one.
+// Options and results are told apart by a bool of what was found, which is looked at where the library has given it: so a frame that is
+// returned is moved once.
 #[repr(C)]
 #[derive(Clone, Copy, Debug)]
 pub struct Fields<'a> {
     bytes: &'a [u8],
-    slots: Slots,
-    body_size: u64,
-    payload_length: u32,
-    class_id: u16,
-    method_id: u16,
-    pub channel: u16,
-    payload_start: u16,
-    /// How many fields there are.
-    count: u8,
-    is_canonical: u8,
-    is_tidy: u8,
-    pub frame_type: FrameType,
+    found: Found,
+    frame_type: FrameType,
 }
 
 impl<'a> Fields<'a> {
-    /// Those of a frame that was not read, with its payload at this place in its bytes.
+    /// Those of a frame with these bytes, in which this was found.
     #[inline]
+    pub fn of(bytes: &'a [u8], found: Found, frame_type: FrameType) -> Fields<'a> {
+        Fields { bytes, found, frame_type }
+    }
+
+    /// Those of a frame that was not read, with its payload at this place in its bytes.
     pub fn unread(frame_type: FrameType, channel: u16, bytes: &'a [u8], payload_start: u16, payload_length: u32) -> Fields<'a> {
-        Fields {
-            bytes,
-            slots: Slots::default(),
-            body_size: 0,
-            payload_length,
-            class_id: 0,
-            method_id: 0,
-            channel,
-            payload_start,
-            count: 0,
-            is_canonical: 0,
-            is_tidy: 0,
-            frame_type,
-        }
+        Fields { bytes, found: Found { channel, payload_start: payload_start.into(), payload_length, ..Found::default() }, frame_type }
     }
 
     /// Reads the payload, without what lies inside its tables. Where that is refused, it stays unread.
-    // In place, since a result with all fields would be moved about.
-    #[inline]
-    #[allow(clippy::cast_possible_truncation)]
     pub fn read(&mut self) -> Result<(), Error> {
-        const SHALLOW: u8 = 0;
-        let payload = self.found_payload().ok_or(UNFIT)?;
-        let mut nodes = [MaybeUninit::<Node>::uninit(); MOST_FIELDS];
-        let (pointer, frame_type) = (nodes.as_mut_ptr().cast::<Node>(), self.frame_type as u8);
-        // SAFETY: pointers and lengths are those of the slices, which do not overlap.
-        let found = unsafe { sys::feksroum_read(frame_type, payload.as_ptr(), payload.len(), SHALLOW, pointer, MOST_FIELDS) };
-        if found.status != 0 {
-            return Err(Error::of_payload(found.status, payload));
-        }
-        let count = usize::try_from(found.nodes).ok().filter(|count| *count <= MOST_FIELDS).ok_or(UNFIT)?;
-        // SAFETY: at status 0 the library has written so many nodes, no more than there is room for.
-        let nodes = unsafe { std::slice::from_raw_parts(pointer, count) };
-        if self.frame_type == FrameType::Header {
-            self.slots.by_place(nodes)?;
-        } else {
-            self.slots.in_order(nodes);
-        }
-        (self.body_size, self.class_id, self.method_id) = (found.body_size, found.class_id, found.method_id);
-        (self.count, self.is_canonical, self.is_tidy) = (count as u8, found.canonical.into(), found.tidy.into());
-        Ok(())
+        self.found.read(self.frame_type, self.bytes)
     }
 
-    /// The payload, where the bytes have it.
     #[inline]
-    fn found_payload(&self) -> Option<&'a [u8]> {
-        self.bytes.get(self.payload_start.into()..)?.get(..usize::try_from(self.payload_length).ok()?)
+    pub fn frame_type(&self) -> FrameType {
+        self.frame_type
     }
-}
 
-// A kind says how wide a number is.
-#[allow(clippy::cast_possible_truncation)]
-impl<'a> Fields<'a> {
+    #[inline]
+    pub fn channel(&self) -> u16 {
+        self.found.channel
+    }
+
     /// What stands in the payload beside the fields, and how many these are.
-    #[inline]
     pub fn summary(&self) -> Summary {
-        let Fields { body_size, class_id, method_id, count, .. } = *self;
-        Summary { class_id, method_id, body_size, fields: count, canonical: self.is_canonical(), tidy: self.is_tidy != 0 }
+        let Found { body_size, class_id, method_id, is_canonical, is_tidy, .. } = self.found;
+        Summary { class_id, method_id, body_size, fields: self.count(), canonical: is_canonical, tidy: is_tidy }
+    }
+
+    /// How many fields there are: each kind is a digit other than 0.
+    #[allow(clippy::cast_possible_truncation)]
+    fn count(&self) -> u8 {
+        let found = self.found.slots.found;
+        (if self.frame_type == FrameType::Header { found.count_ones() } else { (u32::BITS - found.leading_zeros()).div_ceil(4) }) as u8
     }
 
     /// The size of the body that a content header announces.
     #[inline]
     pub fn body_size(&self) -> u64 {
-        self.body_size
+        self.found.body_size
     }
 
     /// The class of a method or a content header, and the method in it.
     #[inline]
     pub fn ids(&self) -> (u16, u16) {
-        (self.class_id, self.method_id)
+        (self.found.class_id, self.found.method_id)
     }
 
     #[inline]
     pub fn is_canonical(&self) -> bool {
-        self.is_canonical != 0
+        self.found.is_canonical
     }
 
     /// All bytes of the frame.
@@ -171,96 +219,120 @@ impl<'a> Fields<'a> {
 
     #[inline]
     pub fn payload(&self) -> &'a [u8] {
-        self.found_payload().unwrap_or_default()
+        self.found.payload(self.bytes).unwrap_or_else(nothing)
     }
 
-    /// The kinds, four bits each, the first one lowest.
+    /// The kinds, four bits each, the last one lowest.
     #[inline]
-    pub fn kinds(&self) -> u64 {
-        self.slots.found
+    pub fn kinds(&self) -> u32 {
+        self.found.slots.found
     }
 
+    /// The fields, each by its place.
+    #[inline]
+    pub fn places(&self) -> Places<'_, 'a> {
+        Places { payload: self.payload(), slots: &self.found.slots }
+    }
+
+    /// The same with bytes of its own.
+    pub fn into_owned(self) -> OwnedFields {
+        OwnedFields { bytes: self.bytes.into(), found: self.found, frame_type: self.frame_type }
+    }
+}
+
+/// The fields of a payload, each by its place.
+#[derive(Clone, Copy, Debug)]
+pub struct Places<'f, 'a> {
+    payload: &'a [u8],
+    slots: &'f Slots,
+}
+
+// A kind says how wide a number is.
+#[allow(clippy::cast_possible_truncation)]
+impl<'a> Places<'_, 'a> {
     /// Whether the property at this place is set.
     #[inline]
-    pub fn has(&self, place: usize) -> bool {
+    pub fn has(self, place: usize) -> bool {
         self.slots.found >> place & 1 != 0
+    }
+
+    /// Whether one of the properties at these places is set.
+    #[inline]
+    pub fn has_any(self, mut places: Range<usize>) -> bool {
+        places.any(|place| self.has(place))
     }
 
     /// A number of at most four bytes, or where a string or table begins.
     #[inline]
-    pub fn long(&self, place: usize) -> u32 {
+    pub fn long(self, place: usize) -> u32 {
         self.slots.numbers.get(place).copied().unwrap_or_default()
     }
 
     #[inline]
-    pub fn octet(&self, place: usize) -> u8 {
+    pub fn octet(self, place: usize) -> u8 {
         self.long(place) as u8
     }
 
     #[inline]
-    pub fn short(&self, place: usize) -> u16 {
+    pub fn short(self, place: usize) -> u16 {
         self.long(place) as u16
     }
 
     /// The one number of eight bytes.
     #[inline]
-    pub fn long_long(&self, place: usize) -> u64 {
-        self.slots.upper << 32 | u64::from(self.long(place))
+    pub fn long_long(self, place: usize) -> u64 {
+        u64::from(self.slots.upper) << 32 | u64::from(self.long(place))
     }
 
     #[inline]
-    pub fn flag(&self, place: usize) -> bool {
+    pub fn flag(self, place: usize) -> bool {
         self.long(place) != 0
     }
 
     /// A short string: the caller has seen its kind.
     #[inline]
-    pub fn short_string(&self, place: usize) -> &'a str {
-        let (payload, start) = (self.payload(), self.start(place));
-        let length = payload.get(start.wrapping_sub(1)).copied().unwrap_or_default();
-        let span = payload.get(start..start.saturating_add(length.into())).unwrap_or_default();
-        // SAFETY: it begins where a short string does in a payload that the library has read, and has as many bytes as stands before it,
-        // so it is that string, which is UTF-8.
-        unsafe { std::str::from_utf8_unchecked(span) }
+    pub fn short_string(self, place: usize) -> &'a str {
+        let start = self.start(place);
+        // SAFETY: the library has read the payload, and says that a short string begins there. So the byte before it is its length, it
+        // lies in the payload, and it is UTF-8.
+        unsafe {
+            let length = usize::from(*self.payload.get_unchecked(start - 1));
+            std::str::from_utf8_unchecked(self.payload.get_unchecked(start..start + length))
+        }
     }
 
     #[inline]
-    pub fn long_string(&self, place: usize) -> &'a [u8] {
-        let (payload, start) = (self.payload(), self.start(place));
-        let Some(&[a, b, c, d]) = payload.get(start.wrapping_sub(4)..start) else { return &[] };
+    pub fn long_string(self, place: usize) -> &'a [u8] {
+        let start = self.start(place);
+        let Some(&[a, b, c, d]) = self.payload.get(start.wrapping_sub(4)..start) else { return &[] };
         let length = usize::try_from(u32::from_be_bytes([a, b, c, d])).unwrap_or(usize::MAX);
-        payload.get(start..start.saturating_add(length)).unwrap_or_default()
+        self.payload.get(start..start.saturating_add(length)).unwrap_or_else(nothing)
     }
 
     /// Where a string or table begins.
     #[inline]
-    fn start(&self, place: usize) -> usize {
+    fn start(self, place: usize) -> usize {
         usize::try_from(self.long(place)).unwrap_or(usize::MAX)
     }
 
     #[inline]
-    pub fn table(&self, place: usize) -> Table<'a> {
+    pub fn table(self, place: usize) -> Table<'a> {
         Table::accepted(self.long_string(place))
-    }
-
-    /// The same with bytes of its own.
-    pub fn into_owned(self) -> OwnedFields {
-        OwnedFields { bytes: self.bytes.into(), fields: Fields { bytes: &[], ..self } }
     }
 }
 
-/// The same with bytes of its own.
+/// A frame with bytes of its own.
 #[derive(Clone, Debug)]
 pub struct OwnedFields {
     bytes: Box<[u8]>,
-    /// With none.
-    fields: Fields<'static>,
+    found: Found,
+    frame_type: FrameType,
 }
 
 impl OwnedFields {
     #[inline]
     pub fn fields(&self) -> Fields<'_> {
-        Fields { bytes: &self.bytes, ..self.fields }
+        Fields { bytes: &self.bytes, found: self.found, frame_type: self.frame_type }
     }
 }
 
@@ -292,6 +364,21 @@ mod tests {
         assert_eq!((slots.by_place(&[node(0, 6), node(13, 6)]), slots.found), (Ok(()), 0x2001));
         for other in [node(0, 1), node(14, 6), node(255, 6)] {
             assert_eq!(Slots::default().by_place(&[other]), Err(UNFIT));
+        }
+    }
+
+    #[test]
+    fn fields_are_counted_as_the_library_counts_them() {
+        let ack = [0, 60, 0, 80, 0, 0, 0, 0, 0, 0, 0, 7, 0];
+        let header = [0, 60, 0, 0, 0, 0, 0, 0, 0, 0, 0, 0, 0x90, 4, 1, b'a', 2, 0];
+        let declare = [0, 40, 0, 10, 0, 0, 1, b'e', 1, b't', 0, 0, 0, 0, 0];
+        let kinds = [(FrameType::Method, &ack[..], 2), (FrameType::Method, &declare, 8), (FrameType::Header, &header, 3)];
+        for (frame_type, payload, count) in
+            kinds.into_iter().chain([(FrameType::ProtocolHeader, &[0, 9, 1][..], 3), (FrameType::Body, &ack, 0)])
+        {
+            let mut fields = Fields::unread(frame_type, 0, payload, 0, u32::try_from(payload.len()).unwrap());
+            assert_eq!((fields.read(), fields.count()), (Ok(()), count));
+            assert_eq!(crate::frame::check(frame_type, payload), Ok(fields.summary()));
         }
     }
 }

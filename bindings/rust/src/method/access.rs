@@ -27,7 +27,9 @@ pub struct AccessRequest<'a> {
 }
 
 impl<'a> AccessRequest<'a> {
+    #[inline]
     pub(crate) fn read(fields: &Fields<'a>) -> Self {
+        let fields = fields.places();
         AccessRequest {
             realm: fields.short_string(0),
             exclusive: fields.flag(1),
@@ -48,6 +50,7 @@ impl MethodInfo for AccessRequest<'_> {
 impl Built for AccessRequest<'_> {
     type Of<'a> = AccessRequest<'a>;
 
+    #[inline]
     fn built<'a>(fields: &Fields<'a>) -> AccessRequest<'a> {
         AccessRequest::read(fields)
     }
@@ -83,6 +86,7 @@ impl MethodInfo for AccessRequestOk {
 impl Built for AccessRequestOk {
     type Of<'a> = AccessRequestOk;
 
+    #[inline]
     fn built(_: &Fields<'_>) -> AccessRequestOk {
         AccessRequestOk
     }

@@ -20,7 +20,9 @@ pub struct BasicQos {
 }
 
 impl BasicQos {
+    #[inline]
     pub(crate) fn read(fields: &Fields<'_>) -> Self {
+        let fields = fields.places();
         BasicQos { prefetch_count: fields.short(0), global: fields.flag(1) }
     }
 }
@@ -34,6 +36,7 @@ impl MethodInfo for BasicQos {
 impl Built for BasicQos {
     type Of<'a> = BasicQos;
 
+    #[inline]
     fn built(fields: &Fields<'_>) -> BasicQos {
         BasicQos::read(fields)
     }
@@ -62,6 +65,7 @@ impl MethodInfo for BasicQosOk {
 impl Built for BasicQosOk {
     type Of<'a> = BasicQosOk;
 
+    #[inline]
     fn built(_: &Fields<'_>) -> BasicQosOk {
         BasicQosOk
     }
@@ -97,7 +101,9 @@ pub struct BasicConsume<'a> {
 }
 
 impl<'a> BasicConsume<'a> {
+    #[inline]
     pub(crate) fn read(fields: &Fields<'a>) -> Self {
+        let fields = fields.places();
         BasicConsume {
             queue: fields.short_string(0),
             consumer_tag: fields.short_string(1),
@@ -119,6 +125,7 @@ impl MethodInfo for BasicConsume<'_> {
 impl Built for BasicConsume<'_> {
     type Of<'a> = BasicConsume<'a>;
 
+    #[inline]
     fn built<'a>(fields: &Fields<'a>) -> BasicConsume<'a> {
         BasicConsume::read(fields)
     }
@@ -150,7 +157,9 @@ pub struct BasicConsumeOk<'a> {
 }
 
 impl<'a> BasicConsumeOk<'a> {
+    #[inline]
     pub(crate) fn read(fields: &Fields<'a>) -> Self {
+        let fields = fields.places();
         BasicConsumeOk { consumer_tag: fields.short_string(0) }
     }
 }
@@ -164,6 +173,7 @@ impl MethodInfo for BasicConsumeOk<'_> {
 impl Built for BasicConsumeOk<'_> {
     type Of<'a> = BasicConsumeOk<'a>;
 
+    #[inline]
     fn built<'a>(fields: &Fields<'a>) -> BasicConsumeOk<'a> {
         BasicConsumeOk::read(fields)
     }
@@ -189,7 +199,9 @@ pub struct BasicCancel<'a> {
 }
 
 impl<'a> BasicCancel<'a> {
+    #[inline]
     pub(crate) fn read(fields: &Fields<'a>) -> Self {
+        let fields = fields.places();
         BasicCancel { consumer_tag: fields.short_string(0), no_wait: fields.flag(1) }
     }
 }
@@ -203,6 +215,7 @@ impl MethodInfo for BasicCancel<'_> {
 impl Built for BasicCancel<'_> {
     type Of<'a> = BasicCancel<'a>;
 
+    #[inline]
     fn built<'a>(fields: &Fields<'a>) -> BasicCancel<'a> {
         BasicCancel::read(fields)
     }
@@ -226,7 +239,9 @@ pub struct BasicCancelOk<'a> {
 }
 
 impl<'a> BasicCancelOk<'a> {
+    #[inline]
     pub(crate) fn read(fields: &Fields<'a>) -> Self {
+        let fields = fields.places();
         BasicCancelOk { consumer_tag: fields.short_string(0) }
     }
 }
@@ -240,6 +255,7 @@ impl MethodInfo for BasicCancelOk<'_> {
 impl Built for BasicCancelOk<'_> {
     type Of<'a> = BasicCancelOk<'a>;
 
+    #[inline]
     fn built<'a>(fields: &Fields<'a>) -> BasicCancelOk<'a> {
         BasicCancelOk::read(fields)
     }
@@ -269,7 +285,9 @@ pub struct BasicPublish<'a> {
 }
 
 impl<'a> BasicPublish<'a> {
+    #[inline]
     pub(crate) fn read(fields: &Fields<'a>) -> Self {
+        let fields = fields.places();
         BasicPublish {
             exchange: fields.short_string(0),
             routing_key: fields.short_string(1),
@@ -288,6 +306,7 @@ impl MethodInfo for BasicPublish<'_> {
 impl Built for BasicPublish<'_> {
     type Of<'a> = BasicPublish<'a>;
 
+    #[inline]
     fn built<'a>(fields: &Fields<'a>) -> BasicPublish<'a> {
         BasicPublish::read(fields)
     }
@@ -322,7 +341,9 @@ pub struct BasicReturn<'a> {
 }
 
 impl<'a> BasicReturn<'a> {
+    #[inline]
     pub(crate) fn read(fields: &Fields<'a>) -> Self {
+        let fields = fields.places();
         BasicReturn {
             reply_code: fields.short(0),
             reply_text: fields.short_string(1),
@@ -341,6 +362,7 @@ impl MethodInfo for BasicReturn<'_> {
 impl Built for BasicReturn<'_> {
     type Of<'a> = BasicReturn<'a>;
 
+    #[inline]
     fn built<'a>(fields: &Fields<'a>) -> BasicReturn<'a> {
         BasicReturn::read(fields)
     }
@@ -377,7 +399,9 @@ pub struct BasicDeliver<'a> {
 }
 
 impl<'a> BasicDeliver<'a> {
+    #[inline]
     pub(crate) fn read(fields: &Fields<'a>) -> Self {
+        let fields = fields.places();
         BasicDeliver {
             consumer_tag: fields.short_string(0),
             delivery_tag: fields.long_long(1),
@@ -397,6 +421,7 @@ impl MethodInfo for BasicDeliver<'_> {
 impl Built for BasicDeliver<'_> {
     type Of<'a> = BasicDeliver<'a>;
 
+    #[inline]
     fn built<'a>(fields: &Fields<'a>) -> BasicDeliver<'a> {
         BasicDeliver::read(fields)
     }
@@ -428,7 +453,9 @@ pub struct BasicGet<'a> {
 }
 
 impl<'a> BasicGet<'a> {
+    #[inline]
     pub(crate) fn read(fields: &Fields<'a>) -> Self {
+        let fields = fields.places();
         BasicGet { queue: fields.short_string(0), no_ack: fields.flag(1) }
     }
 }
@@ -442,6 +469,7 @@ impl MethodInfo for BasicGet<'_> {
 impl Built for BasicGet<'_> {
     type Of<'a> = BasicGet<'a>;
 
+    #[inline]
     fn built<'a>(fields: &Fields<'a>) -> BasicGet<'a> {
         BasicGet::read(fields)
     }
@@ -473,7 +501,9 @@ pub struct BasicGetOk<'a> {
 }
 
 impl<'a> BasicGetOk<'a> {
+    #[inline]
     pub(crate) fn read(fields: &Fields<'a>) -> Self {
+        let fields = fields.places();
         BasicGetOk {
             delivery_tag: fields.long_long(0),
             redelivered: fields.flag(1),
@@ -493,6 +523,7 @@ impl MethodInfo for BasicGetOk<'_> {
 impl Built for BasicGetOk<'_> {
     type Of<'a> = BasicGetOk<'a>;
 
+    #[inline]
     fn built<'a>(fields: &Fields<'a>) -> BasicGetOk<'a> {
         BasicGetOk::read(fields)
     }
@@ -527,6 +558,7 @@ impl MethodInfo for BasicGetEmpty {
 impl Built for BasicGetEmpty {
     type Of<'a> = BasicGetEmpty;
 
+    #[inline]
     fn built(_: &Fields<'_>) -> BasicGetEmpty {
         BasicGetEmpty
     }
@@ -552,7 +584,9 @@ pub struct BasicAck {
 }
 
 impl BasicAck {
+    #[inline]
     pub(crate) fn read(fields: &Fields<'_>) -> Self {
+        let fields = fields.places();
         BasicAck { delivery_tag: fields.long_long(0), multiple: fields.flag(1) }
     }
 }
@@ -566,6 +600,7 @@ impl MethodInfo for BasicAck {
 impl Built for BasicAck {
     type Of<'a> = BasicAck;
 
+    #[inline]
     fn built(fields: &Fields<'_>) -> BasicAck {
         BasicAck::read(fields)
     }
@@ -591,7 +626,9 @@ pub struct BasicReject {
 }
 
 impl BasicReject {
+    #[inline]
     pub(crate) fn read(fields: &Fields<'_>) -> Self {
+        let fields = fields.places();
         BasicReject { delivery_tag: fields.long_long(0), requeue: fields.flag(1) }
     }
 }
@@ -605,6 +642,7 @@ impl MethodInfo for BasicReject {
 impl Built for BasicReject {
     type Of<'a> = BasicReject;
 
+    #[inline]
     fn built(fields: &Fields<'_>) -> BasicReject {
         BasicReject::read(fields)
     }
@@ -628,7 +666,9 @@ pub struct BasicRecoverAsync {
 }
 
 impl BasicRecoverAsync {
+    #[inline]
     pub(crate) fn read(fields: &Fields<'_>) -> Self {
+        let fields = fields.places();
         BasicRecoverAsync { requeue: fields.flag(0) }
     }
 }
@@ -642,6 +682,7 @@ impl MethodInfo for BasicRecoverAsync {
 impl Built for BasicRecoverAsync {
     type Of<'a> = BasicRecoverAsync;
 
+    #[inline]
     fn built(fields: &Fields<'_>) -> BasicRecoverAsync {
         BasicRecoverAsync::read(fields)
     }
@@ -665,7 +706,9 @@ pub struct BasicRecover {
 }
 
 impl BasicRecover {
+    #[inline]
     pub(crate) fn read(fields: &Fields<'_>) -> Self {
+        let fields = fields.places();
         BasicRecover { requeue: fields.flag(0) }
     }
 }
@@ -679,6 +722,7 @@ impl MethodInfo for BasicRecover {
 impl Built for BasicRecover {
     type Of<'a> = BasicRecover;
 
+    #[inline]
     fn built(fields: &Fields<'_>) -> BasicRecover {
         BasicRecover::read(fields)
     }
@@ -707,6 +751,7 @@ impl MethodInfo for BasicRecoverOk {
 impl Built for BasicRecoverOk {
     type Of<'a> = BasicRecoverOk;
 
+    #[inline]
     fn built(_: &Fields<'_>) -> BasicRecoverOk {
         BasicRecoverOk
     }
@@ -734,7 +779,9 @@ pub struct BasicNack {
 }
 
 impl BasicNack {
+    #[inline]
     pub(crate) fn read(fields: &Fields<'_>) -> Self {
+        let fields = fields.places();
         BasicNack { delivery_tag: fields.long_long(0), multiple: fields.flag(1), requeue: fields.flag(2) }
     }
 }
@@ -748,6 +795,7 @@ impl MethodInfo for BasicNack {
 impl Built for BasicNack {
     type Of<'a> = BasicNack;
 
+    #[inline]
     fn built(fields: &Fields<'_>) -> BasicNack {
         BasicNack::read(fields)
     }

@@ -22,6 +22,7 @@ impl MethodInfo for ChannelOpen {
 impl Built for ChannelOpen {
     type Of<'a> = ChannelOpen;
 
+    #[inline]
     fn built(_: &Fields<'_>) -> ChannelOpen {
         ChannelOpen
     }
@@ -50,6 +51,7 @@ impl MethodInfo for ChannelOpenOk {
 impl Built for ChannelOpenOk {
     type Of<'a> = ChannelOpenOk;
 
+    #[inline]
     fn built(_: &Fields<'_>) -> ChannelOpenOk {
         ChannelOpenOk
     }
@@ -73,7 +75,9 @@ pub struct ChannelFlow {
 }
 
 impl ChannelFlow {
+    #[inline]
     pub(crate) fn read(fields: &Fields<'_>) -> Self {
+        let fields = fields.places();
         ChannelFlow { active: fields.flag(0) }
     }
 }
@@ -87,6 +91,7 @@ impl MethodInfo for ChannelFlow {
 impl Built for ChannelFlow {
     type Of<'a> = ChannelFlow;
 
+    #[inline]
     fn built(fields: &Fields<'_>) -> ChannelFlow {
         ChannelFlow::read(fields)
     }
@@ -110,7 +115,9 @@ pub struct ChannelFlowOk {
 }
 
 impl ChannelFlowOk {
+    #[inline]
     pub(crate) fn read(fields: &Fields<'_>) -> Self {
+        let fields = fields.places();
         ChannelFlowOk { active: fields.flag(0) }
     }
 }
@@ -124,6 +131,7 @@ impl MethodInfo for ChannelFlowOk {
 impl Built for ChannelFlowOk {
     type Of<'a> = ChannelFlowOk;
 
+    #[inline]
     fn built(fields: &Fields<'_>) -> ChannelFlowOk {
         ChannelFlowOk::read(fields)
     }
@@ -153,7 +161,9 @@ pub struct ChannelClose<'a> {
 }
 
 impl<'a> ChannelClose<'a> {
+    #[inline]
     pub(crate) fn read(fields: &Fields<'a>) -> Self {
+        let fields = fields.places();
         ChannelClose {
             reply_code: fields.short(0),
             reply_text: fields.short_string(1),
@@ -172,6 +182,7 @@ impl MethodInfo for ChannelClose<'_> {
 impl Built for ChannelClose<'_> {
     type Of<'a> = ChannelClose<'a>;
 
+    #[inline]
     fn built<'a>(fields: &Fields<'a>) -> ChannelClose<'a> {
         ChannelClose::read(fields)
     }
@@ -205,6 +216,7 @@ impl MethodInfo for ChannelCloseOk {
 impl Built for ChannelCloseOk {
     type Of<'a> = ChannelCloseOk;
 
+    #[inline]
     fn built(_: &Fields<'_>) -> ChannelCloseOk {
         ChannelCloseOk
     }

@@ -17,7 +17,9 @@ pub struct ConfirmSelect {
 }
 
 impl ConfirmSelect {
+    #[inline]
     pub(crate) fn read(fields: &Fields<'_>) -> Self {
+        let fields = fields.places();
         ConfirmSelect { nowait: fields.flag(0) }
     }
 }
@@ -31,6 +33,7 @@ impl MethodInfo for ConfirmSelect {
 impl Built for ConfirmSelect {
     type Of<'a> = ConfirmSelect;
 
+    #[inline]
     fn built(fields: &Fields<'_>) -> ConfirmSelect {
         ConfirmSelect::read(fields)
     }
@@ -59,6 +62,7 @@ impl MethodInfo for ConfirmSelectOk {
 impl Built for ConfirmSelectOk {
     type Of<'a> = ConfirmSelectOk;
 
+    #[inline]
     fn built(_: &Fields<'_>) -> ConfirmSelectOk {
         ConfirmSelectOk
     }

@@ -26,7 +26,9 @@ pub struct ConnectionStart<'a> {
 }
 
 impl<'a> ConnectionStart<'a> {
+    #[inline]
     pub(crate) fn read(fields: &Fields<'a>) -> Self {
+        let fields = fields.places();
         ConnectionStart {
             version_major: fields.octet(0),
             version_minor: fields.octet(1),
@@ -46,6 +48,7 @@ impl MethodInfo for ConnectionStart<'_> {
 impl Built for ConnectionStart<'_> {
     type Of<'a> = ConnectionStart<'a>;
 
+    #[inline]
     fn built<'a>(fields: &Fields<'a>) -> ConnectionStart<'a> {
         ConnectionStart::read(fields)
     }
@@ -81,7 +84,9 @@ pub struct ConnectionStartOk<'a> {
 }
 
 impl<'a> ConnectionStartOk<'a> {
+    #[inline]
     pub(crate) fn read(fields: &Fields<'a>) -> Self {
+        let fields = fields.places();
         ConnectionStartOk {
             client_properties: fields.table(0),
             mechanism: fields.short_string(1),
@@ -100,6 +105,7 @@ impl MethodInfo for ConnectionStartOk<'_> {
 impl Built for ConnectionStartOk<'_> {
     type Of<'a> = ConnectionStartOk<'a>;
 
+    #[inline]
     fn built<'a>(fields: &Fields<'a>) -> ConnectionStartOk<'a> {
         ConnectionStartOk::read(fields)
     }
@@ -128,7 +134,9 @@ pub struct ConnectionSecure<'a> {
 }
 
 impl<'a> ConnectionSecure<'a> {
+    #[inline]
     pub(crate) fn read(fields: &Fields<'a>) -> Self {
+        let fields = fields.places();
         ConnectionSecure { challenge: fields.long_string(0) }
     }
 }
@@ -142,6 +150,7 @@ impl MethodInfo for ConnectionSecure<'_> {
 impl Built for ConnectionSecure<'_> {
     type Of<'a> = ConnectionSecure<'a>;
 
+    #[inline]
     fn built<'a>(fields: &Fields<'a>) -> ConnectionSecure<'a> {
         ConnectionSecure::read(fields)
     }
@@ -165,7 +174,9 @@ pub struct ConnectionSecureOk<'a> {
 }
 
 impl<'a> ConnectionSecureOk<'a> {
+    #[inline]
     pub(crate) fn read(fields: &Fields<'a>) -> Self {
+        let fields = fields.places();
         ConnectionSecureOk { response: fields.long_string(0) }
     }
 }
@@ -179,6 +190,7 @@ impl MethodInfo for ConnectionSecureOk<'_> {
 impl Built for ConnectionSecureOk<'_> {
     type Of<'a> = ConnectionSecureOk<'a>;
 
+    #[inline]
     fn built<'a>(fields: &Fields<'a>) -> ConnectionSecureOk<'a> {
         ConnectionSecureOk::read(fields)
     }
@@ -206,7 +218,9 @@ pub struct ConnectionTune {
 }
 
 impl ConnectionTune {
+    #[inline]
     pub(crate) fn read(fields: &Fields<'_>) -> Self {
+        let fields = fields.places();
         ConnectionTune { channel_max: fields.short(0), frame_max: fields.long(1), heartbeat: fields.short(2) }
     }
 }
@@ -220,6 +234,7 @@ impl MethodInfo for ConnectionTune {
 impl Built for ConnectionTune {
     type Of<'a> = ConnectionTune;
 
+    #[inline]
     fn built(fields: &Fields<'_>) -> ConnectionTune {
         ConnectionTune::read(fields)
     }
@@ -247,7 +262,9 @@ pub struct ConnectionTuneOk {
 }
 
 impl ConnectionTuneOk {
+    #[inline]
     pub(crate) fn read(fields: &Fields<'_>) -> Self {
+        let fields = fields.places();
         ConnectionTuneOk { channel_max: fields.short(0), frame_max: fields.long(1), heartbeat: fields.short(2) }
     }
 }
@@ -261,6 +278,7 @@ impl MethodInfo for ConnectionTuneOk {
 impl Built for ConnectionTuneOk {
     type Of<'a> = ConnectionTuneOk;
 
+    #[inline]
     fn built(fields: &Fields<'_>) -> ConnectionTuneOk {
         ConnectionTuneOk::read(fields)
     }
@@ -284,7 +302,9 @@ pub struct ConnectionOpen<'a> {
 }
 
 impl<'a> ConnectionOpen<'a> {
+    #[inline]
     pub(crate) fn read(fields: &Fields<'a>) -> Self {
+        let fields = fields.places();
         ConnectionOpen { virtual_host: fields.short_string(0) }
     }
 }
@@ -298,6 +318,7 @@ impl MethodInfo for ConnectionOpen<'_> {
 impl Built for ConnectionOpen<'_> {
     type Of<'a> = ConnectionOpen<'a>;
 
+    #[inline]
     fn built<'a>(fields: &Fields<'a>) -> ConnectionOpen<'a> {
         ConnectionOpen::read(fields)
     }
@@ -326,6 +347,7 @@ impl MethodInfo for ConnectionOpenOk {
 impl Built for ConnectionOpenOk {
     type Of<'a> = ConnectionOpenOk;
 
+    #[inline]
     fn built(_: &Fields<'_>) -> ConnectionOpenOk {
         ConnectionOpenOk
     }
@@ -355,7 +377,9 @@ pub struct ConnectionClose<'a> {
 }
 
 impl<'a> ConnectionClose<'a> {
+    #[inline]
     pub(crate) fn read(fields: &Fields<'a>) -> Self {
+        let fields = fields.places();
         ConnectionClose {
             reply_code: fields.short(0),
             reply_text: fields.short_string(1),
@@ -374,6 +398,7 @@ impl MethodInfo for ConnectionClose<'_> {
 impl Built for ConnectionClose<'_> {
     type Of<'a> = ConnectionClose<'a>;
 
+    #[inline]
     fn built<'a>(fields: &Fields<'a>) -> ConnectionClose<'a> {
         ConnectionClose::read(fields)
     }
@@ -407,6 +432,7 @@ impl MethodInfo for ConnectionCloseOk {
 impl Built for ConnectionCloseOk {
     type Of<'a> = ConnectionCloseOk;
 
+    #[inline]
     fn built(_: &Fields<'_>) -> ConnectionCloseOk {
         ConnectionCloseOk
     }
@@ -430,7 +456,9 @@ pub struct ConnectionBlocked<'a> {
 }
 
 impl<'a> ConnectionBlocked<'a> {
+    #[inline]
     pub(crate) fn read(fields: &Fields<'a>) -> Self {
+        let fields = fields.places();
         ConnectionBlocked { reason: fields.short_string(0) }
     }
 }
@@ -444,6 +472,7 @@ impl MethodInfo for ConnectionBlocked<'_> {
 impl Built for ConnectionBlocked<'_> {
     type Of<'a> = ConnectionBlocked<'a>;
 
+    #[inline]
     fn built<'a>(fields: &Fields<'a>) -> ConnectionBlocked<'a> {
         ConnectionBlocked::read(fields)
     }
@@ -472,6 +501,7 @@ impl MethodInfo for ConnectionUnblocked {
 impl Built for ConnectionUnblocked {
     type Of<'a> = ConnectionUnblocked;
 
+    #[inline]
     fn built(_: &Fields<'_>) -> ConnectionUnblocked {
         ConnectionUnblocked
     }
@@ -497,7 +527,9 @@ pub struct ConnectionUpdateSecret<'a> {
 }
 
 impl<'a> ConnectionUpdateSecret<'a> {
+    #[inline]
     pub(crate) fn read(fields: &Fields<'a>) -> Self {
+        let fields = fields.places();
         ConnectionUpdateSecret { new_secret: fields.long_string(0), reason: fields.short_string(1) }
     }
 }
@@ -511,6 +543,7 @@ impl MethodInfo for ConnectionUpdateSecret<'_> {
 impl Built for ConnectionUpdateSecret<'_> {
     type Of<'a> = ConnectionUpdateSecret<'a>;
 
+    #[inline]
     fn built<'a>(fields: &Fields<'a>) -> ConnectionUpdateSecret<'a> {
         ConnectionUpdateSecret::read(fields)
     }
@@ -539,6 +572,7 @@ impl MethodInfo for ConnectionUpdateSecretOk {
 impl Built for ConnectionUpdateSecretOk {
     type Of<'a> = ConnectionUpdateSecretOk;
 
+    #[inline]
     fn built(_: &Fields<'_>) -> ConnectionUpdateSecretOk {
         ConnectionUpdateSecretOk
     }

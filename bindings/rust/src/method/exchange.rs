@@ -32,7 +32,9 @@ pub struct ExchangeDeclare<'a> {
 }
 
 impl<'a> ExchangeDeclare<'a> {
+    #[inline]
     pub(crate) fn read(fields: &Fields<'a>) -> Self {
+        let fields = fields.places();
         ExchangeDeclare {
             exchange: fields.short_string(0),
             kind: fields.short_string(1),
@@ -56,6 +58,7 @@ impl MethodInfo for ExchangeDeclare<'_> {
 impl Built for ExchangeDeclare<'_> {
     type Of<'a> = ExchangeDeclare<'a>;
 
+    #[inline]
     fn built<'a>(fields: &Fields<'a>) -> ExchangeDeclare<'a> {
         ExchangeDeclare::read(fields)
     }
@@ -93,6 +96,7 @@ impl MethodInfo for ExchangeDeclareOk {
 impl Built for ExchangeDeclareOk {
     type Of<'a> = ExchangeDeclareOk;
 
+    #[inline]
     fn built(_: &Fields<'_>) -> ExchangeDeclareOk {
         ExchangeDeclareOk
     }
@@ -120,7 +124,9 @@ pub struct ExchangeDelete<'a> {
 }
 
 impl<'a> ExchangeDelete<'a> {
+    #[inline]
     pub(crate) fn read(fields: &Fields<'a>) -> Self {
+        let fields = fields.places();
         ExchangeDelete { exchange: fields.short_string(0), if_unused: fields.flag(1), no_wait: fields.flag(2) }
     }
 }
@@ -134,6 +140,7 @@ impl MethodInfo for ExchangeDelete<'_> {
 impl Built for ExchangeDelete<'_> {
     type Of<'a> = ExchangeDelete<'a>;
 
+    #[inline]
     fn built<'a>(fields: &Fields<'a>) -> ExchangeDelete<'a> {
         ExchangeDelete::read(fields)
     }
@@ -162,6 +169,7 @@ impl MethodInfo for ExchangeDeleteOk {
 impl Built for ExchangeDeleteOk {
     type Of<'a> = ExchangeDeleteOk;
 
+    #[inline]
     fn built(_: &Fields<'_>) -> ExchangeDeleteOk {
         ExchangeDeleteOk
     }
@@ -193,7 +201,9 @@ pub struct ExchangeBind<'a> {
 }
 
 impl<'a> ExchangeBind<'a> {
+    #[inline]
     pub(crate) fn read(fields: &Fields<'a>) -> Self {
+        let fields = fields.places();
         ExchangeBind {
             destination: fields.short_string(0),
             source: fields.short_string(1),
@@ -213,6 +223,7 @@ impl MethodInfo for ExchangeBind<'_> {
 impl Built for ExchangeBind<'_> {
     type Of<'a> = ExchangeBind<'a>;
 
+    #[inline]
     fn built<'a>(fields: &Fields<'a>) -> ExchangeBind<'a> {
         ExchangeBind::read(fields)
     }
@@ -247,6 +258,7 @@ impl MethodInfo for ExchangeBindOk {
 impl Built for ExchangeBindOk {
     type Of<'a> = ExchangeBindOk;
 
+    #[inline]
     fn built(_: &Fields<'_>) -> ExchangeBindOk {
         ExchangeBindOk
     }
@@ -278,7 +290,9 @@ pub struct ExchangeUnbind<'a> {
 }
 
 impl<'a> ExchangeUnbind<'a> {
+    #[inline]
     pub(crate) fn read(fields: &Fields<'a>) -> Self {
+        let fields = fields.places();
         ExchangeUnbind {
             destination: fields.short_string(0),
             source: fields.short_string(1),
@@ -298,6 +312,7 @@ impl MethodInfo for ExchangeUnbind<'_> {
 impl Built for ExchangeUnbind<'_> {
     type Of<'a> = ExchangeUnbind<'a>;
 
+    #[inline]
     fn built<'a>(fields: &Fields<'a>) -> ExchangeUnbind<'a> {
         ExchangeUnbind::read(fields)
     }
@@ -332,6 +347,7 @@ impl MethodInfo for ExchangeUnbindOk {
 impl Built for ExchangeUnbindOk {
     type Of<'a> = ExchangeUnbindOk;
 
+    #[inline]
     fn built(_: &Fields<'_>) -> ExchangeUnbindOk {
         ExchangeUnbindOk
     }

@@ -30,7 +30,9 @@ pub struct QueueDeclare<'a> {
 }
 
 impl<'a> QueueDeclare<'a> {
+    #[inline]
     pub(crate) fn read(fields: &Fields<'a>) -> Self {
+        let fields = fields.places();
         QueueDeclare {
             queue: fields.short_string(0),
             passive: fields.flag(1),
@@ -52,6 +54,7 @@ impl MethodInfo for QueueDeclare<'_> {
 impl Built for QueueDeclare<'_> {
     type Of<'a> = QueueDeclare<'a>;
 
+    #[inline]
     fn built<'a>(fields: &Fields<'a>) -> QueueDeclare<'a> {
         QueueDeclare::read(fields)
     }
@@ -87,7 +90,9 @@ pub struct QueueDeclareOk<'a> {
 }
 
 impl<'a> QueueDeclareOk<'a> {
+    #[inline]
     pub(crate) fn read(fields: &Fields<'a>) -> Self {
+        let fields = fields.places();
         QueueDeclareOk { queue: fields.short_string(0), message_count: fields.long(1), consumer_count: fields.long(2) }
     }
 }
@@ -101,6 +106,7 @@ impl MethodInfo for QueueDeclareOk<'_> {
 impl Built for QueueDeclareOk<'_> {
     type Of<'a> = QueueDeclareOk<'a>;
 
+    #[inline]
     fn built<'a>(fields: &Fields<'a>) -> QueueDeclareOk<'a> {
         QueueDeclareOk::read(fields)
     }
@@ -132,7 +138,9 @@ pub struct QueueBind<'a> {
 }
 
 impl<'a> QueueBind<'a> {
+    #[inline]
     pub(crate) fn read(fields: &Fields<'a>) -> Self {
+        let fields = fields.places();
         QueueBind {
             queue: fields.short_string(0),
             exchange: fields.short_string(1),
@@ -152,6 +160,7 @@ impl MethodInfo for QueueBind<'_> {
 impl Built for QueueBind<'_> {
     type Of<'a> = QueueBind<'a>;
 
+    #[inline]
     fn built<'a>(fields: &Fields<'a>) -> QueueBind<'a> {
         QueueBind::read(fields)
     }
@@ -186,6 +195,7 @@ impl MethodInfo for QueueBindOk {
 impl Built for QueueBindOk {
     type Of<'a> = QueueBindOk;
 
+    #[inline]
     fn built(_: &Fields<'_>) -> QueueBindOk {
         QueueBindOk
     }
@@ -211,7 +221,9 @@ pub struct QueuePurge<'a> {
 }
 
 impl<'a> QueuePurge<'a> {
+    #[inline]
     pub(crate) fn read(fields: &Fields<'a>) -> Self {
+        let fields = fields.places();
         QueuePurge { queue: fields.short_string(0), no_wait: fields.flag(1) }
     }
 }
@@ -225,6 +237,7 @@ impl MethodInfo for QueuePurge<'_> {
 impl Built for QueuePurge<'_> {
     type Of<'a> = QueuePurge<'a>;
 
+    #[inline]
     fn built<'a>(fields: &Fields<'a>) -> QueuePurge<'a> {
         QueuePurge::read(fields)
     }
@@ -248,7 +261,9 @@ pub struct QueuePurgeOk {
 }
 
 impl QueuePurgeOk {
+    #[inline]
     pub(crate) fn read(fields: &Fields<'_>) -> Self {
+        let fields = fields.places();
         QueuePurgeOk { message_count: fields.long(0) }
     }
 }
@@ -262,6 +277,7 @@ impl MethodInfo for QueuePurgeOk {
 impl Built for QueuePurgeOk {
     type Of<'a> = QueuePurgeOk;
 
+    #[inline]
     fn built(fields: &Fields<'_>) -> QueuePurgeOk {
         QueuePurgeOk::read(fields)
     }
@@ -291,7 +307,9 @@ pub struct QueueDelete<'a> {
 }
 
 impl<'a> QueueDelete<'a> {
+    #[inline]
     pub(crate) fn read(fields: &Fields<'a>) -> Self {
+        let fields = fields.places();
         QueueDelete { queue: fields.short_string(0), if_unused: fields.flag(1), if_empty: fields.flag(2), no_wait: fields.flag(3) }
     }
 }
@@ -305,6 +323,7 @@ impl MethodInfo for QueueDelete<'_> {
 impl Built for QueueDelete<'_> {
     type Of<'a> = QueueDelete<'a>;
 
+    #[inline]
     fn built<'a>(fields: &Fields<'a>) -> QueueDelete<'a> {
         QueueDelete::read(fields)
     }
@@ -333,7 +352,9 @@ pub struct QueueDeleteOk {
 }
 
 impl QueueDeleteOk {
+    #[inline]
     pub(crate) fn read(fields: &Fields<'_>) -> Self {
+        let fields = fields.places();
         QueueDeleteOk { message_count: fields.long(0) }
     }
 }
@@ -347,6 +368,7 @@ impl MethodInfo for QueueDeleteOk {
 impl Built for QueueDeleteOk {
     type Of<'a> = QueueDeleteOk;
 
+    #[inline]
     fn built(fields: &Fields<'_>) -> QueueDeleteOk {
         QueueDeleteOk::read(fields)
     }
@@ -376,7 +398,9 @@ pub struct QueueUnbind<'a> {
 }
 
 impl<'a> QueueUnbind<'a> {
+    #[inline]
     pub(crate) fn read(fields: &Fields<'a>) -> Self {
+        let fields = fields.places();
         QueueUnbind {
             queue: fields.short_string(0),
             exchange: fields.short_string(1),
@@ -395,6 +419,7 @@ impl MethodInfo for QueueUnbind<'_> {
 impl Built for QueueUnbind<'_> {
     type Of<'a> = QueueUnbind<'a>;
 
+    #[inline]
     fn built<'a>(fields: &Fields<'a>) -> QueueUnbind<'a> {
         QueueUnbind::read(fields)
     }
@@ -428,6 +453,7 @@ impl MethodInfo for QueueUnbindOk {
 impl Built for QueueUnbindOk {
     type Of<'a> = QueueUnbindOk;
 
+    #[inline]
     fn built(_: &Fields<'_>) -> QueueUnbindOk {
         QueueUnbindOk
     }

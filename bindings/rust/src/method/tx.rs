@@ -22,6 +22,7 @@ impl MethodInfo for TxSelect {
 impl Built for TxSelect {
     type Of<'a> = TxSelect;
 
+    #[inline]
     fn built(_: &Fields<'_>) -> TxSelect {
         TxSelect
     }
@@ -50,6 +51,7 @@ impl MethodInfo for TxSelectOk {
 impl Built for TxSelectOk {
     type Of<'a> = TxSelectOk;
 
+    #[inline]
     fn built(_: &Fields<'_>) -> TxSelectOk {
         TxSelectOk
     }
@@ -78,6 +80,7 @@ impl MethodInfo for TxCommit {
 impl Built for TxCommit {
     type Of<'a> = TxCommit;
 
+    #[inline]
     fn built(_: &Fields<'_>) -> TxCommit {
         TxCommit
     }
@@ -106,6 +109,7 @@ impl MethodInfo for TxCommitOk {
 impl Built for TxCommitOk {
     type Of<'a> = TxCommitOk;
 
+    #[inline]
     fn built(_: &Fields<'_>) -> TxCommitOk {
         TxCommitOk
     }
@@ -134,6 +138,7 @@ impl MethodInfo for TxRollback {
 impl Built for TxRollback {
     type Of<'a> = TxRollback;
 
+    #[inline]
     fn built(_: &Fields<'_>) -> TxRollback {
         TxRollback
     }
@@ -162,6 +167,7 @@ impl MethodInfo for TxRollbackOk {
 impl Built for TxRollbackOk {
     type Of<'a> = TxRollbackOk;
 
+    #[inline]
     fn built(_: &Fields<'_>) -> TxRollbackOk {
         TxRollbackOk
     }
