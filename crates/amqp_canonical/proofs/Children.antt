@@ -27,7 +27,7 @@ use Rattle.std.specs.declared.cmp.Ordering.{Ordering}
 use Rattle.std.specs.declared.cmp.Ordering.TheVariants.{Less, Equal, Greater}
 use Rattle.amqp_canonical.specs.Judgements.{IsAbove, IsBelow, AreCanonicalValues, AreCanonicalEntries, Fills}
 use Rattle.amqp_canonical.specs.Writes.{entry_bytes}
-use Rattle.amqp_canonical.proofs.Placed.{all_at_last}
+use Rattle.amqp_canonical.proofs.LastOfEachKey.{all_at_last}
 
 -- ---- the values up to a place, and what is said of them
 -- the values up to a place, and whether their bytes are canonical

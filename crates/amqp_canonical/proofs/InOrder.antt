@@ -22,7 +22,7 @@ use Rattle.amqp_canonical.specs.Leads.{key_at}
 use Rattle.amqp_canonical.specs.Marks.{entry_at, marked_entry, entries_in, AreRead, AreMarks, AreInOrder, AreOfTable, Follows, blank, ties, last_of_ties}
 use Rattle.amqp_canonical.specs.Places.{Precedes, ArePlaced}
 use Rattle.amqp_canonical.specs.declared.marks.EntryMark.{EntryMark}
-use Rattle.amqp_canonical.proofs.Placed.{settled_in_order}
+use Rattle.amqp_canonical.proofs.LastOfEachKey.{settled_in_order}
 use Rattle.amqp_canonical.proofs.ReadParts.{entry_key}
 
 -- what holds of each holds of each in a weaker form

@@ -3,7 +3,7 @@ pub mod Refusing
 pub mod Children
 pub mod TagBytes
 pub mod AfterTag
-pub mod Whole
+pub mod Filled
 pub mod Strict
 pub mod Joining
 pub mod Forms
@@ -11,7 +11,7 @@ pub mod Constants
 pub mod OneSlot
 pub mod MethodWalk
 pub mod Properties
-pub mod Placed
+pub mod LastOfEachKey
 pub mod ReadParts
 pub mod Sizes
 pub mod InOrder
@@ -20,7 +20,7 @@ pub mod Above
 pub mod Marking
 pub mod NextKey
 pub mod Putting
-pub mod Written
+pub mod PutByLoops
 pub mod PutParts
 pub mod SlotParts
 pub mod PutSoFar

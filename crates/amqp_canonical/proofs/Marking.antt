@@ -11,7 +11,7 @@ use Rattle.amqp_canonical.specs.Writes.{IsRead, IsFilled, items_of}
 use Rattle.amqp_canonical.specs.Marks.{entry_at, judged_entry, marked_entry, entries_in, AreEntries, AreRead, AreMarks}
 use Rattle.amqp_canonical.specs.Places.{Precedes, ArePlaced}
 use Rattle.amqp_canonical.specs.declared.marks.EntryMark.{EntryMark}
-use Rattle.amqp_canonical.proofs.Placed.{all_push, placed_last}
+use Rattle.amqp_canonical.proofs.LastOfEachKey.{all_push, placed_last}
 use Rattle.amqp_canonical.proofs.InOrder.{each_weaker}
 use Rattle.amqp_canonical.proofs.ReadParts.{is_read, first_entry, none_filled}
 use Rattle.amqp_types.specs.Tidiness.{used_by}

@@ -54,7 +54,7 @@ fn any_ten(key: &[u8]) -> (u64, u16)
 }
 
 /// The first eight bytes of a key as a number, and the two after them, with zeros after a shorter key. Most keys have as
-/// many, and take one test.
+/// many, or one less, and take no call.
 #[inline(always)]
 pub(crate) fn first_ten(key: &[u8]) -> (u64, u16)
     ensures first { result.0 ≡ leading 8 key.now }
@@ -64,6 +64,10 @@ pub(crate) fn first_ten(key: &[u8]) -> (u64, u16)
         [a, b, c, d, e, f, g, h, i, j, ..] => (
             u64::from_be_bytes([*a, *b, *c, *d, *e, *f, *g, *h]),
             u16::from_be_bytes([*i, *j]),
+        ),
+        [a, b, c, d, e, f, g, h, i] => (
+            u64::from_be_bytes([*a, *b, *c, *d, *e, *f, *g, *h]),
+            u16::from_be_bytes([*i, 0]),
         ),
         short => any_ten(short),
     }

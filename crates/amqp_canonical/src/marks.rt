@@ -38,8 +38,8 @@ pub struct EntryMark {
 /// How many bytes of a key its mark has.
 const MARKED: u8 = 10;
 
-/// So many marks take fewer comparisons by falling gaps than by the sort of slices.
-const FEW: usize = 44;
+/// So many marks take fewer instructions by falling gaps than by the sort of slices.
+const FEW: usize = 300;
 
 impl Default for EntryMark {
     /// A mark of zeros, as a scratch is filled before it is passed.
@@ -176,8 +176,9 @@ fn sort(marks: &mut [EntryMark], content: &[u8])
     if marks.len() > FEW {
         return sort_many(marks, content);
     }
-    sort_by_gap(marks, content, 10);
-    sort_by_gap(marks, content, 3);
+    sort_by_gap(marks, content, 40);
+    sort_by_gap(marks, content, 13);
+    sort_by_gap(marks, content, 4);
     sort_by_gap(marks, content, 1);
 }
 

@@ -1,6 +1,6 @@
 -- The lemmas of amqp_content.
 pub mod Telling
-pub mod Whole
+pub mod SplitAndBack
 pub mod Apart
 pub mod Entries
 pub mod EqualContents

@@ -331,8 +331,9 @@ impl Assembler {
         }
     }
 
-    /// Takes a frame, and says what becomes of it. Memory may run out only at the first that is kept of a channel, and at
-    /// body bytes: then all channels are as before, and the frame is dropped.
+    /// Takes a frame, and says what becomes of it as the last of its channel's frames so far: it is passed on, held, or
+    /// completes a message, or it is dropped for a fault. Memory may run out only at the first that is kept of a channel,
+    /// and at body bytes: then all channels are as before, and the frame is dropped.
     pub fn push(&mut self, frame: AMQPFrame) -> Result<Outcome, NoMemory>
         ensures outside { is_content (outline_of (frame_of frame)) ≡ false
             → (result ≡ Ok (Outcome.Passed frame)) × (self.new ≡ self.old) }

@@ -22,7 +22,7 @@ use Rattle.amqp_laws.proofs.ValueLaws.{value_is_plain}
 use Rattle.amqp_canonical.specs.Judgements.{AreCanonicalEntries}
 use Rattle.amqp_canonical.specs.Writes.{array_content, entry_bytes, items_of, table_content}
 use Rattle.amqp_canonical.proofs.Putting.{IsEach}
-use Rattle.amqp_canonical.proofs.Written.{each_entry, each_value}
+use Rattle.amqp_canonical.proofs.PutByLoops.{each_entry, each_value}
 use Rattle.amqp_entries.specs.Flaws.{text_flaw}
 use Rattle.amqp_entries.specs.Laws.{AppendedEntryIsDecoded, AppendedInOrderIsCanonical, AppendedValueIsDecoded, AppendedValuesAreCanonical}
 use Rattle.amqp_entries.specs.Written.{IsWritten}

@@ -20,7 +20,7 @@ use Rattle.amqp_filter.specs.declared.messages.Open.{Open}
 use Rattle.amqp_turns.specs.InTurn.{greatest}
 use Rattle.amqp_filter.specs.Kept.{decider}
 use Rattle.amqp_filter.specs.Stepping.{kept_marked, held_marked, mark_held}
-use Rattle.amqp_in_turn.proofs.Turning.{IsFresh}
+use Rattle.amqp_in_turn.proofs.RunsInTurn.{IsFresh}
 
 -- what is kept of a channel on which this has come
 abbrev pub held_of_state : (FrameOutline → Bool) → State Frame → Option Open

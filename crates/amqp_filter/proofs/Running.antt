@@ -14,7 +14,7 @@ use Rattle.amqp_turns.specs.Units.{Begun, Nothing, Opened, Headed, is_content}
 use Rattle.amqp_turns.specs.Stands.{At}
 use Rattle.amqp_select.specs.declared.rule.Rule.{Rule}
 use Rattle.amqp_select.specs.Matching.{decides}
-use Rattle.amqp_in_turn.proofs.Turning.{GoesByTurns}
+use Rattle.amqp_in_turn.proofs.RunsInTurn.{GoesByTurns}
 use Rattle.amqp_in_turn.specs.Judging.{given}
 use Rattle.amqp_in_turn.proofs.Judging.{passed_mark}
 use Rattle.amqp_in_turn.proofs.Keeping.{StandsFor, Continues, goes, stops, KeepsByTurns, by_turns, start}

@@ -8,7 +8,7 @@ use Rattle.amqp_stream.specs.Ends.{Supply, Store}
 use Rattle.amqp_in_turn.specs.declared.errors.TurnError.{TurnError}
 use Rattle.amqp_filter.specs.Kept.{kept_of}
 use Rattle.amqp_filter.specs.Stepping.{is_method_type}
-use Rattle.amqp_in_turn.specs.Turning.{GoesInTurn, GoesExactly, TurnRun}
+use Rattle.amqp_in_turn.specs.RunsInTurn.{GoesInTurn, GoesExactly, TurnRun}
 use Rattle.amqp_in_turn.specs.Reports.{TurnReport}
 
 -- the canonical bytes of the frames that are kept

@@ -95,8 +95,8 @@ pub fn put_frame(buf: &mut [u8], at: usize, frame: &AMQPFrame) -> usize
     }
 }
 
-/// Appends the canonical bytes to a vector, which stays as it was where there is an error: that of measuring them, or
-/// out of memory.
+/// Appends the one canonical encoding of a frame to a vector. Where there is an error, that of measuring the frame or out
+/// of memory, the vector stays as it was.
 #[tactic(auto, using(amqp_wire::proofs::Sizes::size_is_length))]
 pub fn gen_frame(_alloc: Global, out: &mut Vec<u8>, frame: &AMQPFrame) -> Result<(), GenError>
     ensures { Appends out.old.items out.new.items

@@ -144,7 +144,8 @@ fn read_frame(alloc: Global, i: &[u8]) -> Result<(usize, AMQPFrame), ParserError
     }
 }
 
-/// Decodes one frame at the front, with no limit on its payload. No bytes are `Incomplete`.
+/// Decodes one frame at the front, with no limit on its payload: `Ok` has the frame that the bytes there spell, and how
+/// many they are, and an error is the first fault from left to right. No bytes are `Incomplete`.
 pub fn parse_frame(alloc: Global, i: &[u8]) -> Result<(usize, AMQPFrame), ParserError>
     ensures judged { Answers frame_of result (verdict plain None i.now) }
     ensures used { IfOk result (λ found. found.0 ≤ length i.now) }

@@ -24,7 +24,7 @@ use Rattle.amqp_in_turn.specs.declared.errors.Refusal.TheVariants as refusals
 use Rattle.amqp_in_turn.specs.Ending.{least_channel, refused_at_end}
 use Rattle.amqp_in_turn.specs.Reports.{IsLeastOpen}
 use Rattle.amqp_in_turn.proofs.Least.{least_kept, least_none}
-use Rattle.amqp_in_turn.proofs.Turning.{IsFresh, Stepped, takes, refuses, GoesByTurns}
+use Rattle.amqp_in_turn.proofs.RunsInTurn.{IsFresh, Stepped, takes, refuses, GoesByTurns}
 
 -- what a writer keeps stands for the frames so far, which are in turn; all else of it is its own
 pub record StandsFor {S H : Type 0} (messages : S → ByChannel H) (Own : S → Type 0)

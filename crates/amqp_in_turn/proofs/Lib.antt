@@ -1,5 +1,5 @@
 -- The lemmas of amqp_in_turn.
-pub mod Turning
+pub mod RunsInTurn
 pub mod Reporting
 pub mod Least
 pub mod Keeping

@@ -28,9 +28,9 @@ use Rattle.amqp_in_turn.specs.declared.errors.TurnError.TheVariants as errors
 use Rattle.amqp_in_turn.specs.declared.errors.Refusal.{Refusal}
 use Rattle.amqp_in_turn.specs.declared.errors.Refusal.TheVariants as refusals
 use Rattle.amqp_in_turn.specs.Errors.{turn_error, as_turned}
-use Rattle.amqp_in_turn.specs.Turning.{frames_at, TurnRun}
+use Rattle.amqp_in_turn.specs.RunsInTurn.{frames_at, TurnRun}
 use Rattle.amqp_in_turn.specs.Reports.{IsRestOf, IsRestInTurn, next_channel, IsTurnReport, named_channel, TurnReport, as_turned_report}
-use Rattle.amqp_in_turn.proofs.Turning.{plainly, Stepped, takes, refuses, GoesByTurns, whole_by, ran_all, whole_in_turn, turn_run}
+use Rattle.amqp_in_turn.proofs.RunsInTurn.{plainly, Stepped, takes, refuses, GoesByTurns, whole_by, ran_all, whole_in_turn, turn_run}
 
 -- A run returns the same errors with its report as without it.
 pub unreported_turned : (r : Result (Unit {0}) (RunReport (RunError Refusal))) → unreported (as_turned_report r) ≡ as_turned (unreported r)

@@ -18,7 +18,7 @@ use Rattle.amqp_in_turn.specs.declared.errors.TurnError.TheVariants as errors
 use Rattle.amqp_in_turn.specs.declared.errors.Refusal.{Refusal}
 use Rattle.amqp_in_turn.specs.declared.errors.Refusal.TheVariants as refusals
 use Rattle.amqp_in_turn.specs.Errors.{turn_error}
-use Rattle.amqp_in_turn.specs.Turning.{frames_at, TurnRun}
+use Rattle.amqp_in_turn.specs.RunsInTurn.{frames_at, TurnRun}
 
 -- what follows the frames in front where a run ended early: a frame at which memory may run out, or
 -- what is no frame

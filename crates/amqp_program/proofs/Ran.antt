@@ -13,7 +13,7 @@ use Rattle.amqp_stream.specs.Reports.{IsAtStart}
 use Rattle.amqp_in_turn.specs.declared.errors.TurnError.{TurnError}
 use Rattle.amqp_in_turn.specs.declared.errors.TurnError.TheVariants as turns
 use Rattle.amqp_program.specs.Outcomes.{OrAtStart}
-use Rattle.amqp_in_turn.specs.Turning.{GoesExactly, IsExactlyInTurn, UnlessStoppedInTurn}
+use Rattle.amqp_in_turn.specs.RunsInTurn.{GoesExactly, IsExactlyInTurn, UnlessStoppedInTurn}
 
 module _ {S K : Type 0} {supply : S → Supply} {store : K → Store} {budget : ℕ} {source source' : S}
     {sink sink' : K} {Goes IsSpent : Type 0} {Exactly Accepts : List ℕ → Type 0} {IsDone Never : Type 0} where

@@ -8,7 +8,7 @@ use Rattle.amqp_stream.specs.Transcribing.{NeverBegan}
 use Rattle.amqp_in_turn.specs.declared.errors.TurnError.{TurnError}
 use Rattle.amqp_in_turn.specs.declared.errors.TurnError.TheVariants as turns
 use Rattle.amqp_in_turn.specs.Errors.{turn_error_status}
-use Rattle.amqp_in_turn.specs.Turning.{TurnRun, IsOkOrNoMemory}
+use Rattle.amqp_in_turn.specs.RunsInTurn.{TurnRun, IsOkOrNoMemory}
 use Rattle.amqp_stream.specs.declared.report.RunReport.{RunReport}
 use Rattle.amqp_stream.specs.Reports.{NeverBeganReport, unreported}
 use Rattle.amqp_in_turn.specs.Reports.{TurnReport, IsTurnReport}

@@ -20,7 +20,7 @@ use Rattle.amqp_select.specs.Selecting.{selection}
 use Rattle.amqp_in_turn.specs.declared.errors.TurnError.{TurnError}
 use Rattle.amqp_in_turn.specs.declared.errors.TurnError.TheVariants as turns
 use Rattle.amqp_in_turn.specs.Errors.{turn_error_status}
-use Rattle.amqp_in_turn.specs.Turning.{GoesInTurn, GoesExactly, IsComplete as AreWhole}
+use Rattle.amqp_in_turn.specs.RunsInTurn.{GoesInTurn, GoesExactly, IsComplete as AreWhole}
 use Rattle.amqp_recut.specs.Recutting.{recut_bytes}
 use Rattle.amqp_recut.specs.Stepping.{is_content_type}
 use Rattle.amqp_filter.specs.Filtering.{kept_bytes}

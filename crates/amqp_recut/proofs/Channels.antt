@@ -26,7 +26,7 @@ use Rattle.amqp_recut.specs.Held.{Held, progress_in, kept_in, held_with}
 use Rattle.amqp_turns.specs.Splits.{left_over}
 use Rattle.amqp_recut.specs.Stepping.{written_marked, mark_held, held_after}
 use Rattle.amqp_turns.proofs.Pieces.{left-more}
-use Rattle.amqp_in_turn.proofs.Turning.{IsFresh}
+use Rattle.amqp_in_turn.proofs.RunsInTurn.{IsFresh}
 use Rattle.amqp_in_turn.proofs.Judging.{passed_mark}
 use Rattle.amqp_recut.proofs.Cutting.{brought}
 

@@ -12,7 +12,7 @@ use Rattle.amqp_turns.specs.ByChannel.{ByChannel}
 use Rattle.amqp_turns.specs.InTurn.{state_on}
 use Rattle.amqp_turns.specs.Units.{Begun, Nothing, Opened, Headed, is_content}
 use Rattle.amqp_turns.specs.Stands.{At}
-use Rattle.amqp_in_turn.proofs.Turning.{GoesByTurns}
+use Rattle.amqp_in_turn.proofs.RunsInTurn.{GoesByTurns}
 use Rattle.amqp_in_turn.proofs.Keeping.{StandsFor, Continues, goes, stops, KeepsByTurns, by_turns, start}
 use Rattle.amqp_recut.specs.declared.recutter.Recutter.{Recutter}
 use Rattle.amqp_recut.specs.Cuts.{frame_recut, recut_after}

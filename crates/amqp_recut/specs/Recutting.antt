@@ -5,7 +5,7 @@ use Rattle.amqp_wire.specs.Canonical.{canon_frames}
 use Rattle.amqp_stream.specs.declared.report.RunReport.{RunReport}
 use Rattle.amqp_stream.specs.Ends.{Supply, Store}
 use Rattle.amqp_in_turn.specs.declared.errors.TurnError.{TurnError}
-use Rattle.amqp_in_turn.specs.Turning.{GoesInTurn, GoesExactly, TurnRun}
+use Rattle.amqp_in_turn.specs.RunsInTurn.{GoesInTurn, GoesExactly, TurnRun}
 use Rattle.amqp_in_turn.specs.Reports.{TurnReport}
 use Rattle.amqp_recut.specs.Cuts.{recut}
 use Rattle.amqp_recut.specs.Stepping.{is_content_type}

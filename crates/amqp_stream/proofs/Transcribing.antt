@@ -152,7 +152,7 @@ returned-at_end : (E : Type 0) (answer : Result (Unit {0}) StreamError) → retu
 returned-at_end E (Ok done) = refl
 returned-at_end E (Err error) = ap Err (error_by-cause error)
 
--- A run that never began for want of memory, as a call that returns the error of a stream.
+-- A run that never began since memory ran out, as a call that returns the error of a stream.
 pub never_began : {E S K : Type 0} {source source' : S} {sink sink' : K} {r : Result (Unit {0}) StreamError}
     → NeverBegan source source' sink sink' (ends.Stream errors.NoMemory) (as_run {E = E} r) → NeverBegan source source' sink sink' errors.NoMemory r
 never_began {E = E} {r = r} h =

@@ -163,7 +163,7 @@ refusing error = Err error
 pub refused_by : {error other : ParserError} → refusing error ≡ refusing other → error ≡ other
 refused_by h = cc
 
--- A payload that was refused, not for want of memory, has that fault at any level.
+-- A payload that was refused, and not out of memory, has that fault at any level.
 pub is_none : (raw : Raw) (error : ParserError) → IsPayloadError error → refusing error ≢ Err parses.NoMemory
     → RefusesWhole error (whole raw) → IsNone raw (cause_of (payload_fault error))
 is_none raw parses.NoMemory inside some h = absurd (some refl)

@@ -215,7 +215,8 @@ pub fn canonicalize_reported<S: Source, K: Sink>(
     }
 }
 
-/// The same, without where it ended.
+/// Writes the canonical encoding of each frame that can be read, in order: `Ok` only where all that the source gives is
+/// whole frames within the limit, and else the error says why the frame after those that were written was not.
 pub fn canonicalize<S: Source, K: Sink>(
     alloc: Global,
     source: &mut S,

@@ -22,7 +22,8 @@ pub trait FrameDecider {
     /// The manner of the writer, as of a `FrameWriter`.
     ghost manner: { Manner Self Self.Refusal };
 
-    /// What is done with a borrowed frame, of which it is not known yet whether its payload is one.
+    /// The next step of the manner: whether a borrowed frame is kept, left out or refused. It is not known yet whether its
+    /// payload is one.
     fn decide(&mut self, raw: AMQPRawFrame<'_>) -> Result<Decision, RunError<Self::Refusal>>
         requires few { length raw.payload.now < 2 ^ 32 }
         ensures decides { DecidesBy manner self.old self.new (raw_of raw.entry) result };

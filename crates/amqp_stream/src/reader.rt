@@ -256,8 +256,9 @@ impl FrameReader {
         }
     }
 
-    /// The next whole frame, borrowed until the next call, and `None` at the end of input. Each read
-    /// takes one of the read budget.
+    /// The next whole frame, borrowed until the next call, and `None` at the end of input: call by call these are the
+    /// frames that the source's bytes spell, however its reads cut them, up to the first fault. Each read takes one of
+    /// the read budget.
     pub fn next<S: Source>(
         &mut self,
         source: &mut S,

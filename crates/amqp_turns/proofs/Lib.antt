@@ -4,7 +4,7 @@ pub mod Running
 pub mod Tracking
 pub mod Telling
 pub mod Pieces
-pub mod Whole
+pub mod WholeMessages
 pub mod Apart
 pub mod Turns
 pub mod Messages

@@ -14,7 +14,7 @@ use Rattle.amqp_turns.specs.Outcomes.{answer_outcome}
 use Rattle.amqp_turns.specs.Laws.{done_in}
 use Rattle.amqp_turns.specs.InTurn.{greatest}
 use Rattle.amqp_turns.proofs.Running.{opening_step, header_step, turn_runs}
-use Rattle.amqp_turns.proofs.Whole.{done_in-append}
+use Rattle.amqp_turns.proofs.WholeMessages.{done_in-append}
 
 -- ---- all frames of a channel
 

@@ -10,7 +10,7 @@ use Rattle.amqp_canonical.proofs.Children.{EntriesTo, values_next, values_end, e
 use Rattle.amqp_canonical.proofs.AfterTag.{fixed_past, fixed_took, taken, counted_took, counted_fails, boolean_behind, array_behind, table_behind, array_deep}
 use Rattle.amqp_canonical.proofs.AfterTag.{table_deep, value_empty, value_unknown, value_fails, value_took_at, entry_unread, entry_fails, entry_took}
 use Rattle.amqp_canonical.proofs.TagBytes.{no_tag, some_tag}
-use Rattle.amqp_canonical.proofs.Whole.{array_unread, array_fails, array_took, table_unread, table_fails, table_took}
+use Rattle.amqp_canonical.proofs.Filled.{array_unread, array_fails, array_took, table_unread, table_fails, table_took}
 use Rattle.amqp_canonical.proofs.Above.{none_leads}
 use Rattle.amqp_canonical.proofs.values.+judge.Goals as goal
 use Rattle.amqp_canonical.proofs.values.+judge.Goals.{judge_entries-then-loop-canonical-test+else-at-content, judge_entries-else-loop-canonical-test}

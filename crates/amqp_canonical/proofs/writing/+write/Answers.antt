@@ -8,8 +8,9 @@ use Rattle.amqp_canonical.specs.Marks.{blank}
 use Rattle.amqp_canonical.proofs.Putting.{has_room, same_put, then_put}
 use Rattle.amqp_canonical.proofs.ReadParts.{tag_parts, none_read, unknown_read}
 use Rattle.amqp_canonical.proofs.PutParts.{copied_at, boolean_put, array_inside, table_inside, array_holds, table_holds, length_put, entry_put, entry_some}
-use Rattle.amqp_canonical.proofs.Written.{EntriesPut, SelectedPut, values_none, value_fits_here, value_here, values_end, entries_none, entries_tied, entry_kept}
-use Rattle.amqp_canonical.proofs.Written.{selected_none, selected_here, selected_end}
+use Rattle.amqp_canonical.proofs.PutByLoops.{EntriesPut, SelectedPut, values_none, value_fits_here, value_here, values_end}
+use Rattle.amqp_canonical.proofs.PutByLoops.{entries_none, entries_tied, entry_kept}
+use Rattle.amqp_canonical.proofs.PutByLoops.{selected_none, selected_here, selected_end}
 use Rattle.amqp_canonical.proofs.writing.+write.Goals as goal
 use Rattle.amqp_canonical.proofs.writing.+write.Goals.{put_marked-then-not-is_tied, put_marked-else-not-is_tied}
 

@@ -3,7 +3,7 @@ use Rattle.std.proofs.Common.{◌+◌, ◌-◌, ◌*◌, ◌≤◌, length}
 use Rattle.amqp_types.specs.Settling.{settled}
 use Rattle.amqp_canonical.specs.Writes.{table_content}
 use Rattle.amqp_canonical.specs.Marks.{entries_in}
-use Rattle.amqp_canonical.proofs.Written.{ValuesPut, EntriesPut, SelectedPut}
+use Rattle.amqp_canonical.proofs.PutByLoops.{ValuesPut, EntriesPut, SelectedPut}
 use Rattle.amqp_canonical.proofs.writing.+write.Given as goal
 
 abbrev pub decreases-put_after_tag : goal.decreases-put_after_tag

@@ -1,5 +1,5 @@
 -- `interleaved_are_whole`: what it ensures.
-use Rattle.amqp_content.proofs.Whole.{interleaved_whole}
+use Rattle.amqp_content.proofs.SplitAndBack.{interleaved_whole}
 use Rattle.amqp_content.proofs.laws.interleaved_are_whole.Goals as goal
 
 pub returns : goal.returns

@@ -1,7 +1,7 @@
 -- `recut_reported`: clauses `run`, `never_untidy`, `never_too_large` and `never_faulted`.
 use Rattle.std.proofs.Common.{true, refl}
 use Rattle.amqp_stream.proofs.Reporting.{without_report}
-use Rattle.amqp_in_turn.proofs.Turning.{never_untidy, fresh}
+use Rattle.amqp_in_turn.proofs.RunsInTurn.{never_untidy, fresh}
 use Rattle.amqp_in_turn.proofs.Reporting.{unreported_turned, reported_run}
 use Rattle.amqp_recut.specs.Stepping.{is_content_type}
 use Rattle.amqp_recut.proofs.Running.{recuts_by_turns, is_new}

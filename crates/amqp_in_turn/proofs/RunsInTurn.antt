@@ -37,8 +37,8 @@ use Rattle.amqp_in_turn.specs.declared.errors.Refusal.TheVariants as refusals
 use Rattle.amqp_in_turn.specs.Errors.{as_turned}
 use Rattle.amqp_in_turn.specs.Reports.{IsLeastOpen}
 use Rattle.amqp_turns.specs.InTurn.{greatest, AreInTurn, IsLongestInTurn, IsNextFault, IsOpen, NoneIsOpen, state_on}
-use Rattle.amqp_in_turn.specs.Turning.{frames_at, AtWanted, IsAllInTurn, HasCauseInTurn, HasWrittenInTurn, GoesInTurn, IsAnsweredTo, IsExactlyInTurn}
-use Rattle.amqp_in_turn.specs.Turning.{UnlessStoppedInTurn, GoesExactly, IsComplete, IsOkOrNoMemory, TurnRun}
+use Rattle.amqp_in_turn.specs.RunsInTurn.{frames_at, AtWanted, IsAllInTurn, HasCauseInTurn, HasWrittenInTurn, GoesInTurn, IsAnsweredTo, IsExactlyInTurn}
+use Rattle.amqp_in_turn.specs.RunsInTurn.{UnlessStoppedInTurn, GoesExactly, IsComplete, IsOkOrNoMemory, TurnRun}
 use Rattle.amqp_turns.proofs.Turns.{are_in_turn, none_lost, lost_later, before_or_with}
 
 -- ---- one frame

@@ -14,7 +14,7 @@ use Rattle.amqp_turns.specs.Splits.{pieces}
 use Rattle.amqp_turns.proofs.Pieces.{pieces_are}
 use Rattle.amqp_turns.proofs.Apart.{channels_answered}
 use Rattle.amqp_turns.proofs.Running.{opening_step, answers_run, run_is_answers}
-use Rattle.amqp_turns.proofs.Whole.{GivesWhole, held_first, header_gives, after_whole}
+use Rattle.amqp_turns.proofs.WholeMessages.{GivesWhole, held_first, header_gives, after_whole}
 use Rattle.amqp_content.specs.declared.opening.Opening.{Opening}
 use Rattle.amqp_content.specs.declared.opening.Opening.TheVariants as openings
 use Rattle.amqp_content.specs.Messages.{Parts, content_of, opening_method}
