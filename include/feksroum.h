@@ -93,9 +93,8 @@ enum {
     FEKSROUM_UNKNOWN_TAG = 19, /* a field tag that names no type */
     FEKSROUM_TOO_DEEP = 20, /* tables or arrays nested more than 64 deep */
 
-    /* The bytes end inside a frame, or the text inside a line: more are needed. At the end of a stream it is the fault
-     * CutShort. */
-    FEKSROUM_INCOMPLETE = 21,
+    /* The bytes end inside a frame, or the text inside a line: more are needed, and at the end of a stream none come. */
+    FEKSROUM_CUT_SHORT = 21,
 
     /* Of streams: as many reads as were allowed were made. No function here returns it. */
     FEKSROUM_TURNS_SPENT = 22,
@@ -295,10 +294,10 @@ typedef struct feksroum_batch {
 } feksroum_batch;
 
 /* Reads as many whole frames in front of the bytes as both lists have room for, with one call: a head for each, and its nodes as
- * feksroum_read gives them. All spans, in heads and in nodes, are counted from the front of `bytes`. The time is linear; `used`
- * is at least 8 times `heads`, and at least `nodes`, so lists of length / 8 heads and `length` nodes are always long enough. Of
- * more than 2^32 - 1 bytes only so many in front are looked at; the others come with the next call. A payload of more than
- * 2^32 - 9 bytes, whose frame never fits in so many, has status 12 at any max_payload.
+ * feksroum_read gives them; feksroum_write undoes it. All spans, in heads and in nodes, are counted from the front of `bytes`. The time is
+ * linear; `used` is at least 8 times `heads`, and at least `nodes`, so lists of length / 8 heads and `length` nodes are always long enough.
+ * Of more than 2^32 - 1 bytes only so many in front are looked at; the others come with the next call. A payload of more than 2^32 - 9
+ * bytes, whose frame never fits in so many, has status 12 at any max_payload.
  *
  * status: 0 where nothing comes after these frames; 21 where the bytes end inside the next one; its fault, 10 to 20; 40 where it
  * is whole and has none, and a list has no room for it; 41 where the detail is none: then nothing is given. What stands in the
@@ -357,14 +356,42 @@ feksroum_written feksroum_write_content(uint8_t kind, const feksroum_node *nodes
                                         size_t pool_length, uint8_t *out, size_t out_length)
     FEKSROUM_RESULT FEKSROUM_READS(2, 3) FEKSROUM_READS(4, 5) FEKSROUM_WRITES(6, 7);
 
+/* Where a channel stands between two of its frames. */
+enum {
+    FEKSROUM_STATE_CLOSED = 0, /* no message is open */
+    FEKSROUM_STATE_OPENED = 1, /* its opening has come */
+    FEKSROUM_STATE_HEADED = 2, /* its content header too */
+    FEKSROUM_STATE_FAULTED = 3 /* a frame may not have come */
+};
+
 /* What is kept of a channel between two of its frames. Zeros, for a channel on which no message is open. A channel that was closed and
  * opened again begins with zeros. 24 bytes, no padding. */
 typedef struct feksroum_channel {
     uint64_t size; /* of a message whose content header has come: how many bytes its body has */
     uint64_t seen; /* how many of these have come, fewer than size */
-    uint32_t state; /* 0 no message is open; 1 its opening has come; 2 its content header too; 3 a frame may not have come */
+    uint32_t state; /* a FEKSROUM_STATE_ */
     uint32_t unused; /* 0 */
 } feksroum_channel;
+
+/* Which part of a message a frame is. */
+enum {
+    FEKSROUM_PART_NONE = 0,
+    FEKSROUM_PART_OPENING = 1, /* the method that opens one */
+    FEKSROUM_PART_HEADER = 2,
+    FEKSROUM_PART_BODY = 3
+};
+
+/* Why a frame may not come next on its channel. */
+enum {
+    FEKSROUM_FAULT_NONE = 0,
+    FEKSROUM_UNEXPECTED_METHOD = 1, /* a method inside a message */
+    FEKSROUM_UNEXPECTED_HEADER = 2, /* a content header that nothing announced */
+    FEKSROUM_UNEXPECTED_BODY = 3, /* a body before the content header or outside of a message */
+    FEKSROUM_WRONG_CLASS = 4, /* a content header of a class other than 60 */
+    FEKSROUM_BODY_TOO_LARGE = 5, /* one that announces more than max_body bytes */
+    FEKSROUM_BODY_OVERRUN = 6, /* a body that goes beyond the size */
+    FEKSROUM_FAULTED = 7 /* an earlier frame of the channel may not have come */
+};
 
 /* What a frame is to its channel. 56 bytes, no padding. */
 typedef struct feksroum_turn {
@@ -372,11 +399,9 @@ typedef struct feksroum_turn {
     uint64_t before; /* of a body: how many bytes of the whole body came before it */
     uint64_t up_to; /* of a body: how many have come with it */
     uint64_t size; /* of a body: how many the whole body has */
-    uint8_t part; /* 0 no part of a message, 1 the method that opens one, 2 its content header, 3 a body */
+    uint8_t part; /* a FEKSROUM_PART_ */
     bool finished; /* the message is complete with this frame */
-    uint8_t fault; /* at status 24: 1 a method inside a message, 2 a content header that nothing announced, 3 a body before the content
-                      header or outside of a message, 4 a content header of a class other than 60, 5 one that announces more than max_body
-                      bytes, 6 a body that goes beyond the size, 7 an earlier frame of the channel may not have come */
+    uint8_t fault; /* at status 24 why, by the numbers above; else 0 */
     uint8_t status; /* 0, 24, 10 or 41 */
     uint32_t unused; /* 0 */
 } feksroum_turn;
@@ -386,7 +411,7 @@ typedef struct feksroum_turn {
  * body_size of a content header, and the length of a body; else it is not looked at, as ids that the type does not have. A content
  * header may announce at most max_body bytes.
  *
- * status: 0 where the frame may come next; 24 where not, and then each later frame of the channel has fault 7; 10 where the type is none;
+ * status: 0 where the frame may come next; 24 where not, and then each later frame of the channel is FAULTED; 10 where the type is none;
  * 41 where the numbers that are kept are none of a channel, which comes first. */
 feksroum_turn feksroum_step(feksroum_channel channel, uint8_t type, uint16_t class_id, uint16_t method_id, uint64_t size,
                             uint64_t max_body) FEKSROUM_RESULT;
@@ -563,7 +588,7 @@ static inline const char *feksroum_status_name(uint8_t status) {
         return "UnknownTag";
     case FEKSROUM_TOO_DEEP:
         return "TooDeep";
-    case FEKSROUM_INCOMPLETE:
+    case FEKSROUM_CUT_SHORT:
         return "CutShort";
     case FEKSROUM_TURNS_SPENT:
         return "TurnsSpent";
@@ -617,7 +642,7 @@ static inline const char *feksroum_status_text(uint8_t status) {
         return "a field tag of no kind of value";
     case FEKSROUM_TOO_DEEP:
         return "tables or arrays nest more than 64 deep";
-    case FEKSROUM_INCOMPLETE:
+    case FEKSROUM_CUT_SHORT:
         return "the input ends inside a frame, or inside a line";
     case FEKSROUM_TURNS_SPENT:
         return "as many reads as were allowed were made";

@@ -58,7 +58,7 @@ static bool agrees(const uint8_t *bytes, size_t length, uint32_t max_payload, ui
         feksroum_frame frame = feksroum_next(rest, length - wanted.used, max_payload);
         if (frame.status != FEKSROUM_OK) {
             wanted.status = frame.status;
-            wanted.needed = frame.status == FEKSROUM_INCOMPLETE ? least(rest, length - wanted.used) : 0;
+            wanted.needed = frame.status == FEKSROUM_CUT_SHORT ? least(rest, length - wanted.used) : 0;
             break;
         }
         const uint8_t *payload = rest + frame.payload_start;

@@ -98,7 +98,7 @@ static size_t read_frames(client *c, const uint8_t *bytes, size_t length) {
     for (;;) {
         feksroum_frame frame = feksroum_next(bytes + used, length - used, c->max_payload);
         if (frame.status != FEKSROUM_OK) {
-            if (frame.status != FEKSROUM_INCOMPLETE) {
+            if (frame.status != FEKSROUM_CUT_SHORT) {
                 stop("a frame", frame.status);
             }
             return used; /* a reader asks for frame.needed - (length - used) more */
@@ -166,7 +166,7 @@ int main(void) {
     c.out = (feksroum_buffer)FEKSROUM_BUFFER(c.bytes);
     feksroum_take(&c.out, feksroum_put_protocol_header(0, 9, 1, FEKSROUM_REST(&c.out)));
     if (read_frames(&c, from_broker, sizeof from_broker) != sizeof from_broker) {
-        stop("what the broker sent", FEKSROUM_INCOMPLETE);
+        stop("what the broker sent", FEKSROUM_CUT_SHORT);
     }
     answer(&c, "hello again", 8);
     print_pending(&c);

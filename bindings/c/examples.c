@@ -98,7 +98,7 @@ static bool run_lines(const char *folder, const char *name, const char *command,
 static bool needs_more(const uint8_t *frame, size_t length) {
     for (size_t k = 0; k < length; k++) {
         feksroum_frame part = feksroum_next(frame, k, MAX_PAYLOAD);
-        if (part.status != FEKSROUM_INCOMPLETE || part.needed != (k < 7 ? 8 : length) || part.used != 0) {
+        if (part.status != FEKSROUM_CUT_SHORT || part.needed != (k < 7 ? 8 : length) || part.used != 0) {
             return false;
         }
     }
@@ -160,12 +160,12 @@ static bool arguments_are_tested(void) {
     feksroum_line needed = feksroum_dump(beat, 8, out, 4, MAX_PAYLOAD);
     feksroum_line no_line = feksroum_undump(NULL, 0, NULL, 0, MAX_PAYLOAD);
     feksroum_line bad_line = feksroum_undump((const uint8_t *)"\n", 1, out, 8, MAX_PAYLOAD);
-    bool lines = no_frame.status == FEKSROUM_INCOMPLETE && needed.status == FEKSROUM_BUFFER_TOO_SMALL && needed.length == 5 &&
-                 no_line.status == FEKSROUM_INCOMPLETE && bad_line.status == FEKSROUM_BAD_TEXT;
+    bool lines = no_frame.status == FEKSROUM_CUT_SHORT && needed.status == FEKSROUM_BUFFER_TOO_SMALL && needed.length == 5 &&
+                 no_line.status == FEKSROUM_CUT_SHORT && bad_line.status == FEKSROUM_BAD_TEXT;
     bool scratches = feksroum_scratch(0) == 0 && feksroum_scratch(MAX_PAYLOAD) == MAX_PAYLOAD / 2;
     return lines && scratches && none.status == FEKSROUM_OK && shorter.status == FEKSROUM_BUFFER_TOO_SMALL &&
            level.status == FEKSROUM_BAD_ARGUMENT && shorter.used + shorter.written + level.used + level.written == 0 &&
-           feksroum_next(NULL, 0, 0).status == FEKSROUM_INCOMPLETE && feksroum_max_payload(131072) == 131064 &&
+           feksroum_next(NULL, 0, 0).status == FEKSROUM_CUT_SHORT && feksroum_max_payload(131072) == 131064 &&
            feksroum_max_payload(7) == 0 && feksroum_max_payload(0) == UINT32_MAX && feksroum_body_head(1, 2, NULL, 0) == 7 &&
            feksroum_check(FEKSROUM_HEARTBEAT, NULL, 0).canonical && feksroum_name(FEKSROUM_TOO_DEEP, NULL, 0) == 7;
 }

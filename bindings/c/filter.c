@@ -104,11 +104,11 @@ static int run(filter *f) {
             return FEKSROUM_READ_FAULT;
         }
         if (more == 0) {
-            return f->start == f->end ? FEKSROUM_OK : FEKSROUM_INCOMPLETE;
+            return f->start == f->end ? FEKSROUM_OK : FEKSROUM_CUT_SHORT;
         }
         f->end += (size_t)more;
         uint32_t status = pass_on(f);
-        if (status != FEKSROUM_OK && status != FEKSROUM_INCOMPLETE) {
+        if (status != FEKSROUM_OK && status != FEKSROUM_CUT_SHORT) {
             return (int)status;
         }
     }

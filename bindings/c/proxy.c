@@ -26,10 +26,10 @@ static bool keeps(proxy_messages *messages, const feksroum_frame *frame, const u
         return false;
     }
     *channel = turn.after;
-    if (turn.part <= 1) {
+    if (turn.part <= FEKSROUM_PART_OPENING) {
         bool kept = feksroum_decide(messages->rules, messages->rule_count, frame->type, frame->channel, payload.class_id,
                                     payload.method_id) == 1;
-        if (turn.part == 1) {
+        if (turn.part == FEKSROUM_PART_OPENING) {
             messages->drops[frame->channel] = !kept;
             messages->open++;
         }
@@ -48,7 +48,7 @@ static size_t sift(proxy_connection *connection, size_t *used) {
     while (connection->status == FEKSROUM_OK) {
         feksroum_frame frame = feksroum_next(held + *used, connection->held_count - *used, PROXY_MAX_PAYLOAD);
         if (frame.status != FEKSROUM_OK) {
-            connection->status = frame.status == FEKSROUM_INCOMPLETE ? FEKSROUM_OK : frame.status;
+            connection->status = frame.status == FEKSROUM_CUT_SHORT ? FEKSROUM_OK : frame.status;
             break;
         }
         bool is_kept = keeps(connection->messages, &frame, held + *used, &connection->status);
@@ -77,7 +77,7 @@ static void pass_on(proxy_connection *connection, proxy_scratch *scratch) {
     }
     connection->held_count -= used;
     memmove(connection->held, connection->held + used, connection->held_count);
-    if (progress.status != FEKSROUM_OK && progress.status != FEKSROUM_INCOMPLETE) {
+    if (progress.status != FEKSROUM_OK && progress.status != FEKSROUM_CUT_SHORT) {
         connection->status = (uint8_t)progress.status;
     }
 }
@@ -104,7 +104,7 @@ void proxy_sent(proxy_connection *connection, proxy_scratch *scratch, size_t cou
 
 uint8_t proxy_ended(const proxy_connection *connection) {
     if (connection->status == FEKSROUM_OK && connection->held_count > 0) {
-        return FEKSROUM_INCOMPLETE;
+        return FEKSROUM_CUT_SHORT;
     }
     if (connection->status == FEKSROUM_OK && connection->messages && connection->messages->open > 0) {
         return FEKSROUM_OPEN_CONTENT;
