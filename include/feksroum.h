@@ -306,12 +306,16 @@ feksroum_batch feksroum_frames(const uint8_t *bytes, size_t length, uint32_t max
                                size_t head_room, feksroum_node *nodes, size_t node_room)
     FEKSROUM_RESULT FEKSROUM_READS(1, 2);
 
+/* Stands for no node, where a head itself or a content as a whole is refused. A node whose number is no smaller is given as the one
+ * before it, FEKSROUM_NO_NODE - 1. */
+#define FEKSROUM_NO_NODE UINT32_MAX
+
 /* How many bytes were written, or why none. 24 bytes, no padding. */
 typedef struct feksroum_written {
     uint64_t length; /* how many bytes were written; at status 40, how many `out` needs; else 0 */
     uint32_t head; /* at other statuses than 0 and 40: which head is refused, of feksroum_write_content 0; else 0 */
-    uint32_t node; /* at these: which one of all nodes is refused, and 0 where the head itself is; where a field misses, the place behind
-                      the last node of the head; else 0 */
+    uint32_t node; /* at these: which one of all nodes is refused, or FEKSROUM_NO_NODE where the head itself is, or a content as a whole;
+                      where a field misses, the place behind the last node of the head; else 0 */
     uint32_t status; /* 0, 12, 14 to 16, 18 to 20, or 40 to 42 */
     uint32_t unused; /* 0 */
 } feksroum_written;
@@ -350,8 +354,8 @@ feksroum_written feksroum_write(const feksroum_head *heads, size_t head_count, c
     FEKSROUM_RESULT FEKSROUM_READS(1, 2) FEKSROUM_READS(3, 4) FEKSROUM_READS(5, 6) FEKSROUM_WRITES(8, 9);
 
 /* The same of what fills a table (kind 'F') or an array ('A') alone, without its length: the nodes are its entries or values, with those
- * inside them. 41 where the kind is neither, which comes first. Only of what lies inside nodes is the length limited (42): the content
- * itself may have more than 2^32 - 1 bytes. What is written is an encoding of these entries or values. */
+ * inside them. 41 where the kind is neither, which comes first. 42 too where the content has more than 2^32 - 1 bytes, which comes
+ * after all nodes, whatever the buffer. What is written is an encoding of these entries or values. */
 feksroum_written feksroum_write_content(uint8_t kind, const feksroum_node *nodes, size_t node_count, const uint8_t *pool,
                                         size_t pool_length, uint8_t *out, size_t out_length)
     FEKSROUM_RESULT FEKSROUM_READS(2, 3) FEKSROUM_READS(4, 5) FEKSROUM_WRITES(6, 7);

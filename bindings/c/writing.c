@@ -251,7 +251,7 @@ static void refuse_known(void) {
                             .pool = (uint8_t *)known_pool(), .pool_length = POOL};
         feksroum_written report;
         free(written(&made, MAX_PAYLOAD, &report));
-        uint32_t node = wanted->node == OF_HEAD ? 0 : 2 + (uint32_t)wanted->node;
+        uint32_t node = wanted->status == FEKSROUM_OK ? 0 : wanted->node == OF_HEAD ? FEKSROUM_NO_NODE : 2 + (uint32_t)wanted->node;
         if (report.status != wanted->status || report.head != (wanted->status != FEKSROUM_OK) || report.node != node) {
             stop(wanted->what);
         }
@@ -263,7 +263,7 @@ static void refuse_long_payloads(void) {
     feksroum_head heads[] = {{.type = FEKSROUM_BODY, .length = 8}, {.type = FEKSROUM_BODY, .length = 9}, {.type = 9}};
     made_frames made = {.heads = heads, .head_count = 3, .pool = (uint8_t *)known_pool(), .pool_length = POOL};
     feksroum_written report;
-    if (written(&made, 8, &report) || report.status != FEKSROUM_TOO_LARGE || report.head != 1 || report.node != 0 ||
+    if (written(&made, 8, &report) || report.status != FEKSROUM_TOO_LARGE || report.head != 1 || report.node != FEKSROUM_NO_NODE ||
         written(&made, 9, &report) || report.status != FEKSROUM_BAD_ARGUMENT || report.head != 2) {
         stop("a payload that is too long");
     }
@@ -293,7 +293,7 @@ static void refuse_kinds(void) {
         feksroum_written content = feksroum_write_content((uint8_t)kind, NULL, 0, NULL, 0, NULL, 0);
         bool nests = kind == 'F' || kind == 'A';
         if (entry.status != value.status || (at && entry.length != value.length + 1) ||
-            content.status != (nests ? FEKSROUM_OK : FEKSROUM_BAD_ARGUMENT)) {
+            content.status != (nests ? FEKSROUM_OK : FEKSROUM_BAD_ARGUMENT) || content.node != (nests ? 0 : FEKSROUM_NO_NODE)) {
             stop("a kind of content");
         }
         feksroum_node tag = {.kind = (uint8_t)kind, .number = 7}, fields[] = {tag, MULTIPLE};
@@ -377,6 +377,29 @@ static void fill(random_source *source, void *bytes, size_t size) {
     }
 }
 
+/* The content of a table or an array that stands alone has at most 2^32 - 1 bytes, whatever the buffer. Its strings are counted and
+ * not touched, and all lie in one pool. */
+static void refuse_long_contents(void) {
+    enum { NODES = 4096, SPAN = (1 << 20) - 5 };
+    uint8_t *pool = take(SPAN), out = CANARY;
+    memset(pool, 'a', SPAN);
+    feksroum_node *nodes = take(NODES * sizeof *nodes);
+    memset(nodes, 0, NODES * sizeof *nodes);
+    for (size_t k = 0; k < NODES; k++) {
+        nodes[k].kind = 'S';
+        nodes[k].length = SPAN;
+    }
+    feksroum_written most = feksroum_write_content('A', nodes, NODES, pool, SPAN, &out, 1);
+    nodes[0].length--;
+    feksroum_written few = feksroum_write_content('A', nodes, NODES, pool, SPAN, &out, 1);
+    if (most.status != FEKSROUM_TOO_LONG || most.length != 0 || most.head != 0 || most.node != FEKSROUM_NO_NODE ||
+        few.status != FEKSROUM_BUFFER_TOO_SMALL || few.length != UINT32_MAX || out != CANARY) {
+        stop("a content that stands alone and is too long");
+    }
+    free(nodes);
+    free(pool);
+}
+
 /* Whatever the lists hold, they are written as frames that read back, or refused with a head and a node of theirs. */
 static void write_hostile(random_source *source, bool all) {
     made_frames made;
@@ -400,8 +423,8 @@ static void write_hostile(random_source *source, bool all) {
             stop("hostile lists make other frames");
         }
         release(&read);
-    } else if (report.head >= made.head_count || report.node > made.node_count || report.status == FEKSROUM_BUFFER_TOO_SMALL ||
-               feksroum_status_name((uint8_t)report.status)[0] == 0) {
+    } else if (report.head >= made.head_count || (report.node > made.node_count && report.node != FEKSROUM_NO_NODE) ||
+               report.status == FEKSROUM_BUFFER_TOO_SMALL || feksroum_status_name((uint8_t)report.status)[0] == 0) {
         stop("a refusal of hostile lists");
     }
     release(&made);
@@ -414,6 +437,7 @@ int main(int argc, char **argv) {
     random_source source = {strtoull(argc > 2 ? argv[2] : "1", NULL, 10) * 2 + 1};
     refuse_known();
     refuse_long_payloads();
+    refuse_long_contents();
     refuse_kinds();
     nest_deep();
     long rounds = strtol(argv[1], NULL, 10);

@@ -8,6 +8,9 @@ use crate::value::Value;
 /// The status of a call whose buffer was too short.
 const BUFFER_TOO_SMALL: u32 = 40;
 
+/// The status of a call that was to write more than a length counts.
+const TOO_LONG: u32 = 42;
+
 /// The strings and contents, one after another.
 #[derive(Debug, Default)]
 struct Pool {
@@ -99,8 +102,25 @@ impl Items {
                     return Ok(content);
                 }
                 BUFFER_TOO_SMALL if length > room => room = length,
+                TOO_LONG if written.node().is_none() => return Err(EncodeError::TooLarge),
                 status => return Err(EncodeError::of_status(status, None)),
             }
         }
+    }
+}
+
+#[cfg(test)]
+mod tests {
+    use super::*;
+
+    /// Values of 2^20 bytes each, with their tags and lengths: long strings that all lie in one pool.
+    fn mebibytes(count: usize) -> Items {
+        let node = Node { kind: b'S', length: (1 << 20) - 5, ..Node::default() };
+        Items { nodes: vec![node; count], pool: Pool { bytes: vec![b'a'; 1 << 20] } }
+    }
+
+    #[test]
+    fn more_than_a_length_counts_is_too_large() {
+        assert_eq!(mebibytes(4096).write(b'A'), Err(EncodeError::TooLarge));
     }
 }

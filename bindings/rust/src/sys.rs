@@ -67,6 +67,14 @@ pub struct Written {
     pub unused: u32,
 }
 
+impl Written {
+    /// Which one of all nodes is refused; none where a head itself is, or a content as a whole.
+    pub fn node(&self) -> Option<u32> {
+        const NO_NODE: u32 = u32::MAX;
+        (self.node != NO_NODE).then_some(self.node)
+    }
+}
+
 /// How many bytes were put, or why none.
 #[repr(C)]
 #[derive(Clone, Copy, Debug, Default)]

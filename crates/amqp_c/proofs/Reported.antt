@@ -1,5 +1,5 @@
 -- What is reported of writing is what was made.
-use Rattle.std.proofs.Common.{◌≡◌, ◌≤◌, ℕ, List, length, take, Some, Result, Ok, Err, sym, ap, subst, ◌∙◌, arith}
+use Rattle.std.proofs.Common.{◌≡◌, ◌≤◌, ℕ, List, length, take, Some, None, Result, Ok, Err, sym, ap, subst, ◌∙◌, arith}
 use Rattle.std.specs.Prelude.{IfOk}
 use Rattle.std.proofs.lemmas.Bool.Decides.{nat_tests}
 use Rattle.amqp_fields.specs.declared.refusals.WriteError.{WriteError}
@@ -32,7 +32,7 @@ made_reported made old new (Ok count) report h is =
       fits = λ room. (h.written_is, is ∙ ap all_written h.count_is);
       too_short = λ short. absurd (omega (arith, short, h.within, h.count_is));
     })
-made_reported made old new (Err (failures.Refused head node why)) report h is = subst (λ m. Reports m old new report) (sym h.0) (h.1, is)
+made_reported made old new (Err (failures.Refused head place why)) report h is = subst (λ m. Reports m old new report) (sym h.0) (h.1, is)
 made_reported made old new (Err (failures.TooSmall needed)) report h is =
     subst (λ m. Reports m old new report) (sym h.made_is) (record {
       fits = λ room. absurd (omega (arith, room, h.more, h.needed_is, cut_le (length h.bytes)));
@@ -62,7 +62,7 @@ written_means : (Means : ℕ → Type 0) (written : Result ℕ WriteError) (repo
 written_means Means (Ok n) report count h is all =
     let same : n ≡ count = ap (λ (r : WriteReport). r.length) (sym is ∙ all) in
     subst Means same h
-written_means Means (Err (failures.Refused head node why)) report count h is all =
+written_means Means (Err (failures.Refused head place why)) report count h is all =
     absurd (refusal_some why (ap (λ (r : WriteReport). r.status) (sym is ∙ all)))
 written_means Means (Err (failures.TooSmall needed)) report count h is all =
     absurd (omega (arith, ap (λ (r : WriteReport). r.status) (sym is ∙ all)))
@@ -105,5 +105,5 @@ values_encoded pool nodes old new written report h is count all =
     written_means (EncodesValues pool nodes old new) written report count h is all
 
 -- a kind that is neither a table's nor an array's is not reported as written
-pub no_content : (report : WriteReport) (count : ℕ) → report ≡ refused_at 0 0 bad_argument → report ≡ all_written count → ⊥
+pub no_content : (report : WriteReport) (count : ℕ) → report ≡ refused_at 0 None bad_argument → report ≡ all_written count → ⊥
 no_content report count is all = absurd (omega (arith, ap (λ (r : WriteReport). r.status) (sym is ∙ all)))

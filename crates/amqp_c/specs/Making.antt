@@ -1,6 +1,6 @@
 -- What is reported of frames and contents that are written, and what stands in the buffer then.
-use Rattle.std.specs.Prelude.{◌≡◌, ◌<◌, ◌≤◌, ℕ, List, length, Option, Some, Result, Ok, Err}
-use Rattle.amqp_types.specs.Constants.{inner_depth}
+use Rattle.std.specs.Prelude.{◌≡◌, ◌<◌, ◌≤◌, ℕ, List, length, nat_lt, if◌then◌else◌}
+use Rattle.std.specs.Prelude.{Option, Some, None, Result, Ok, Err}
 use Rattle.amqp_types.specs.Judging.{too_large}
 use Rattle.amqp_types.specs.Levels.{plain}
 use Rattle.amqp_types.specs.Writing.{written}
@@ -15,10 +15,9 @@ use Rattle.amqp_fields.specs.declared.refusals.WriteError.{WriteError}
 use Rattle.amqp_fields.specs.declared.refusals.WriteError.TheVariants as failures
 use Rattle.amqp_fields.specs.declared.refusals.WriteRefusal.{WriteRefusal}
 use Rattle.amqp_fields.specs.declared.refusals.WriteRefusal.TheVariants as whys
-use Rattle.amqp_fields.specs.Made.{made_each, made_entry, made_value}
-use Rattle.amqp_fields.specs.MadeFrames.{at_head}
 use Rattle.amqp_fields.specs.Makes.{cut_long}
 use Rattle.amqp_fields.specs.Making.{EncodesEntries, EncodesUnless, EncodesValues, RefusesFirst}
+use Rattle.amqp_fields.specs.Making.{made_entries, made_values}
 use Rattle.amqp_fields.specs.Nodes.{cut}
 use Rattle.amqp_c.specs.declared.writing.WriteReport.{WriteReport}
 use Rattle.amqp_c.specs.Batches.{frame_error}
@@ -41,10 +40,19 @@ refusal_status (whys.Payload error) = stream_error_status (frame_error error)
 refusal_status whys.TooLong = too_long
 refusal_status whys.TooLarge = fault_status too_large
 
--- a head and a node are refused; 4 bytes say which, or hold the greatest number that they can
-abbrev pub refused_at : ℕ → ℕ → ℕ → WriteReport
+-- the number that no node has: a head itself is refused, or a content as a whole
+abbrev pub no_node : ℕ
+no_node = 4294967295
+
+-- which one of all nodes, as 4 bytes say it, or the number in front of that of no node
+abbrev pub node_number : Option ℕ → ℕ
+node_number None = no_node
+node_number (Some node) = if nat_lt node 4294967294 then node else 4294967294
+
+-- a head is refused, or one of the nodes; 4 bytes say which
+abbrev pub refused_at : ℕ → Option ℕ → ℕ → WriteReport
 refused_at head node status =
-    record { length = 0; head = cut head; node = cut node; status = status; unused = 0 }
+    record { length = 0; head = cut head; node = node_number node; status = status; unused = 0 }
 
 -- nothing was written
 abbrev pub not_written : WriteError → WriteReport
@@ -69,20 +77,11 @@ abbrev pub Reports : Result (List ℕ) WriteError → List ℕ → List ℕ → 
 Reports (Ok bytes) old new report = PutsMade bytes old new report
 Reports (Err error) old new report = (new ≡ old) × (report ≡ not_written error)
 
--- the entries that nodes make, one after another
-abbrev pub entries_made : List ℕ → List Node → Result (List ℕ) WriteError
-entries_made pool nodes =
-    at_head 0 (made_each (made_entry pool (made_value pool inner_depth)) (length nodes) 0 nodes)
-
--- the values that nodes make, one after another
-abbrev pub values_made : List ℕ → List Node → Result (List ℕ) WriteError
-values_made pool nodes = at_head 0 (made_each (made_value pool inner_depth) (length nodes) 0 nodes)
-
 -- what fills an array or a table, by its tag; a byte that is neither is refused
 abbrev pub content_made : Option FieldTag → List ℕ → List Node → Result (List ℕ) WriteError
-content_made (Some tag.FieldArray) pool nodes = values_made pool nodes
-content_made (Some tag.FieldTable) pool nodes = entries_made pool nodes
-content_made other pool nodes = Err (failures.Refused 0 0 whys.BadArgument)
+content_made (Some tag.FieldArray) pool nodes = made_values pool nodes
+content_made (Some tag.FieldTable) pool nodes = made_entries pool nodes
+content_made other pool nodes = Err (failures.Refused 0 None whys.BadArgument)
 
 -- What fills an array or a table, by its tag, is encoded at the front: the values or the entries
 -- that nodes mean.

@@ -6,12 +6,13 @@ ghost use Rattle.amqp_wire.specs.Frames.{Frame};
 ghost use Rattle.amqp_fields.specs.Canonical.{AreCanonicalInOrder};
 ghost use Rattle.amqp_fields.specs.MadeFrames.{made_frames};
 ghost use Rattle.amqp_fields.specs.Making.{EncodesEntries, EncodesFrames, EncodesValues};
+ghost use Rattle.amqp_fields.specs.Making.{made_entries, made_values};
 ghost use Rattle.amqp_fields.specs.Meant.{TellFrames};
 ghost use Rattle.amqp_fields.specs.Nodes.{cut};
 ghost use Rattle.amqp_c.specs.Making.{EncodesContent, Reports, ReportsMeant};
 ghost use Rattle.amqp_c.specs.Making.{all_written, content_made};
-ghost use Rattle.amqp_c.specs.Making.{entries_made, not_written};
-ghost use Rattle.amqp_c.specs.Making.{refusal_status, report_of, values_made};
+ghost use Rattle.amqp_c.specs.Making.{node_number, not_written};
+ghost use Rattle.amqp_c.specs.Making.{refusal_status, report_of};
 
 use crate::frames::frame_error;
 use crate::statuses::{BAD_ARGUMENT, BUFFER_TOO_SMALL, TOO_LONG};
@@ -31,8 +32,8 @@ pub struct WriteReport {
     /// At other statuses than 0 and 40 which head is refused; else 0.
     pub head: u32,
 
-    /// At other statuses than 0 and 40 which one of all nodes is refused, and 0 where the head itself is; else 0. Where a field
-    /// misses, the place behind the last node.
+    /// At other statuses than 0 and 40 which one of all nodes is refused, or `NO_NODE` where a head itself is, or a content as a
+    /// whole; else 0. Where a field misses, the place behind the last node.
     pub node: u32,
 
     /// 0 where all is written, 40 where the buffer is too short, or why nothing is.
@@ -50,6 +51,28 @@ fn cut(n: usize) -> u32
         n as u32
     } else {
         u32::MAX
+    }
+}
+
+/// The number of no node.
+const NO_NODE: u32 = u32::MAX;
+
+/// The greatest number of a node.
+const LAST_NODE: u32 = NO_NODE - 1;
+
+/// Which one of all nodes, as 4 bytes say it.
+fn node_number(node: Option<usize>) -> u32
+    ensures { result ≡ node_number node }
+{
+    match node {
+        Some(n) => {
+            if n < LAST_NODE as usize {
+                n as u32
+            } else {
+                LAST_NODE
+            }
+        }
+        None => NO_NODE,
     }
 }
 
@@ -73,7 +96,7 @@ fn not_written(error: WriteError) -> WriteReport
         WriteError::Refused { head, node, why } => WriteReport {
             length: 0,
             head: cut(head),
-            node: cut(node),
+            node: node_number(node),
             status: refusal_status(why) as u32,
             unused: 0,
         },
@@ -135,7 +158,7 @@ pub extern "C" fn feksroum_write(
 /// The entries of a table.
 #[tactic(auto, using(crate::proofs::Reported::made_reported, crate::proofs::Reported::entries_encoded))]
 fn put_entries(nodes: &[Node], pool: &[u8], out: &mut [u8]) -> WriteReport
-    ensures written { Reports (entries_made pool.now nodes.now) out.old out.new result }
+    ensures written { Reports (made_entries pool.now nodes.now) out.old out.new result }
     ensures encoded { (count : ℕ) → result ≡ all_written count
         → EncodesEntries pool.now nodes.now out.old out.new count }
 {
@@ -145,14 +168,15 @@ fn put_entries(nodes: &[Node], pool: &[u8], out: &mut [u8]) -> WriteReport
 /// The values of an array.
 #[tactic(auto, using(crate::proofs::Reported::made_reported, crate::proofs::Reported::values_encoded))]
 fn put_values(nodes: &[Node], pool: &[u8], out: &mut [u8]) -> WriteReport
-    ensures written { Reports (values_made pool.now nodes.now) out.old out.new result }
+    ensures written { Reports (made_values pool.now nodes.now) out.old out.new result }
     ensures encoded { (count : ℕ) → result ≡ all_written count
         → EncodesValues pool.now nodes.now out.old out.new count }
 {
     report(write_values(nodes, pool, out))
 }
 
-/// Writes what fills a table (`kind` is `F`) or an array (`A`) alone, without its length: the nodes are its entries or values.
+/// Writes what fills a table (`kind` is `F`) or an array (`A`) alone, without its length: the nodes are its entries or values. More
+/// bytes than 2^32 - 1, which a length of 4 bytes counts, are refused as too long.
 #[tactic(auto, using(crate::proofs::Reported::no_content))]
 #[unsafe(no_mangle)]
 pub extern "C" fn feksroum_write_content(
@@ -173,7 +197,7 @@ pub extern "C" fn feksroum_write_content(
         Some(FieldTag::FieldArray) => put_values(nodes, pool, out),
         _ => not_written(WriteError::Refused {
             head: 0,
-            node: 0,
+            node: None,
             why: WriteRefusal::BadArgument,
         }),
     }

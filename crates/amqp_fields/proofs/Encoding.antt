@@ -1,9 +1,11 @@
 -- What is written encodes what heads and nodes mean.
-use Rattle.std.proofs.Common.{◌≡◌, ℕ, ◌+◌, ◌<◌, ◌^◌, List, length, take, drop, Some, Result, Ok, Err, sym, ap, subst, ◌∙◌, arith}
+use Rattle.std.proofs.Common.{◌≡◌, ℕ, ◌+◌, ◌<◌, ◌^◌, List, length, take, drop, Some, Result, Ok, Err, Bool, true, false}
+use Rattle.std.proofs.Common.{if◌then◌else◌, sym, ap, subst, ◌∙◌, arith}
 use Rattle.std.specs.Prelude.{IfOk}
 use Rattle.std.proofs.lemmas.List.{drop_at, take_at}
 use Rattle.amqp_types.specs.Levels.{plain}
 use Rattle.amqp_types.specs.Judging.{IsBytes}
+use Rattle.amqp_types.specs.Strings.{is_too_long}
 use Rattle.amqp_types.specs.Constants.{inner_depth}
 use Rattle.amqp_types.specs.Values.{Entry, FieldValue}
 use Rattle.amqp_wire.specs.Frames.{Frame}
@@ -14,10 +16,11 @@ use Rattle.amqp_fields.specs.declared.head.Head.{Head}
 use Rattle.amqp_fields.specs.declared.node.Node.{Node}
 use Rattle.amqp_fields.specs.declared.refusals.WriteError.{WriteError}
 use Rattle.amqp_fields.specs.declared.refusals.WriteError.TheVariants as failures
-use Rattle.amqp_fields.specs.Made.{made_each, made_entry, made_value}
+use Rattle.amqp_fields.specs.declared.refusals.WriteRefusal.TheVariants as whys
+use Rattle.amqp_fields.specs.Made.{Made, made_each, made_entry, made_value, refuse_head}
 use Rattle.amqp_fields.specs.MadeFrames.{made_frames}
 use Rattle.amqp_fields.specs.Making.{EncodesEntries, EncodesFrames, EncodesUnless, EncodesValues, IsEncoded, RefusesFirst, RefusesLong}
-use Rattle.amqp_fields.specs.Making.{SpellsEntries, SpellsValues, Suits, TellEntries, TellValues, Writes, made_entries, made_values}
+use Rattle.amqp_fields.specs.Making.{SpellsEntries, SpellsValues, Suits, TellEntries, TellValues, Writes, made_entries, made_values, made_whole}
 use Rattle.amqp_fields.specs.Meaning.{AreNodes}
 use Rattle.amqp_fields.specs.Meant.{TellFrames, TellsEntry, TellsValue}
 use Rattle.amqp_fields.specs.Canonical.{AreCanonicalInOrder}
@@ -37,6 +40,16 @@ unfolding written
 behind old bytes count is =
     let whole : 0 + length bytes ≡ count = omega (arith, is) in
     drop_at bytes (drop (0 + length bytes) old) count (sym is) ∙ ap (λ n. drop n old) whole
+
+whole_by : (bytes content : List ℕ) (test : Bool)
+    → (if test then refuse_head whys.TooLong else Ok content) ≡ Ok bytes → (◌≡◌ {A = Made} (Ok content) (Ok bytes))
+whole_by bytes content true h = absurd cc
+whole_by bytes content false h = h
+
+-- a content that stands alone is what was made
+whole_ok : (made : Made) (bytes : List ℕ) → made_whole made ≡ Ok bytes → made ≡ Ok bytes
+whole_ok (Ok content) bytes h = whole_by bytes content (is_too_long content) h
+whole_ok (Err bad) bytes h = absurd cc
 
 encoded : {A : Type 0} (Means : A → Type 0) (Spells : List ℕ → A → Type 0) (made : Result (List ℕ) WriteError) (old new : List ℕ) (result : Result ℕ WriteError)
     → ((bytes : List ℕ) → made ≡ Ok bytes → Told Means (λ x. Spells bytes x)) → Writes made old new result → IfOk result (IsEncoded Means Spells old new)
@@ -68,7 +81,8 @@ entries_encoded pool nodes old new result fits h =
     (λ bytes is.
     each_told (made_entry pool (made_value pool inner_depth)) (TellsEntry (TellsValue inner_depth pool) pool)
     (SpellsEntry (SpellsValue plain inner_depth)) (entry_told pool fits inner_depth (made_value pool inner_depth) (value_told pool fits inner_depth))
-    (length nodes) nodes bytes (at_ok 0 (made_each (made_entry pool (made_value pool inner_depth)) (length nodes) 0 nodes) bytes is)) h
+    (length nodes) nodes bytes (whole_ok (made_each (made_entry pool (made_value pool inner_depth)) (length nodes) 0 nodes) bytes
+    (at_ok 0 (made_whole (made_each (made_entry pool (made_value pool inner_depth)) (length nodes) 0 nodes)) bytes is))) h
 
 -- the bytes that are written encode values that nodes mean
 pub values_encoded : (pool : List ℕ) (nodes : List Node) (old new : List ℕ) (result : Result ℕ WriteError)
@@ -77,7 +91,8 @@ values_encoded pool nodes old new result fits h =
     encoded (λ values. AreNodes (TellsValue inner_depth pool) values nodes) (SpellsEach (SpellsValue plain inner_depth)) (made_values pool nodes) old new result
     (λ bytes is.
     each_told (made_value pool inner_depth) (TellsValue inner_depth pool) (SpellsValue plain inner_depth) (value_told pool fits inner_depth)
-    (length nodes) nodes bytes (at_ok 0 (made_each (made_value pool inner_depth) (length nodes) 0 nodes) bytes is)) h
+    (length nodes) nodes bytes (whole_ok (made_each (made_value pool inner_depth) (length nodes) 0 nodes) bytes
+    (at_ok 0 (made_whole (made_each (made_value pool inner_depth) (length nodes) 0 nodes)) bytes is))) h
 
 -- where keys ascend and content is canonical, what is written is canonical
 pub frames_canonical : (pool : List ℕ) (nodes : List Node) (heads : List Head) (m : ℕ) (old new : List ℕ) (result : Result ℕ WriteError)
@@ -96,7 +111,7 @@ complete_by Reason Spells thing made old new (Ok count) small suits h =
     let bytes : take count new ≡ h.bytes = ap (take count) h.written_is ∙ front old h.bytes count h.count_is in
     let spelled = subst (λ m. Suits Reason m (λ bytes. Spells bytes thing)) h.made_is suits in
     subst (λ bs. Spells bs thing) (sym bytes) spelled
-complete_by Reason Spells thing made old new (Err (failures.Refused head node why)) small suits h =
+complete_by Reason Spells thing made old new (Err (failures.Refused head place why)) small suits h =
     subst (λ m. Suits Reason m (λ bytes. Spells bytes thing)) h.0 suits
 complete_by Reason Spells thing made old new (Err (failures.TooSmall needed)) small suits h = small needed
 
@@ -111,10 +126,10 @@ frames_complete pool nodes heads m old new result fits few h frames meant =
 -- entries that are meant are encoded, or one is refused that holds too many bytes
 pub entries_complete : (pool : List ℕ) (nodes : List Node) (old new : List ℕ) (result : Result ℕ WriteError)
     → IsBytes pool → Writes (made_entries pool nodes) old new result → (entries : List Entry)
-    → TellEntries pool nodes entries → EncodesUnless (RefusesLong pool nodes) SpellsEntries entries new result
+    → TellEntries pool nodes entries → EncodesUnless (RefusesLong (λ content. SpellsEntries content entries) pool nodes) SpellsEntries entries new result
 entries_complete pool nodes old new result fits h entries meant =
     let make = made_entry pool (made_value pool inner_depth) in
-    complete_by (RefusesLong pool nodes) SpellsEntries entries (made_entries pool nodes) old new result (λ n. tt)
+    complete_by (RefusesLong (λ content. SpellsEntries content entries) pool nodes) SpellsEntries entries (made_entries pool nodes) old new result (λ n. tt)
     (at_suits plain pool fits nodes (made_each make (length nodes) 0 nodes) (λ bytes. SpellsEntries bytes entries)
     (entries_fit plain pool fits inner_depth (made_value pool inner_depth)
     (value_fits plain pool fits inner_depth) (length nodes) entries nodes plain_order meant)) h
@@ -122,10 +137,10 @@ entries_complete pool nodes old new result fits h entries meant =
 -- the same of values
 pub values_complete : (pool : List ℕ) (nodes : List Node) (old new : List ℕ) (result : Result ℕ WriteError)
     → IsBytes pool → Writes (made_values pool nodes) old new result → (values : List FieldValue)
-    → TellValues pool nodes values → EncodesUnless (RefusesLong pool nodes) SpellsValues values new result
+    → TellValues pool nodes values → EncodesUnless (RefusesLong (λ content. SpellsValues content values) pool nodes) SpellsValues values new result
 values_complete pool nodes old new result fits h values meant =
     let make = made_value pool inner_depth in
-    complete_by (RefusesLong pool nodes) SpellsValues values (made_values pool nodes) old new result (λ n. tt)
+    complete_by (RefusesLong (λ content. SpellsValues content values) pool nodes) SpellsValues values (made_values pool nodes) old new result (λ n. tt)
     (at_suits plain pool fits nodes (made_each make (length nodes) 0 nodes) (λ bytes. SpellsValues bytes values)
     (values_fit plain pool fits inner_depth (made_value pool inner_depth)
     (value_fits plain pool fits inner_depth) (length nodes) values nodes plain_order meant)) h

@@ -16,7 +16,7 @@ use Rattle.amqp_fields.specs.declared.node.Node.{Node}
 use Rattle.amqp_fields.specs.declared.refusals.Refusal.{Refusal}
 use Rattle.amqp_fields.specs.declared.refusals.WriteRefusal.TheVariants as whys
 use Rattle.amqp_fields.specs.Listed.{version_slots}
-use Rattle.amqp_fields.specs.Made.{Made, after, misfit, refuse}
+use Rattle.amqp_fields.specs.Made.{Made, after, misfit_head, refuse_head}
 use Rattle.amqp_fields.specs.MadeFields.{made_properties, made_slots}
 use Rattle.amqp_fields.specs.MadeFrames.{header_front, has_no_ids, made_around, made_header, made_known, made_method, made_own, made_payload, made_typed}
 use Rattle.amqp_fields.specs.MadeFrames.{made_version, nodes_in, unknown_in}
@@ -50,7 +50,8 @@ surrounds type channel m n head_of new {made} {old} {mid} {place} at (Ok count) 
     record {
       bytes = framed type channel content;
       is =
-          ap (made_around m head_of) one.is ∙ ap (λ test. if test then refuse 0 whys.TooLarge else Ok (framed head_of.frame_type head_of.channel content)) short
+          ap (made_around m head_of) one.is
+          ∙ ap (λ test. if test then refuse_head whys.TooLarge else Ok (framed head_of.frame_type head_of.channel content)) short
           ∙ ap (λ t. Ok (framed t head_of.channel content)) (sym t) ∙ ap (λ c. Ok (framed type c content)) (sym ch);
       are_put =
           subst (λ k. ArePut old new at (framed type channel content) k) (sym count_is)
@@ -59,7 +60,7 @@ surrounds type channel m n head_of new {made} {old} {mid} {place} at (Ok count) 
 surrounds type channel m n head_of new {made} at (Err bad) few t ch one there h =
     let long : nat_lt m (length one.bytes) ≡ true = grind (arith, nat_tests, one.are_put.count_is, few, h.0) in
     ap (made_around m head_of) one.is
-    ∙ ap (λ test. if test then refuse 0 whys.TooLarge else Ok (framed head_of.frame_type head_of.channel one.bytes)) long ∙ ap Err (sym h.1)
+    ∙ ap (λ test. if test then refuse_head whys.TooLarge else Ok (framed head_of.frame_type head_of.channel one.bytes)) long ∙ ap Err (sym h.1)
 
 -- ---- what heads are made of
 
@@ -72,7 +73,7 @@ module _ (pool : List ℕ) (nodes own : List Node) (head_of : Head) (end : ℕ)
       ap
       (λ test. if test
       then made_own (λ own. after (Ok (header_front head_of)) (made_properties pool (head_of.first + head_of.nodes) own)) (nodes_in nodes head_of)
-      else misfit 0)
+      else misfit_head)
       holds
       ∙ ap (made_own (λ own. after (Ok (header_front head_of)) (made_properties pool (head_of.first + head_of.nodes) own))) own_is
       ∙ ap (λ e. after (Ok (header_front head_of)) (made_properties pool e own)) (sym end_is)
@@ -87,7 +88,7 @@ module _ (pool : List ℕ) (nodes own : List Node) (head_of : Head) (end : ℕ)
       ap (made_known pool nodes head_of) known
       ∙ ap
       (λ test. if test then made_own (λ own. after (Ok ids) (made_slots pool (head_of.first + head_of.nodes) 0 slots own)) (nodes_in nodes head_of)
-      else misfit 0)
+      else misfit_head)
       holds
       ∙ ap (made_own (λ own. after (Ok ids) (made_slots pool (head_of.first + head_of.nodes) 0 slots own))) own_is
       ∙ ap (λ e. after (Ok ids) (made_slots pool e 0 slots own)) (sym end_is)
@@ -101,7 +102,7 @@ module _ (pool : List ℕ) (nodes own : List Node) (head_of : Head) (end : ℕ)
       (λ test. if test
       then made_own (λ own. after (Ok (protocol_byte ∷ protocol_mark)) (made_slots pool (head_of.first + head_of.nodes) 0 version_slots own))
       (nodes_in nodes head_of)
-      else misfit 0)
+      else misfit_head)
       holds
       ∙ ap (made_own (λ own. after (Ok (protocol_byte ∷ protocol_mark)) (made_slots pool (head_of.first + head_of.nodes) 0 version_slots own))) own_is
       ∙ ap (λ e. after (Ok (protocol_byte ∷ protocol_mark)) (made_slots pool e 0 version_slots own)) (sym end_is)

@@ -29,15 +29,15 @@ use Rattle.amqp_fields.specs.declared.node.Node.{Node}
 use Rattle.amqp_fields.specs.declared.refusals.WriteError.{WriteError}
 use Rattle.amqp_fields.specs.declared.refusals.WriteRefusal.TheVariants as whys
 use Rattle.amqp_fields.specs.Listed.{next_place, version_slots}
-use Rattle.amqp_fields.specs.Made.{Made, after, made_span, misfit, refusal, span_in}
+use Rattle.amqp_fields.specs.Made.{Made, after, misfit_head, refusal_of_head, span_in}
 use Rattle.amqp_fields.specs.MadeFields.{group_size, is_next, made_field, made_none, made_properties, made_set, made_slots, set_at}
-use Rattle.amqp_fields.specs.MadeFrames.{at_head, has_no_ids, header_front, is_held, made_around, made_beat, made_body, made_frame, made_frames, made_header}
-use Rattle.amqp_fields.specs.MadeFrames.{made_known, made_method, made_own, made_payload, made_typed, made_version, nodes_in}
+use Rattle.amqp_fields.specs.MadeFrames.{at_head, has_no_ids, header_front, is_held, made_around, made_beat, made_body, made_bytes, made_frame, made_frames}
+use Rattle.amqp_fields.specs.MadeFrames.{made_header, made_known, made_method, made_own, made_payload, made_typed, made_version, nodes_in}
 use Rattle.amqp_fields.specs.Meaning.{AreNodes, IsSpan, fields_from, fields_of, kinds_in, set_fields}
 use Rattle.amqp_fields.specs.Meant.{HasNoIds, IsMethod, TellFrames, TellsField, TellsFields, TellsFrame, TellsTyped}
 use Rattle.amqp_fields.proofs.AtLevel.{from_tidy}
 use Rattle.amqp_fields.proofs.FieldsTold.{field_told, slots_told}
-use Rattle.amqp_fields.proofs.Inverted.{after_ok, fails, holds, ok_is, span_ok}
+use Rattle.amqp_fields.proofs.Inverted.{after_ok, fails, holds, ok_is}
 use Rattle.amqp_fields.proofs.PayloadsFound.{few_fields, fourteen}
 use Rattle.amqp_fields.proofs.Spans.{byte_below}
 use Rattle.amqp_fields.proofs.ValuesTold.{Told}
@@ -217,7 +217,7 @@ module _ (pool : List ℕ) (fits : IsBytes pool) where
       let id = head.method_id in
       let ids = number_bytes bytes2 class ++ number_bytes bytes2 id in
       let make : List Node → Made = λ own. after (Ok ids) (made_slots pool (head.first + head.nodes) 0 slots own) in
-      let free = holds (head.body_size == 0) (made_own make (nodes_in nodes head)) (refusal 0 whys.BadArgument) bytes h in
+      let free = holds (head.body_size == 0) (made_own make (nodes_in nodes head)) (refusal_of_head whys.BadArgument) bytes h in
       let own = own_told make nodes head bytes free.1 in
       let nodes_own = take head.nodes (drop head.first nodes) in
       let parts = after_ok (Ok ids) (made_slots pool (head.first + head.nodes) 0 slots nodes_own) bytes own.is in
@@ -301,7 +301,7 @@ module _ (pool : List ℕ) (fits : IsBytes pool) where
   unfolding made_header fields_of
   header_told nodes head bytes class_fits size_fits h =
       let make : List Node → Made = λ own. after (Ok (header_front head)) (made_properties pool (head.first + head.nodes) own) in
-      let free = holds (head.method_id == 0) (made_own make (nodes_in nodes head)) (refusal 0 whys.BadArgument) bytes h in
+      let free = holds (head.method_id == 0) (made_own make (nodes_in nodes head)) (refusal_of_head whys.BadArgument) bytes h in
       let own = own_told make nodes head bytes free.1 in
       let nodes_own = take head.nodes (drop head.first nodes) in
       let parts = after_ok (Ok (header_front head)) (made_properties pool (head.first + head.nodes) nodes_own) bytes own.is in
@@ -326,6 +326,15 @@ module _ (pool : List ℕ) (fits : IsBytes pool) where
   no_ids : (head : given.Head) → has_no_ids head ≡ true → HasNoIds head
   no_ids head h = (grind (arith, nat_tests, h), grind (arith, nat_tests, h), grind (arith, nat_tests, h))
 
+  bytes_by : (head : given.Head) (bytes : List ℕ) (test : Bool) → nat_le (head.start + head.length) (length pool) ≡ test
+      → made_bytes (if test then Some (take head.length (drop head.start pool)) else None) ≡ Ok bytes → IsSpan pool head.start head.length bytes
+  bytes_by head bytes true is h = record { within = grind (arith, nat_tests, is); bytes_are = sym (ok_is h) }
+  bytes_by head bytes false is h = absurd cc
+
+  bytes_ok : (head : given.Head) (bytes : List ℕ) → made_bytes (span_in pool head.start head.length) ≡ Ok bytes
+      → IsSpan pool head.start head.length bytes
+  bytes_ok head bytes h = bytes_by head bytes (nat_le (head.start + head.length) (length pool)) refl h
+
   record BodyTold (head : given.Head) (bytes : List ℕ) : Type 0 where
     free : HasNoIds head
     none : head.nodes ≡ 0
@@ -336,19 +345,18 @@ module _ (pool : List ℕ) (fits : IsBytes pool) where
   body_told head bytes h =
       let both =
       holds (has_no_ids head && (head.nodes == 0))
-      (made_span (λ content. Ok content) 0 (span_in pool head.start head.length)) (refusal 0 whys.BadArgument) bytes h in
+      (made_bytes (span_in pool head.start head.length)) (refusal_of_head whys.BadArgument) bytes h in
       let each = both_true (has_no_ids head) (head.nodes == 0) both.0 in
-      let found = span_ok (λ content. Ok content) 0 pool head.start head.length bytes both.1 in
       record {
         free = no_ids head each.0;
         none = grind (arith, nat_tests, each.1);
-        span = subst (λ bs. IsSpan pool head.start head.length bs) (sym (ok_is found.is)) found.span;
+        span = bytes_ok head bytes both.1;
       }
 
   beat_told : (head : given.Head) (bytes : List ℕ) → made_beat head ≡ Ok bytes → HasNoIds head × (head.nodes ≡ 0) × (bytes ≡ [])
   unfolding made_beat
   beat_told head bytes h =
-      let both = holds (has_no_ids head && (head.nodes == 0)) (Ok []) (refusal 0 whys.BadArgument) bytes h in
+      let both = holds (has_no_ids head && (head.nodes == 0)) (Ok []) (refusal_of_head whys.BadArgument) bytes h in
       let each = both_true (has_no_ids head) (head.nodes == 0) both.0 in
       (no_ids head each.0, grind (arith, nat_tests, each.1), ok_is both.1)
 
@@ -407,7 +415,7 @@ module _ (pool : List ℕ) (fits : IsBytes pool) where
   unfolding made_version fields_of
   version_told nodes head bytes h =
       let make : List Node → Made = λ own. after (Ok (protocol_byte ∷ protocol_mark)) (made_slots pool (head.first + head.nodes) 0 version_slots own) in
-      let both = holds (has_no_ids head && (head.channel == 0)) (made_own make (nodes_in nodes head)) (refusal 0 whys.BadArgument) bytes h in
+      let both = holds (has_no_ids head && (head.channel == 0)) (made_own make (nodes_in nodes head)) (refusal_of_head whys.BadArgument) bytes h in
       let each = both_true (has_no_ids head) (head.channel == 0) both.0 in
       let own = own_told make nodes head bytes both.1 in
       let nodes_own = take head.nodes (drop head.first nodes) in
@@ -441,7 +449,7 @@ module _ (pool : List ℕ) (fits : IsBytes pool) where
 
   around_told : (m : ℕ) (head : given.Head) (made : Made) (bytes : List ℕ) → made_around m head made ≡ Ok bytes → Around m head made bytes
   around_told m head (Ok payload) bytes h =
-      let both = fails (nat_lt m (length payload)) (Ok (framed head.frame_type head.channel payload)) (refusal 0 whys.TooLarge) bytes h in
+      let both = fails (nat_lt m (length payload)) (Ok (framed head.frame_type head.channel payload)) (refusal_of_head whys.TooLarge) bytes h in
       let few : length payload ≤ m = grind (arith, nat_tests, both.0) in
       let is : bytes ≡ framed head.frame_type head.channel payload = ok_is both.1 in
       record {
@@ -521,7 +529,7 @@ module _ (pool : List ℕ) (fits : IsBytes pool) where
         by_type : (a b c d : Bool) → (head.frame_type == method_byte) ≡ a → (head.frame_type == header_byte) ≡ b
             → (head.frame_type == body_byte) ≡ c → (head.frame_type == heartbeat_byte) ≡ d
             → (if a then made_method pool nodes head
-            else (if b then made_header pool nodes head else (if c then made_body pool head else (if d then made_beat head else misfit 0))))
+            else (if b then made_header pool nodes head else (if c then made_body pool head else (if d then made_beat head else misfit_head))))
             ≡ Ok payload
             → Frames nodes head m bytes
         by_type true b c d e1 e2 e3 e4 h = method_frame (grind (arith, nat_tests, e1)) h
@@ -552,7 +560,7 @@ module _ (pool : List ℕ) (fits : IsBytes pool) where
       → Told (λ frame. TellsFrame pool nodes head frame) (λ frame. Spells plain bytes frame × IsWithin (Some m) bytes)
   unfolding made_frame
   frame_told nodes m head bytes few h =
-      let both = holds (is_held head) (made_typed pool nodes m head) (refusal 0 whys.BadArgument) bytes h in
+      let both = holds (is_held head) (made_typed pool nodes m head) (refusal_of_head whys.BadArgument) bytes h in
       let told = typed_told nodes head m bytes few (head_held head both.0) both.1 in
       record { thing = told.thing; means = (both.0, told.means); spelled = told.spelled }
 

@@ -1,22 +1,32 @@
 -- What the fields of whole payloads are listed as.
-use Rattle.std.proofs.Common.{Bor, ◌≡◌, ℕ, ◌+◌, ◌-◌, ◌<◌, ◌≤◌, Bool, List, [], ◌∷◌, length, drop, Option, Some, None, Ok, sym, ap, subst, ◌∙◌, arith}
+use Rattle.std.proofs.Common.{Bor, ◌≡◌, ℕ, ◌+◌, ◌-◌, ◌*◌, ◌<◌, ◌≤◌, Bool, List, [], ◌∷◌, length, drop, Option, Some, None, Result, Ok, Err, refl}
+use Rattle.std.proofs.Common.{sym, ap, subst, ◌∙◌, arith, rules}
 use Rattle.std.proofs.lemmas.List.{length-drop}
 use Rattle.std.specs.Prelude.{option_copied, option_map}
-use Rattle.amqp_types.specs.Judging.{IsBytes, Judged, took, ◌>>=◌}
-use Rattle.amqp_types.specs.Methods.{judge_payload, payload_bytes}
+use Rattle.amqp_types.specs.Answers.{RefusesWhole}
+use Rattle.amqp_types.specs.Judging.{Fault, IsBytes, Judged, took, past, ◌>>=◌}
+use Rattle.amqp_types.specs.Methods.{Method, judge_payload, payload_bytes}
 use Rattle.amqp_types.specs.Tidiness.{is_tidy_payload}
 use Rattle.amqp_types.specs.Numbers.{bytes2, judge_number}
-use Rattle.amqp_types.specs.Rows.{slots_at}
+use Rattle.amqp_types.specs.Rows.{Row, rows_of, slots_at}
+use Rattle.amqp_types.specs.ValueJudging.{inside_error, read_map}
+use Rattle.amqp_types.specs.declared.errors.ParserError.{ParserError}
+use Rattle.amqp_types.specs.declared.errors.ParserError.TheVariants as errors
 use Rattle.amqp_types.specs.Slots as meant
 use Rattle.amqp_canonical.specs.declared.shapes.Slot.{Slot}
 use Rattle.amqp_canonical.specs.declared.slots.Judgement.{Judgement}
-use Rattle.amqp_canonical.specs.SlotJudgements.{JudgesSlots}
-use Rattle.amqp_canonical.proofs.MethodWalk.{payload_took}
-use Rattle.amqp_wire.specs.Judgements.{JudgesAll}
-use Rattle.amqp_wire.proofs.Judged.{method_all}
+use Rattle.amqp_canonical.specs.SlotJudgements.{JudgesPayload, JudgesSlots}
+use Rattle.amqp_canonical.proofs.MethodWalk.{payload_fails, payload_no_class, payload_no_id, payload_no_method, payload_took, payload_unread}
+use Rattle.amqp_wire.specs.declared.frame_type.AMQPFrameType.{AMQPFrameType}
+use Rattle.amqp_wire.specs.declared.frame_type.AMQPFrameType.TheVariants as kinds
+use Rattle.amqp_wire.specs.Frames.{Frame, Meth}
+use Rattle.amqp_wire.specs.Judgements.{IsPayloadFault, JudgesAll}
+use Rattle.amqp_wire.specs.Verdicts.{all_of, whole_as}
+use Rattle.amqp_wire.proofs.Judged.{method_all, method_refused, method_trailing}
 use Rattle.amqp_canonical.specs.Shapes.{slots_of}
 use Rattle.amqp_fields.specs.declared.node.Node.{Node}
 use Rattle.amqp_fields.specs.Listed.{listed_known, listed_method, listed_slots}
+use Rattle.amqp_fields.specs.Decoding.{IsNoMethod}
 use Rattle.amqp_fields.specs.Finding.{Counts}
 
 ids_then : (deep : Bool) (end count : ℕ) (payload fields : List ℕ) (class id : ℕ) (slots : Option (List meant.Slot)) (old new : List Node) (total : ℕ)
@@ -43,23 +53,6 @@ method_listed deep end count payload fields class id shapes found old new total 
     ids_then deep end count payload fields class id (Some (slots_of found.now)) old new total one two behind
     (sym at ∙ ap (λ o. option_map slots_of (option_copied o)) is) h
 
--- nothing is listed of a method that is not in the table
-pub no_method : (deep : Bool) (end count : ℕ) (payload fields : List ℕ) (class id : ℕ) (shapes : Option (Bor (List Slot))) (old : List Node)
-    → judge_number bytes2 payload ≡ took class 2 → judge_number bytes2 (drop 2 payload) ≡ took id 2 → fields ≡ drop 2 (drop 2 payload)
-    → option_map slots_of (option_copied shapes) ≡ slots_at class id → shapes ≡ None → Counts (listed_method deep end payload) old count old count
-no_method deep end count payload fields class id shapes old one two behind at is =
-    ids_then deep end count payload fields class id None old old count one two behind (sym at ∙ ap (λ o. option_map slots_of (option_copied o)) is) tt
-
--- nothing is listed of a payload without both ids
-pub no_ids : (deep : Bool) (end count : ℕ) (payload : List ℕ) (old : List Node)
-    → length payload < 4 → Counts (listed_method deep end payload) old count old count
-unfolding listed_method
-no_ids deep end count [] old h = tt
-no_ids deep end count (a ∷ []) old h = tt
-no_ids deep end count (a ∷ b ∷ []) old h = tt
-no_ids deep end count (a ∷ b ∷ c ∷ []) old h = tt
-no_ids deep end count (a ∷ b ∷ c ∷ d ∷ rest) old h = absurd (omega arith)
-
 -- ---- methods decoded
 
 -- a payload whose fields fill it is judged as they are
@@ -74,3 +67,89 @@ method_read payload fields class id shapes found j fits some one two behind at i
     let P : List ℕ → Type 0 = λ bytes. JudgesSlots (slots_of found.now) bytes (Ok j) in
     method_all payload (record { used = 2 + (2 + j.used); canonical = j.canonical; tidy = j.tidy }) fits
     (omega (arith, all, size, some)) (payload_took payload class 2 id 2 (slots_of found.now) j fits one two slots (subst P behind h))
+
+-- ---- faults of methods
+
+refused_none : (error : ParserError) (read : Result Method Fault) (m : Method) → IsPayloadFault error → RefusesWhole error read → read ≡ Ok m → ⊥
+refused_none errors.Incomplete read m h refuses is = absurd refuses
+refused_none errors.UnknownFrameType read m h refuses is = absurd cc
+refused_none errors.BadProtocolHeader read m h refuses is = absurd cc
+refused_none errors.BadFrameEnd read m h refuses is = absurd cc
+refused_none errors.UnknownClass read m h refuses is = absurd cc
+refused_none errors.UnknownMethod read m h refuses is = absurd cc
+refused_none errors.ShortPayload read m h refuses is = absurd cc
+refused_none errors.TrailingBytes read m h refuses is = absurd cc
+refused_none errors.NotUtf8 read m h refuses is = absurd cc
+refused_none errors.UnknownTag read m h refuses is = absurd cc
+refused_none errors.TooDeep read m h refuses is = absurd cc
+refused_none errors.NoMemory read m h refuses is = absurd (h.1 refl)
+
+fails_none : (payload : List ℕ) (error : ParserError) → JudgesPayload payload (Err error) → IsNoMethod payload
+fails_none payload error h m is =
+    let all = method_refused payload error h in
+    refused_none (inside_error error) (all_of judge_payload payload) m all.0 all.1 is
+
+unclassed : (payload : List ℕ) (class : ℕ) → judge_number bytes2 payload ≡ took class 2 → rows_of class ≡ None → IsNoMethod payload
+unclassed payload class one none = fails_none payload errors.UnknownClass (λ e. cc, payload_no_class payload class 2 one none)
+
+class_alone : (payload : List ℕ) (class : ℕ) (rows : Option (List Row)) → judge_number bytes2 payload ≡ took class 2
+    → judge_number bytes2 (drop 2 payload) ≡ past → rows_of class ≡ rows → IsNoMethod payload
+class_alone payload class None one short at = unclassed payload class one at
+class_alone payload class (Some rows) one short at =
+    fails_none payload errors.Incomplete (payload_no_id {A = ℕ} payload class 2 rows (λ n. n) errors.Incomplete one at short)
+
+-- a payload without both ids is no method
+pub no_ids : (payload : List ℕ) → length payload < 4 → IsNoMethod payload
+no_ids [] h = fails_none [] errors.Incomplete (payload_unread {A = ℕ} [] (λ n. n) errors.Incomplete refl)
+no_ids (a ∷ []) h = fails_none (a ∷ []) errors.Incomplete (payload_unread {A = ℕ} (a ∷ []) (λ n. n) errors.Incomplete refl)
+no_ids (a ∷ b ∷ []) h = class_alone (a ∷ b ∷ []) (256 * a + b) (rows_of (256 * a + b)) (search rules) refl refl
+no_ids (a ∷ b ∷ c ∷ []) h = class_alone (a ∷ b ∷ c ∷ []) (256 * a + b) (rows_of (256 * a + b)) (search rules) refl refl
+no_ids (a ∷ b ∷ c ∷ d ∷ rest) h = absurd (omega arith)
+
+unknown_by : (payload : List ℕ) (class id : ℕ) (rows : Option (List Row)) → judge_number bytes2 payload ≡ took class 2
+    → judge_number bytes2 (drop 2 payload) ≡ took id 2 → slots_at class id ≡ None → rows_of class ≡ rows → IsNoMethod payload
+unknown_by payload class id None one two none at = unclassed payload class one at
+unknown_by payload class id (Some rows) one two none at =
+    fails_none payload errors.UnknownMethod (λ e. cc, payload_no_method payload class 2 id 2 rows one at two none)
+
+-- a payload whose ids are not in the table is none
+pub no_method : (payload : List ℕ) (class id : ℕ) (shapes : Option (Bor (List Slot))) → judge_number bytes2 payload ≡ took class 2
+    → judge_number bytes2 (drop 2 payload) ≡ took id 2 → option_map slots_of (option_copied shapes) ≡ slots_at class id → shapes ≡ None → IsNoMethod payload
+no_method payload class id shapes one two at is =
+    unknown_by payload class id (rows_of class) one two (sym at ∙ ap (λ o. option_map slots_of (option_copied o)) is) refl
+
+-- nor one whose fields have a fault
+pub no_fields : (payload fields : List ℕ) (class id : ℕ) (shapes : Option (Bor (List Slot))) (found : Bor (List Slot)) (error : ParserError)
+    → judge_number bytes2 payload ≡ took class 2 → judge_number bytes2 (drop 2 payload) ≡ took id 2 → fields ≡ drop 2 (drop 2 payload)
+    → option_map slots_of (option_copied shapes) ≡ slots_at class id → shapes ≡ Some found
+    → JudgesSlots (slots_of found.now) fields (Err error) → IsNoMethod payload
+no_fields payload fields class id shapes found error one two behind at is h =
+    let slots : slots_at class id ≡ Some (slots_of found.now) = sym at ∙ ap (λ o. option_map slots_of (option_copied o)) is in
+    let P : List ℕ → Type 0 = λ bytes. JudgesSlots (slots_of found.now) bytes (Err error) in
+    fails_none payload error (payload_fails payload class 2 id 2 (slots_of found.now) error one two slots (subst P behind h))
+
+-- nor one in which bytes are left after the fields
+pub more_fields : (payload fields : List ℕ) (class id : ℕ) (shapes : Option (Bor (List Slot))) (found : Bor (List Slot)) (j : Judgement) → IsBytes payload
+    → 4 ≤ length payload → judge_number bytes2 payload ≡ took class 2 → judge_number bytes2 (drop 2 payload) ≡ took id 2 → fields ≡ drop 2 (drop 2 payload)
+    → option_map slots_of (option_copied shapes) ≡ slots_at class id → shapes ≡ Some found
+    → j.used < length fields → JudgesSlots (slots_of found.now) fields (Ok j) → IsNoMethod payload
+more_fields payload fields class id shapes found j fits some one two behind at is less h m is_method =
+    let size : length fields ≡ length payload - 4 = ap length behind ∙ length-drop 2 (drop 2 payload) ∙ ap (λ n. n - 2) (length-drop 2 payload) ∙ omega arith in
+    let slots : slots_at class id ≡ Some (slots_of found.now) = sym at ∙ ap (λ o. option_map slots_of (option_copied o)) is in
+    let P : List ℕ → Type 0 = λ bytes. JudgesSlots (slots_of found.now) bytes (Ok j) in
+    let all =
+    method_trailing payload (record { used = 2 + (2 + j.used); canonical = j.canonical; tidy = j.tidy })
+    (omega (arith, less, size, some)) (payload_took payload class 2 id 2 (slots_of found.now) j fits one two slots (subst P behind h)) in
+    refused_none errors.TrailingBytes (all_of judge_payload payload) m all.0 all.1 is_method
+
+read_none : (channel : ℕ) (read : Result Method Fault) → ((m : Method) → read ≡ Ok m → ⊥) → (frame : Frame)
+    → read_map (λ m. Meth channel m) read ≡ Ok frame → ⊥
+read_none channel (Ok m) h frame is = h m refl
+read_none channel (Err bad) h frame is = absurd cc
+
+-- a whole payload that is no method is no frame of one
+pub no_frame : (kind : AMQPFrameType) (channel : ℕ) (payload : List ℕ) → kind ≡ kinds.Method → IsNoMethod payload → (frame : Frame)
+    → whole_as kind channel payload ≡ Ok frame → ⊥
+unfolding whole_as
+no_frame kind channel payload is h frame found =
+    read_none channel (all_of judge_payload payload) h frame (subst (λ k. whole_as k channel payload ≡ Ok frame) is found)

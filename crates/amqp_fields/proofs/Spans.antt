@@ -1,7 +1,7 @@
 -- Where bytes stand in a payload: those of strings, keys, tables and arrays.
-use Rattle.std.proofs.Common.{◌≡◌, ℕ, zero, suc, ◌+◌, ◌-◌, ◌<◌, ◌≤◌, ◌^◌, nat_lt, List, [], ◌∷◌, length, take, drop, refl, sym, ap, subst, ◌∙◌, arith}
+use Rattle.std.proofs.Common.{◌≡◌, ℕ, zero, suc, ◌+◌, ◌-◌, ◌<◌, ◌≤◌, nat_lt, List, [], ◌∷◌, length, take, drop, refl, sym, ap, subst, ◌∙◌, arith}
 use Rattle.std.proofs.lemmas.Bool.Decides.{nat_tests}
-use Rattle.std.proofs.lemmas.List.{length-drop, length-take, length-take-le, drop-drop, drop-take, take-take, take_rest}
+use Rattle.std.proofs.lemmas.List.{length-drop, length-take-le, drop-drop, drop-take, take-take, take_rest}
 use Rattle.amqp_types.proofs.Took.{bind_took, guard_took, value_took, count_took}
 use Rattle.amqp_types.specs.Judging.{took}
 use Rattle.amqp_types.specs.Numbers.{NumberWidth, bytes4, byte_count, judge_number}

@@ -34,7 +34,7 @@ use Rattle.amqp_fields.specs.Listed.{listed_properties, listed_signed, scaled}
 use Rattle.amqp_fields.specs.Listed.{listed_set, listed_slot, listed_slots, listed_span, listed_tagged, listed_value, next_place, nodes_in, nodes_of, of_kind}
 use Rattle.amqp_fields.specs.Listed.{payload_nodes, placed, version_slots}
 use Rattle.amqp_fields.specs.Meaning.{HasNoKey}
-use Rattle.amqp_fields.specs.Nodes.{blank, held, keyed, numbered, spanned}
+use Rattle.amqp_fields.specs.Nodes.{blank, keyed, numbered, spanned}
 use Rattle.amqp_fields.specs.Reading.{fields_nodes}
 use Rattle.amqp_fields.specs.Spans.{AreNested, LieIn, LiesIn, SpansLieIn, has_span}
 use Rattle.amqp_fields.proofs.Spans.{IsPart, long_part, short_part}

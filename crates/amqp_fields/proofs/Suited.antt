@@ -1,6 +1,6 @@
 -- What is meant is made, unless a content is longer than four bytes count: parts, and values.
 use Rattle.std.proofs.Common.{◌≡◌, ℕ, zero, suc, ◌+◌, ◌-◌, ◌<◌, ◌^◌, ◌%◌, inl, inr, ℤ, Bool, true, false, List, [], ◌∷◌, ◌++◌, length, take, drop, Some, None}
-use Rattle.std.proofs.Common.{Result, Ok, Err, refl, sym, ap, subst, ◌∙◌, ◌≤◌, ◌⊎◌, append_assoc, arith, nat_lt, nat_le, if◌then◌else◌}
+use Rattle.std.proofs.Common.{Result, Ok, Err, refl, sym, ap, subst, ◌∙◌, ◌≤◌, ◌⊎◌, append_assoc, arith, nat_lt, nat_le, if◌then◌else◌, Option}
 use Rattle.std.proofs.lemmas.Bool.Decides.{nat_tests}
 use Rattle.std.proofs.lemmas.Int.{of_z-to_z}
 use Rattle.std.proofs.lemmas.List.{length-append}
@@ -190,7 +190,10 @@ group_long {nodes = nodes} {inside = inside} {others = others} {node = node} {en
   others = others;
   nodes_are = first.nodes_are;
   inside_is = first.inside_is;
-  index_is = ap (λ (b : Refusal). b.node) own.bad_is ∙ omega (arith, length-append inside others);
+  index_is =
+      ap (λ (b : Refusal). b.node) own.bad_is
+      ∙ ap (λ (n : ℕ). Some n) {x = own_index (end - length others) inside} {y = end - length (node ∷ (inside ++ others))}
+      (omega (arith, length-append inside others));
   content = own.content;
   holds = own.holds;
   long = own.long;
@@ -208,7 +211,9 @@ group_long {nodes = nodes} {inside = inside} {others = others} {node = node} {en
   inside_is = in_it.inside_is;
   index_is =
       in_it.index_is
-      ∙ omega (arith, length-append in_it.inside in_it.others, length-append in_it.others others, length-append in_it.inside (in_it.others ++ others));
+      ∙ ap (λ (n : ℕ). Some n) {x = end - length others - length (in_it.node ∷ (in_it.inside ++ in_it.others))}
+      {y = end - length (in_it.node ∷ (in_it.inside ++ (in_it.others ++ others)))}
+      (omega (arith, length-append in_it.inside in_it.others, length-append in_it.others others, length-append in_it.inside (in_it.others ++ others)));
   content = in_it.content;
   holds = in_it.holds;
   long = in_it.long;
@@ -216,7 +221,7 @@ group_long {nodes = nodes} {inside = inside} {others = others} {node = node} {en
 }
 
 -- one of those behind some others
-pub behind_long : {level : Level} {pool : List ℕ} {nodes rest : List Node} {end index : ℕ} {because : WriteRefusal} (front : List Node)
+pub behind_long : {level : Level} {pool : List ℕ} {nodes rest : List Node} {end : ℕ} {index : Option ℕ} {because : WriteRefusal} (front : List Node)
     → nodes ≡ front ++ rest → IsLongIn level pool end rest index because → IsLongIn level pool end nodes index because
 behind_long front is h = record {
   before = front ++ h.before;

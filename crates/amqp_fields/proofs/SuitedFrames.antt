@@ -7,6 +7,7 @@ use Rattle.amqp_types.specs.Levels.{Level, plain}
 use Rattle.amqp_types.specs.Judging.{IsBytes}
 use Rattle.amqp_types.specs.Numbers.{bytes1, bytes2, number_bytes}
 use Rattle.amqp_types.specs.Flags.{flag_at}
+use Rattle.amqp_types.specs.Strings.{is_too_long}
 use Rattle.amqp_types.specs.Constants.{protocol_byte, method_byte, header_byte, body_byte, heartbeat_byte, protocol_mark}
 use Rattle.amqp_types.specs.Slots.{Item, number_item, number_form, Slot, kept_slot}
 use Rattle.amqp_types.specs.Rows.{slots_at}
@@ -30,11 +31,11 @@ use Rattle.amqp_fields.specs.declared.refusals.WriteError.TheVariants as failure
 use Rattle.amqp_fields.specs.declared.refusals.WriteRefusal.{WriteRefusal}
 use Rattle.amqp_fields.specs.declared.refusals.WriteRefusal.TheVariants as whys
 use Rattle.amqp_fields.specs.Listed.{next_place, version_slots}
-use Rattle.amqp_fields.specs.Made.{Made, after, made_span, misfit, refusal, refuse, span_in}
+use Rattle.amqp_fields.specs.Made.{Made, after, misfit_head, refusal_of_head, refuse_head, span_in}
 use Rattle.amqp_fields.specs.MadeFields.{group_size, is_next, made_field, made_none, made_properties, made_set, made_slots, set_at}
-use Rattle.amqp_fields.specs.MadeFrames.{at_head, has_no_ids, header_front, is_held, made_around, made_beat, made_body, made_frame, made_frames, made_header}
-use Rattle.amqp_fields.specs.MadeFrames.{made_known, made_method, made_own, made_payload, made_typed, made_version, nodes_in}
-use Rattle.amqp_fields.specs.Making.{IsFirstRefused, RefusesFirst, RefusesHead, RefusesLong, SpellsPayloadOf, Suits}
+use Rattle.amqp_fields.specs.MadeFrames.{at_head, has_no_ids, header_front, is_held, made_around, made_beat, made_body, made_bytes, made_frame, made_frames}
+use Rattle.amqp_fields.specs.MadeFrames.{made_header, made_known, made_method, made_own, made_payload, made_typed, made_version, nodes_in}
+use Rattle.amqp_fields.specs.Making.{IsFirstRefused, RefusesFirst, RefusesHead, RefusesLong, SpellsPayloadOf, Suits, made_whole}
 use Rattle.amqp_fields.specs.Meaning.{AreNodes, IsSpan, fields_from, fields_of, kinds_in, set_fields}
 use Rattle.amqp_fields.specs.Meant.{HasNoIds, IsMethod, TellFrames, TellsField, TellsFields, TellsFrame, TellsTyped}
 use Rattle.amqp_fields.proofs.AtLevel.{beat_at, from_tidy}
@@ -42,7 +43,7 @@ use Rattle.amqp_fields.proofs.FramesTold.{front_spelled}
 use Rattle.amqp_fields.proofs.Ordered.{InOrder, each_with, order_taken}
 use Rattle.amqp_fields.proofs.PayloadsFound.{few_fields, few_spare, fourteen}
 use Rattle.amqp_fields.proofs.Spans.{byte_below}
-use Rattle.amqp_fields.proofs.Suited.{Fits, IsLongBy, after_fits, as_fits, behind_long, fits_for, fits_into, ok_fits, span_fits_in}
+use Rattle.amqp_fields.proofs.Suited.{Fits, IsLongBy, after_fits, as_fits, behind_long, fits_for, fits_into, ok_fits}
 use Rattle.amqp_fields.proofs.SuitedFields.{IsOne, Means, field_fits, slots_fit}
 
 -- ---- properties
@@ -228,7 +229,7 @@ module _ (level : Level) (pool : List ℕ) (fits : IsBytes pool) where
       let make : List Node → Made = λ own. after (Ok ids) (made_slots pool (head.first + head.nodes) 0 slots own) in
       as_fits (made_known pool nodes head (slots_at head.class_id head.method_id))
       (made_known pool nodes head (Some slots)) (ap (made_known pool nodes head) known)
-      (test_fits (head.body_size == 0) (made_own make (nodes_in nodes head)) (misfit 0) free_is
+      (test_fits (head.body_size == 0) (made_own make (nodes_in nodes head)) misfit_head free_is
       (own_fits make nodes head h.within
       (after_fits (Ok ids) (made_slots pool (head.first + head.nodes) 0 slots own) {P = λ bytes. bytes ≡ ids}
       (λ a b p q. record {
@@ -259,7 +260,7 @@ module _ (level : Level) (pool : List ℕ) (fits : IsBytes pool) where
       each_with level pool (TellsField pool) (set_fields 0 properties header.options) own (order_taken level pool nodes head.first head.nodes order) h.fields in
       let same : header_of_parts (number_item head.class_id ∷ number_item head.body_size ∷ []) header.options ≡ header =
       ap₂ (λ a b. header_of_parts (number_item a ∷ number_item b ∷ []) header.options) class size in
-      test_fits (head.method_id == 0) (made_own make (nodes_in nodes head)) (misfit 0) free_is
+      test_fits (head.method_id == 0) (made_own make (nodes_in nodes head)) misfit_head free_is
       (own_fits make nodes head h.within
       (after_fits (Ok (header_front head)) (made_properties pool (head.first + head.nodes) own) {P = λ bytes. bytes ≡ header_front head}
       (λ a b p q. record {
@@ -273,19 +274,26 @@ module _ (level : Level) (pool : List ℕ) (fits : IsBytes pool) where
         joined = sym same;
       }) (ok_fits (header_front head) refl) (properties_fit (head.first + head.nodes) header.options own number means)))
 
+  bytes_fit : {Why : Refusal → Type 0} (head : given.Head) (content : List ℕ) → IsSpan pool head.start head.length content
+      → Fits Why (made_bytes (span_in pool head.start head.length)) (λ bytes. bytes ≡ content)
+  bytes_fit {Why} head content span =
+      let within : nat_le (head.start + head.length) (length pool) ≡ true = grind (arith, nat_tests, span.within) in
+      let P : Bool → Type 0 =
+      λ test. Fits Why (made_bytes (if test then Some (take head.length (drop head.start pool)) else None)) (λ bytes. bytes ≡ content) in
+      subst P (sym within) (ok_fits (take head.length (drop head.start pool)) span.bytes_are)
+
   body_fits : {Why : Refusal → Type 0} (head : given.Head) (content : List ℕ) → HasNoIds head → head.nodes ≡ 0
       → IsSpan pool head.start head.length content → Fits Why (made_body pool head) (λ bytes. bytes ≡ content)
   unfolding made_body
   body_fits head content free none span =
       let is : (has_no_ids head && (head.nodes == 0)) ≡ true = grind (arith, nat_tests, free_ids head free, none) in
-      test_fits (has_no_ids head && (head.nodes == 0)) (made_span (λ content. Ok content) 0 (span_in pool head.start head.length))
-      (misfit 0) is (span_fits_in (λ content. Ok content) 0 pool content head.start head.length span (ok_fits content refl))
+      test_fits (has_no_ids head && (head.nodes == 0)) (made_bytes (span_in pool head.start head.length)) misfit_head is (bytes_fit head content span)
 
   beat_fits : {Why : Refusal → Type 0} (head : given.Head) → HasNoIds head → head.nodes ≡ 0 → Fits Why (made_beat head) (λ bytes. bytes ≡ [])
   unfolding made_beat
   beat_fits head free none =
       let is : (has_no_ids head && (head.nodes == 0)) ≡ true = grind (arith, nat_tests, free_ids head free, none) in
-      test_fits (has_no_ids head && (head.nodes == 0)) (Ok []) (misfit 0) is (ok_fits [] refl)
+      test_fits (has_no_ids head && (head.nodes == 0)) (Ok []) misfit_head is (ok_fits [] refl)
 
   -- ---- protocol headers
 
@@ -323,7 +331,7 @@ module _ (level : Level) (pool : List ℕ) (fits : IsBytes pool) where
       let means =
       each_with level pool (TellsField pool) (fields_of (Proto major minor revision)) own (order_taken level pool nodes head.first head.nodes order) h.fields in
       let slots_made = slots_fit level pool fits (head.first + head.nodes) 0 version_slots items own (omega arith) (omega arith) refl refl means in
-      test_fits (has_no_ids head && (head.channel == 0)) (made_own make (nodes_in nodes head)) (misfit 0) is
+      test_fits (has_no_ids head && (head.channel == 0)) (made_own make (nodes_in nodes head)) misfit_head is
       (own_fits make nodes head h.within
       (after_fits (Ok (protocol_byte ∷ protocol_mark)) (made_slots pool (head.first + head.nodes) 0 version_slots own)
       {P = λ bytes. bytes ≡ protocol_byte ∷ protocol_mark} {Q = λ bytes. SpellsSlots level version_slots bytes items}
@@ -333,9 +341,9 @@ module _ (level : Level) (pool : List ℕ) (fits : IsBytes pool) where
 
   -- a payload is framed where it is within the limit
   around_by : {Why : Refusal → Type 0} (m : ℕ) (head : given.Head) (payload : List ℕ) (test : Bool) {Q : List ℕ → Type 0} → nat_lt m (length payload) ≡ test
-      → m < 2 ^ 32 → head.channel < 2 ^ 16 → (m < length payload → Why (refusal 0 whys.TooLarge))
+      → m < 2 ^ 32 → head.channel < 2 ^ 16 → (m < length payload → Why (refusal_of_head whys.TooLarge))
       → ((bytes : List ℕ) → IsFramed bytes head.frame_type head.channel payload → Q bytes)
-      → Fits Why (if test then refuse 0 whys.TooLarge else Ok (framed head.frame_type head.channel payload)) (λ bytes. Q bytes × IsWithin (Some m) bytes)
+      → Fits Why (if test then refuse_head whys.TooLarge else Ok (framed head.frame_type head.channel payload)) (λ bytes. Q bytes × IsWithin (Some m) bytes)
   around_by m head payload true is few channel large into = record { suits = large (grind (arith, nat_tests, is)) }
   around_by m head payload false is few channel large into =
       let within : length payload ≤ m = grind (arith, nat_tests, is) in
@@ -366,14 +374,14 @@ module _ (level : Level) (pool : List ℕ) (fits : IsBytes pool) where
       if t == protocol_byte then made_version pool nodes head
       else made_around m head (if t == method_byte then made_method pool nodes head
       else (if t == header_byte then made_header pool nodes head
-      else (if t == body_byte then made_body pool head else (if t == heartbeat_byte then made_beat head else misfit 0))))
+      else (if t == body_byte then made_body pool head else (if t == heartbeat_byte then made_beat head else misfit_head))))
 
   -- the payload of a head, by its type
   payload_by : List Node → given.Head → ℕ → Made
   payload_by nodes head t =
       if t == method_byte then made_method pool nodes head
       else (if t == header_byte then made_header pool nodes head
-      else (if t == body_byte then made_body pool head else (if t == heartbeat_byte then made_beat head else misfit 0)))
+      else (if t == body_byte then made_body pool head else (if t == heartbeat_byte then made_beat head else misfit_head)))
 
   payload_is : (nodes : List Node) (head : given.Head) → made_payload pool nodes head ≡ payload_by nodes head head.frame_type
   unfolding made_payload payload_by
@@ -440,15 +448,21 @@ module _ (level : Level) (pool : List ℕ) (fits : IsBytes pool) where
       → Fits (IsRefused nodes m head frame) (made_frame pool nodes m head) (λ bytes. Spells level bytes frame × IsWithin (Some m) bytes)
   unfolding made_frame
   frame_fits nodes m head frame order few h =
-      test_fits (is_held head) (made_typed pool nodes m head) (misfit 0) h.0 (typed_fits nodes m head frame order few (head_held head h.0) h.1)
+      test_fits (is_held head) (made_typed pool nodes m head) misfit_head h.0 (typed_fits nodes m head frame order few (head_held head h.0) h.1)
 
   -- ---- sequences
 
+  whole_by : (nodes : List Node) (bytes : List ℕ) (P : List ℕ → Type 0) (test : Bool) → is_too_long bytes ≡ test → P bytes
+      → Suits (RefusesLong P pool nodes) (at_head 0 (if test then refuse_head whys.TooLong else Ok bytes)) P
+  whole_by nodes bytes P true is p =
+      (refl, inr (record { content = bytes; spelled = p; long = grind (arith, nat_tests, is); index_is = refl; because_is = refl }))
+  whole_by nodes bytes P false is p = p
+
   -- a refusal of a content alone
   pub at_suits : (nodes : List Node) (made : Made) (P : List ℕ → Type 0)
-      → Fits (IsLongBy plain pool (length nodes) nodes) made P → Suits (RefusesLong pool nodes) (at_head 0 made) P
-  at_suits nodes (Ok bytes) P h = h.suits
-  at_suits nodes (Err bad) P h = (refl, h.suits)
+      → Fits (IsLongBy plain pool (length nodes) nodes) made P → Suits (RefusesLong P pool nodes) (at_head 0 (made_whole made)) P
+  at_suits nodes (Ok bytes) P h = whole_by nodes bytes P (is_too_long bytes) refl h.suits
+  at_suits nodes (Err bad) P h = (refl, inl h.suits)
 
   -- the first head is refused
   here : (nodes : List Node) (m k : ℕ) (head : given.Head) (heads : List given.Head) (frame : Frame) (frames : List Frame) (bad : Refusal)
@@ -471,12 +485,13 @@ module _ (level : Level) (pool : List ℕ) (fits : IsBytes pool) where
   }
 
   -- one of the others is
-  later : (nodes : List Node) (m k index node : ℕ) (why : WriteRefusal) (head : given.Head) (heads : List given.Head) (frame : Frame) (frames : List Frame)
+  later : (nodes : List Node) (m k index : ℕ) (place : Option ℕ) (why : WriteRefusal)
+      (head : given.Head) (heads : List given.Head) (frame : Frame) (frames : List Frame)
       (bytes : List ℕ) → made_frame pool nodes m head ≡ Ok bytes → Spells level bytes frame × IsWithin (Some m) bytes
-      → IsFirstRefused level pool nodes m (k + 1) heads frames index node why
-      → IsFirstRefused level pool nodes m k (head ∷ heads) (frame ∷ frames) index node why
+      → IsFirstRefused level pool nodes m (k + 1) heads frames index place why
+      → IsFirstRefused level pool nodes m k (head ∷ heads) (frame ∷ frames) index place why
   unfolding made_frames
-  later nodes m k index node why head heads frame frames bytes made one h = record {
+  later nodes m k index place why head heads frame frames bytes made one h = record {
     heads_before = head ∷ h.heads_before;
     head = h.head;
     heads_after = h.heads_after;
@@ -500,8 +515,8 @@ module _ (level : Level) (pool : List ℕ) (fits : IsBytes pool) where
       (λ bytes. SpellsFrames level (Some m) bytes (frame ∷ frames))
   frames_by nodes m k head heads frame frames (Err bad) others is one rest = here nodes m k head heads frame frames bad one.suits
   frames_by nodes m k head heads frame frames (Ok x) (Ok y) is one rest = (x, y, refl, one.suits.0, one.suits.1, rest)
-  frames_by nodes m k head heads frame frames (Ok x) (Err (failures.Refused index node why)) is one rest =
-      later nodes m k index node why head heads frame frames x is one.suits rest
+  frames_by nodes m k head heads frame frames (Ok x) (Err (failures.Refused index place why)) is one rest =
+      later nodes m k index place why head heads frame frames x is one.suits rest
   frames_by nodes m k head heads frame frames (Ok x) (Err (failures.TooSmall needed)) is one rest = rest
 
   -- the frames that are meant, one after another, or the first that is refused

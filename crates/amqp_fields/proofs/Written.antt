@@ -1,17 +1,20 @@
 -- What writing leaves, and loops over heads.
-use Rattle.std.proofs.Common.{◌≡◌, ℕ, ◌+◌, ◌-◌, ◌<◌, ◌≤◌, ◌^◌, List, [], ◌∷◌, length, take, drop, Result, Ok, Err, refl, sym, ap, subst, ◌∙◌, arith}
+use Rattle.std.proofs.Common.{◌≡◌, ℕ, ◌+◌, ◌-◌, ◌<◌, ◌≤◌, ◌^◌, List, [], ◌∷◌, length, take, drop, true, false, None, Result, Ok, Err, if◌then◌else◌}
+use Rattle.std.proofs.Common.{refl, sym, ap, subst, ◌∙◌, arith}
 use Rattle.std.proofs.lemmas.Bool.Decides.{nat_tests}
 use Rattle.std.proofs.lemmas.List.{take_at}
+use Rattle.amqp_types.specs.Strings.{is_too_long}
 use Rattle.amqp_types.specs.Writing.{Puts, written}
 use Rattle.amqp_fields.specs.declared.head.Head.{Head}
 use Rattle.amqp_fields.specs.declared.node.Node.{Node}
 use Rattle.amqp_fields.specs.declared.refusals.Refusal.{Refusal}
 use Rattle.amqp_fields.specs.declared.refusals.WriteError.{WriteError}
 use Rattle.amqp_fields.specs.declared.refusals.WriteError.TheVariants as failures
-use Rattle.amqp_fields.specs.Made.{Made, after}
+use Rattle.amqp_fields.specs.declared.refusals.WriteRefusal.TheVariants as whys
+use Rattle.amqp_fields.specs.Made.{Made, after, refuse_head}
 use Rattle.amqp_fields.specs.MadeFrames.{at_head, made_frame, made_frames}
 use Rattle.amqp_fields.specs.Makes.{Gives, cut_long}
-use Rattle.amqp_fields.specs.Making.{AreWritten, Writes}
+use Rattle.amqp_fields.specs.Making.{AreWritten, Writes, made_whole}
 use Rattle.amqp_fields.proofs.Combined.{cut_most, cut_small}
 use Rattle.amqp_fields.proofs.EachMade.{Onward, begins, ends, steps, stops}
 
@@ -101,7 +104,7 @@ module _ (pool : List ℕ) (nodes : List Node) (m : ℕ) where
 -- a refusal of heads leaves the buffer
 pub refused : (made : Result (List ℕ) WriteError) (old : List ℕ) (error : WriteError)
     → ((n : ℕ) → made ≡ Err (failures.TooSmall n) → ⊥) → made ≡ Err error → Writes made old old (Err error)
-refused made old (failures.Refused head node why) never h = (h, refl)
+refused made old (failures.Refused head place why) never h = (h, refl)
 refused made old (failures.TooSmall n) never h = absurd (never n h)
 
 -- what was made before is copied
@@ -117,3 +120,31 @@ made_copied {made} {before} {between} {old} {new} {needed} few fits within first
     let put : between ≡ written before 0 first.bytes = first.are_put.put (omega (arith, few)) (omega (arith, fits, size)) in
     let front : take needed between ≡ first.bytes = ap (take needed) put ∙ taken before first.bytes needed size in
     record { bytes = first.bytes; made_is = first.is; count_is = sym size; within = within; written_is = h.put ∙ ap (written old 0) front }
+
+-- ---- contents that stand alone
+
+four : {made : Made} {old new : List ℕ} {at n : ℕ} (one : Gives made old new at n) → n < 2 ^ 32 → length one.bytes ≡ n
+four {made} {old} {new} {at} {n} one few = cut_small (length one.bytes) n (sym one.are_put.count_is) (omega (arith, few))
+
+-- a content is made, where a length of four bytes counts its bytes
+pub whole_made : {made : Made} {old new : List ℕ} {at n : ℕ} → Gives made old new at n → n < 2 ^ 32 → Gives (at_head 0 (made_whole made)) old new at n
+whole_made {made} {old} {new} {at} {n} one few =
+    let short : is_too_long one.bytes ≡ false = grind (arith, nat_tests, four one few, few) in
+    record {
+      bytes = one.bytes;
+      is =
+          ap (λ m. at_head 0 (made_whole m)) one.is
+          ∙ ap (λ test. at_head 0 (if test then refuse_head whys.TooLong else Ok one.bytes)) short;
+      are_put = one.are_put;
+    }
+
+-- else it is refused
+pub whole_long : {made : Made} {old new : List ℕ} {at n : ℕ} → Gives made old new at n → 2 ^ 32 ≤ n
+    → at_head 0 (made_whole made) ≡ Err (failures.Refused 0 None whys.TooLong)
+whole_long {made} {old} {new} {at} {n} one long =
+    let more : is_too_long one.bytes ≡ true = grind (arith, nat_tests, one.are_put.count_is, long) in
+    ap (λ m. at_head 0 (made_whole m)) one.is ∙ ap (λ test. at_head 0 (if test then refuse_head whys.TooLong else Ok one.bytes)) more
+
+-- a refusal of a node is that of the content
+pub whole_refused : (made : Made) (bad : Refusal) → made ≡ Err bad → at_head 0 (made_whole made) ≡ Err (failures.Refused 0 bad.node bad.why)
+whole_refused made bad is = ap (λ m. at_head 0 (made_whole m)) is

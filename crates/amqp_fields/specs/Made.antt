@@ -28,15 +28,27 @@ Made = Result (List ℕ) Refusal
 
 -- a node, and why it is refused
 abbrev pub refusal : ℕ → WriteRefusal → Refusal
-refusal node why = record { node = node; why = why }
+refusal node why = record { node = Some node; why = why }
+
+-- why a head itself is refused, or a content as a whole, and no node
+abbrev pub refusal_of_head : WriteRefusal → Refusal
+refusal_of_head why = record { node = None; why = why }
 
 -- a node is refused
 abbrev pub refuse : {A : Type 0} → ℕ → WriteRefusal → Result A Refusal
 refuse node why = Err (refusal node why)
 
+-- a head is refused, or a content as a whole
+abbrev pub refuse_head : {A : Type 0} → WriteRefusal → Result A Refusal
+refuse_head why = Err (refusal_of_head why)
+
 -- a member of it is not what it has to be
 abbrev pub misfit : {A : Type 0} → ℕ → Result A Refusal
 misfit node = refuse node whys.BadArgument
+
+-- a member of a head is not
+abbrev pub misfit_head : {A : Type 0} → Result A Refusal
+misfit_head = refuse_head whys.BadArgument
 
 -- as decoding has it
 abbrev pub faulty : {A : Type 0} → ℕ → ParserError → Result A Refusal

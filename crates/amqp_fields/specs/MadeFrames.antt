@@ -16,7 +16,7 @@ use Rattle.amqp_fields.specs.declared.refusals.WriteError.{WriteError}
 use Rattle.amqp_fields.specs.declared.refusals.WriteError.TheVariants as failures
 use Rattle.amqp_fields.specs.declared.refusals.WriteRefusal.TheVariants as whys
 use Rattle.amqp_fields.specs.Listed.{version_slots}
-use Rattle.amqp_fields.specs.Made.{Made, after, faulty, made_span, misfit, refuse, span_in}
+use Rattle.amqp_fields.specs.Made.{Made, after, misfit_head, refuse_head, span_in}
 use Rattle.amqp_fields.specs.MadeFields.{made_properties, made_slots}
 
 -- the nodes of a head, where the list has them
@@ -27,7 +27,7 @@ nodes_in nodes head =
 
 -- what is made of them
 abbrev pub made_own : (List Node → Made) → Option (List Node) → Made
-made_own make None = misfit 0
+made_own make None = misfit_head
 made_own make (Some own) = make own
 
 -- both ids are none of a method: which of them is unknown
@@ -37,7 +37,8 @@ unknown_in (Some rows) = errors.UnknownMethod
 
 -- both ids, and the fields of the method
 abbrev pub made_known : List ℕ → List Node → Head → Option (List Slot) → Made
-made_known pool nodes head None = faulty 0 (unknown_in (rows_of head.class_id))
+made_known pool nodes head None =
+    refuse_head (whys.Payload (unknown_in (rows_of head.class_id)))
 made_known pool nodes head (Some slots) =
     if head.body_size == 0
     then made_own
@@ -45,7 +46,7 @@ made_known pool nodes head (Some slots) =
     after (Ok (number_bytes bytes2 head.class_id ++ number_bytes bytes2 head.method_id))
     (made_slots pool (head.first + head.nodes) 0 slots own))
     (nodes_in nodes head)
-    else misfit 0
+    else misfit_head
 
 -- the payload of a method
 unfoldable pub made_method : List ℕ → List Node → Head → Made
@@ -65,21 +66,26 @@ made_header pool nodes head =
     then made_own
     (λ own. after (Ok (header_front head)) (made_properties pool (head.first + head.nodes) own))
     (nodes_in nodes head)
-    else misfit 0
+    else misfit_head
 
 -- neither ids nor a body size
 abbrev pub has_no_ids : Head → Bool
 has_no_ids head = (head.class_id == 0) && (head.method_id == 0) && (head.body_size == 0)
 
+-- the bytes of a body, where they lie within the pool
+abbrev pub made_bytes : Option (List ℕ) → Made
+made_bytes None = misfit_head
+made_bytes (Some content) = Ok content
+
 -- the payload of a body, which stands in the pool
 unfoldable pub made_body : List ℕ → Head → Made
 made_body pool head =
     if has_no_ids head && (head.nodes == 0)
-    then made_span (λ content. Ok content) 0 (span_in pool head.start head.length) else misfit 0
+    then made_bytes (span_in pool head.start head.length) else misfit_head
 
 -- a heartbeat has none
 unfoldable pub made_beat : Head → Made
-made_beat head = if has_no_ids head && (head.nodes == 0) then Ok [] else misfit 0
+made_beat head = if has_no_ids head && (head.nodes == 0) then Ok [] else misfit_head
 
 -- a protocol header
 unfoldable pub made_version : List ℕ → List Node → Head → Made
@@ -90,7 +96,7 @@ made_version pool nodes head =
     after (Ok (protocol_byte ∷ protocol_mark))
     (made_slots pool (head.first + head.nodes) 0 version_slots own))
     (nodes_in nodes head)
-    else misfit 0
+    else misfit_head
 
 -- the payload of a frame that is no protocol header
 unfoldable pub made_payload : List ℕ → List Node → Head → Made
@@ -98,12 +104,12 @@ made_payload pool nodes head =
     if head.frame_type == method_byte then made_method pool nodes head
     else (if head.frame_type == header_byte then made_header pool nodes head
     else (if head.frame_type == body_byte then made_body pool head
-    else (if head.frame_type == heartbeat_byte then made_beat head else misfit 0)))
+    else (if head.frame_type == heartbeat_byte then made_beat head else misfit_head)))
 
 -- a frame around a payload of at most m bytes
 abbrev pub made_around : ℕ → Head → Made → Made
 made_around m head (Ok payload) =
-    if nat_lt m (length payload) then refuse 0 whys.TooLarge
+    if nat_lt m (length payload) then refuse_head whys.TooLarge
     else Ok (framed head.frame_type head.channel payload)
 made_around m head (Err bad) = Err bad
 
@@ -121,7 +127,7 @@ is_held head =
 
 -- a frame
 unfoldable pub made_frame : List ℕ → List Node → ℕ → Head → Made
-made_frame pool nodes m head = if is_held head then made_typed pool nodes m head else misfit 0
+made_frame pool nodes m head = if is_held head then made_typed pool nodes m head else misfit_head
 
 -- a refusal within the frame of a head
 abbrev pub at_head : ℕ → Made → Result (List ℕ) WriteError

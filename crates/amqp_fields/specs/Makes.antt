@@ -10,7 +10,7 @@ use Rattle.amqp_wire.specs.Spelling.{head}
 use Rattle.amqp_fields.specs.declared.node.Node.{Node}
 use Rattle.amqp_fields.specs.declared.refusals.Refusal.{Refusal}
 use Rattle.amqp_fields.specs.declared.refusals.WriteRefusal.TheVariants as whys
-use Rattle.amqp_fields.specs.Made.{refusal}
+use Rattle.amqp_fields.specs.Made.{refusal, refusal_of_head}
 use Rattle.amqp_fields.specs.MadeFields.{is_field}
 
 -- as 8 bytes hold it, or the greatest number that they hold
@@ -87,4 +87,4 @@ abbrev pub Surrounds : ℕ → ℕ → ℕ → ℕ → List ℕ → List ℕ →
 Surrounds type channel payload m old new at (Ok count) =
     IsSurrounded type channel payload m old new at count
 Surrounds type channel payload m old new at (Err bad) =
-    (m < payload) × (bad ≡ refusal 0 whys.TooLarge)
+    (m < payload) × (bad ≡ refusal_of_head whys.TooLarge)

@@ -1,12 +1,13 @@
 -- What writing returns, and what it leaves in the buffer.
 use Rattle.std.specs.Prelude.{◌≡◌, ◌⊎◌, ◌≤◌, ◌<◌, ◌+◌, ◌-◌, ◌^◌, ℕ, List, []}
 use Rattle.std.specs.Prelude.{◌∷◌, ◌++◌, length, take, drop}
-use Rattle.std.specs.Prelude.{Some, Result, Ok, Err}
+use Rattle.std.specs.Prelude.{if◌then◌else◌, Option, Some, None, Result, Ok, Err}
 use Rattle.amqp_types.specs.Levels.{Level, plain}
 use Rattle.amqp_types.specs.ContentHeaders.{SpellsContentHeader}
 use Rattle.amqp_types.specs.MethodSpelling.{SpellsPayload}
 use Rattle.amqp_wire.specs.Frames.{Frame, Proto, Meth, Head, Body, Beat, BadBeat}
 use Rattle.amqp_types.specs.Constants.{inner_depth}
+use Rattle.amqp_types.specs.Strings.{is_too_long}
 use Rattle.amqp_types.specs.Values.{Entry, FieldValue}
 use Rattle.amqp_types.specs.ValueSpelling.{SpellsEach, SpellsEntry, SpellsValue}
 use Rattle.amqp_types.specs.Writing.{written}
@@ -17,7 +18,7 @@ use Rattle.amqp_fields.specs.declared.refusals.WriteError.{WriteError}
 use Rattle.amqp_fields.specs.declared.refusals.WriteError.TheVariants as failures
 use Rattle.amqp_fields.specs.declared.refusals.WriteRefusal.{WriteRefusal}
 use Rattle.amqp_fields.specs.declared.refusals.WriteRefusal.TheVariants as whys
-use Rattle.amqp_fields.specs.Made.{made_each, made_entry, made_value}
+use Rattle.amqp_fields.specs.Made.{Made, made_each, made_entry, made_value, refuse_head}
 use Rattle.amqp_fields.specs.MadeFrames.{at_head, made_frames, made_payload}
 use Rattle.amqp_fields.specs.Makes.{cut_long}
 use Rattle.amqp_fields.specs.Meaning.{AreNodes, IsSpan}
@@ -89,14 +90,23 @@ abbrev pub EncodesFrames : List ℕ → List Node → List given.Head → ℕ �
 EncodesFrames pool nodes heads m =
     IsEncoded (TellFrames pool nodes heads) (SpellsFrames plain (Some m))
 
--- the content of a table, made of its entries, or the first node that is refused
+-- a content that stands alone, where a length of four bytes counts its bytes
+abbrev pub made_whole : Made → Made
+made_whole (Ok content) =
+    if is_too_long content then refuse_head whys.TooLong else Ok content
+made_whole (Err bad) = Err bad
+
+-- the content of a table, made of its entries, or the first node that is refused, or the
+-- content as a whole
 abbrev pub made_entries : List ℕ → List Node → Result (List ℕ) WriteError
 made_entries pool nodes =
-    at_head 0 (made_each (made_entry pool (made_value pool inner_depth)) (length nodes) 0 nodes)
+    at_head 0 (made_whole
+    (made_each (made_entry pool (made_value pool inner_depth)) (length nodes) 0 nodes))
 
 -- the content of an array, made of its values
 abbrev pub made_values : List ℕ → List Node → Result (List ℕ) WriteError
-made_values pool nodes = at_head 0 (made_each (made_value pool inner_depth) (length nodes) 0 nodes)
+made_values pool nodes =
+    at_head 0 (made_whole (made_each (made_value pool inner_depth) (length nodes) 0 nodes))
 
 -- ---- what is not refused
 
@@ -119,14 +129,14 @@ HoldsBytes level pool node (first ∷ others) content = (d : ℕ)
 -- Of some nodes, which end at a place among all nodes, this one is refused, since it holds more
 -- bytes than a length of four bytes counts.
 pub record IsLongIn (level : Level) (pool : List ℕ) (end : ℕ)
-    (nodes : List Node) (index : ℕ) (because : WriteRefusal) : Type 0 where
+    (nodes : List Node) (index : Option ℕ) (because : WriteRefusal) : Type 0 where
   pub before : List Node
   pub node : Node
   pub inside : List Node
   pub others : List Node
   pub nodes_are : nodes ≡ before ++ (node ∷ (inside ++ others))
   pub inside_is : node.inside ≡ length inside
-  pub index_is : index ≡ end - length (node ∷ (inside ++ others))
+  pub index_is : index ≡ Some (end - length (node ∷ (inside ++ others)))
   pub content : List ℕ
   pub holds : HoldsBytes level pool node inside content
   pub long : 2 ^ 32 ≤ length content
@@ -143,17 +153,17 @@ SpellsPayloadOf level payload (BadBeat channel) = payload ≡ []
 
 -- a head is refused, since the payload that is made for its frame has more than m bytes
 pub record IsTooLarge (level : Level) (pool : List ℕ) (nodes : List Node) (m : ℕ)
-    (head : given.Head) (frame : Frame) (index : ℕ) (because : WriteRefusal) : Type 0 where
+    (head : given.Head) (frame : Frame) (index : Option ℕ) (because : WriteRefusal) : Type 0 where
   pub payload : List ℕ
   pub made_is : made_payload pool nodes head ≡ Ok payload
   pub spelled : SpellsPayloadOf level payload frame
   pub large : m < length payload
-  pub index_is : index ≡ 0
+  pub index_is : index ≡ None
   pub because_is : because ≡ whys.TooLarge
 
 -- a head whose frame is meant is refused: for one of its nodes, or for its payload
 abbrev pub RefusesHead : Level → List ℕ → List Node
-    → ℕ → given.Head → Frame → ℕ → WriteRefusal → Type 0
+    → ℕ → given.Head → Frame → Option ℕ → WriteRefusal → Type 0
 RefusesHead level pool nodes m head frame index because =
     IsLongIn level pool (head.first + head.nodes) (take head.nodes (drop head.first nodes))
     index because
@@ -163,7 +173,7 @@ RefusesHead level pool nodes m head frame index because =
 -- and encode their frames.
 pub record IsFirstRefused (level : Level) (pool : List ℕ) (nodes : List Node) (m k : ℕ)
     (heads : List given.Head) (frames : List Frame)
-    (index node : ℕ) (because : WriteRefusal) : Type 0 where
+    (index : ℕ) (node : Option ℕ) (because : WriteRefusal) : Type 0 where
   pub heads_before : List given.Head
   pub head : given.Head
   pub heads_after : List given.Head
@@ -185,11 +195,21 @@ RefusesFirst level pool nodes m k heads frames (failures.Refused index node beca
     IsFirstRefused level pool nodes m k heads frames index node because
 RefusesFirst level pool nodes m k heads frames (failures.TooSmall needed) = Unit {0}
 
--- of the nodes of a content alone, this one holds too many bytes
-abbrev pub RefusesLong : List ℕ → List Node → WriteError → Type 0
-RefusesLong pool nodes (failures.Refused index node because) =
-    (index ≡ 0) × IsLongIn plain pool (length nodes) nodes node because
-RefusesLong pool nodes (failures.TooSmall needed) = Unit {0}
+-- a content as a whole is refused, since it has more bytes than a length of four bytes counts
+pub record IsLongAlone (Spelled : List ℕ → Type 0)
+    (index : Option ℕ) (because : WriteRefusal) : Type 0 where
+  pub content : List ℕ
+  pub spelled : Spelled content
+  pub long : 2 ^ 32 ≤ length content
+  pub index_is : index ≡ None
+  pub because_is : because ≡ whys.TooLong
+
+-- of the nodes of a content alone, this one holds too many bytes, or else the content itself does
+abbrev pub RefusesLong : (List ℕ → Type 0) → List ℕ → List Node → WriteError → Type 0
+RefusesLong Spelled pool nodes (failures.Refused index node because) =
+    (index ≡ 0) × (IsLongIn plain pool (length nodes) nodes node because
+    ⊎ IsLongAlone Spelled node because)
+RefusesLong Spelled pool nodes (failures.TooSmall needed) = Unit {0}
 
 -- What is meant is encoded at the front, or refused for such a reason.
 abbrev pub EncodesUnless : {A : Type 0} → (WriteError → Type 0) → (List ℕ → A → Type 0)

@@ -1,12 +1,12 @@
 //! Whole payloads decoded: at which levels they are encoded, and the nodes of their fields.
 
-ghost use Rattle.std.specs.Prelude.{◌≡◌, ◌≤◌, length, None, Ok, IfSome};
+ghost use Rattle.std.specs.Prelude.{◌≡◌, ◌≢◌, ◌≤◌, length, None, Ok, Err, IfSome};
 ghost use Rattle.amqp_types.specs.Methods.{judge_payload, payload_bytes};
 ghost use Rattle.amqp_types.specs.Tidiness.{is_tidy_payload};
 ghost use Rattle.amqp_wire.specs.Frames.{raw_of};
-ghost use Rattle.amqp_wire.specs.Judgements.{JudgesAll};
+ghost use Rattle.amqp_wire.specs.Judgements.{JudgesAll, JudgesFrame};
 ghost use Rattle.amqp_fields.specs.Finding.{Counts};
-ghost use Rattle.amqp_fields.specs.Decoding.{Decodes};
+ghost use Rattle.amqp_fields.specs.Decoding.{Decodes, HasFault, IsNoMethod};
 ghost use Rattle.amqp_fields.specs.Listed.{listed_method};
 
 use crate::fields::list_fields;
@@ -42,6 +42,7 @@ fn decode_method(
     ensures counts { IfSome result (λ found.
         Counts (listed_method deep end payload.now) nodes.old count nodes.new found.count) }
     ensures none { result ≡ None → nodes.new ≡ nodes.old }
+    ensures faulty { result ≡ None → IsNoMethod payload.now }
 {
     match payload {
         [a, b, c, d, fields @ ..] => {
@@ -69,9 +70,9 @@ fn decode_method(
     }
 }
 
-/// Decodes a payload of any type, and puts its fields after `count` nodes.
+/// Decodes a payload that is no method's, and puts its fields after `count` nodes.
 #[inline(always)]
-fn decode_any(
+fn decode_other(
     raw: AMQPRawFrame<'_>,
     nodes: &mut [Node],
     count: u32,
@@ -79,6 +80,7 @@ fn decode_any(
     end: u32,
 ) -> Result<Decoded, ParserError>
     requires within { length raw.payload.now ≤ end }
+    requires other { raw.frame_type ≢ AMQPFrameType.Method }
     ensures { Decodes (raw_of raw.entry) deep end nodes.old count nodes.new result }
 {
     match judge_frame(raw) {
@@ -90,26 +92,23 @@ fn decode_any(
     }
 }
 
-/// The same of a payload that most often has a fault, whose code is not beside that of the others.
+/// The fault of a whole payload that has one. Its code is not beside that of the others.
 #[cold]
 #[inline(never)]
-fn decode_faulty(
-    raw: AMQPRawFrame<'_>,
-    nodes: &mut [Node],
-    count: u32,
-    deep: bool,
-    end: u32,
-) -> Result<Decoded, ParserError>
-    requires within { length raw.payload.now ≤ end }
-    ensures { Decodes (raw_of raw.entry) deep end nodes.old count nodes.new result }
+fn fault_of(raw: AMQPRawFrame<'_>) -> ParserError
+    requires faulty { HasFault (raw_of raw) }
+    ensures { JudgesFrame (raw_of raw.entry) (Err result) }
 {
-    decode_any(raw, nodes, count, deep, end)
+    match judge_frame(raw) {
+        Ok(_) => unreachable!(),
+        Err(error) => error,
+    }
 }
 
 /// Decodes a whole payload, and puts the nodes of its fields after `count` others. It ends at the place `end` of the bytes in
 /// which spans are counted. Where it has a fault, the list is left.
 #[inline(always)]
-#[tactic(auto, unfolding(crate::specs::Listed::listed_payload))]
+#[tactic(auto, using(crate::proofs::PayloadSteps::no_frame), unfolding(crate::specs::Listed::listed_payload))]
 pub(crate) fn decode(
     raw: AMQPRawFrame<'_>,
     nodes: &mut [Node],
@@ -124,12 +123,12 @@ pub(crate) fn decode(
         AMQPFrameType::Method => {
             match decode_method(nodes, count, deep, end, raw.payload) {
                 Some(found) => Ok(found),
-                None => decode_faulty(raw, nodes, count, deep, end),
+                None => Err(fault_of(raw)),
             }
         }
         AMQPFrameType::ProtocolHeader
         | AMQPFrameType::Header
         | AMQPFrameType::Body
-        | AMQPFrameType::Heartbeat => decode_any(raw, nodes, count, deep, end),
+        | AMQPFrameType::Heartbeat => decode_other(raw, nodes, count, deep, end),
     }
 }

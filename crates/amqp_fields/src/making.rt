@@ -20,11 +20,14 @@ use crate::making_frames::make_frame;
 use crate::making_values::{make_entries, make_values};
 use crate::node::Node;
 use crate::putting::plus;
-use crate::refusals::{Refusal, WriteError};
+use crate::refusals::{Refusal, WriteError, WriteRefusal};
 use amqp_types::{INNER_DEPTH, are_bytes, put_bytes};
 
 /// How many bytes are made beside the buffer at first, where a refusal leaves nothing. Frames that have more are made twice.
 const SCRATCH: usize = 1024;
+
+/// The most bytes of a content, which a length of 4 bytes counts.
+const LONGEST: usize = u32::MAX as usize;
 
 /// A refusal within the frame of a head.
 fn within(head: usize, bad: Refusal) -> WriteError
@@ -138,12 +141,18 @@ pub fn write_frames(
     fill_frames(out, pool, nodes, heads, max_payload)
 }
 
-/// Entries one after another, as far as a buffer has room, and how many bytes they have, or the greatest number.
+/// Entries one after another, as far as a buffer has room, and how many bytes they have, or that they are too many.
+#[tactic(auto, using(crate::proofs::Written::whole_made, crate::proofs::Written::whole_long, crate::proofs::Written::whole_refused))]
 fn make_all_entries(buf: &mut [u8], nodes: &[Node], pool: &[u8]) -> Result<usize, WriteError>
     ensures { Makes (made_entries pool.now nodes.now) buf.old buf.new 0 result }
 {
     match make_entries(buf, 0, pool, nodes.len(), nodes, INNER_DEPTH) {
-        Ok(n) => Ok(n),
+        Ok(n) => {
+            if n > LONGEST {
+                return Err(within(0, Refusal::of_head(WriteRefusal::TooLong)));
+            }
+            Ok(n)
+        }
         Err(bad) => Err(within(0, bad)),
     }
 }
@@ -165,24 +174,32 @@ fn fill_entries(out: &mut [u8], nodes: &[Node], pool: &[u8]) -> Result<usize, Wr
 }
 
 /// Writes the content of a table alone, without its length: the entries that nodes mean, in their order. Tables and arrays
-/// may nest 63 deep in their values.
+/// may nest 63 deep in their values. More bytes than a length of 4 bytes counts are refused as too long.
 #[tactic(auto, using(crate::proofs::Encoding::entries_encoded, crate::proofs::Encoding::entries_complete))]
 pub fn write_entries(nodes: &[Node], pool: &[u8], out: &mut [u8]) -> Result<usize, WriteError>
     ensures made { Writes (made_entries pool.now nodes.now) out.old out.new result }
     ensures encoded { IfOk result (EncodesEntries pool.now nodes.now out.old out.new) }
     ensures complete { (entries : List Entry) → TellEntries pool.now nodes.now entries
-        → EncodesUnless (RefusesLong pool.now nodes.now) SpellsEntries entries out.new result }
+        → EncodesUnless
+        (RefusesLong (λ content. SpellsEntries content entries) pool.now nodes.now)
+        SpellsEntries entries out.new result }
 {
     are_bytes(pool);
     fill_entries(out, nodes, pool)
 }
 
-/// Values one after another, as far as a buffer has room, and how many bytes they have, or the greatest number.
+/// Values one after another, as far as a buffer has room, and how many bytes they have, or that they are too many.
+#[tactic(auto, using(crate::proofs::Written::whole_made, crate::proofs::Written::whole_long, crate::proofs::Written::whole_refused))]
 fn make_all_values(buf: &mut [u8], nodes: &[Node], pool: &[u8]) -> Result<usize, WriteError>
     ensures { Makes (made_values pool.now nodes.now) buf.old buf.new 0 result }
 {
     match make_values(buf, 0, pool, nodes.len(), nodes, INNER_DEPTH) {
-        Ok(n) => Ok(n),
+        Ok(n) => {
+            if n > LONGEST {
+                return Err(within(0, Refusal::of_head(WriteRefusal::TooLong)));
+            }
+            Ok(n)
+        }
         Err(bad) => Err(within(0, bad)),
     }
 }
@@ -209,7 +226,9 @@ pub fn write_values(nodes: &[Node], pool: &[u8], out: &mut [u8]) -> Result<usize
     ensures made { Writes (made_values pool.now nodes.now) out.old out.new result }
     ensures encoded { IfOk result (EncodesValues pool.now nodes.now out.old out.new) }
     ensures complete { (values : List FieldValue) → TellValues pool.now nodes.now values
-        → EncodesUnless (RefusesLong pool.now nodes.now) SpellsValues values out.new result }
+        → EncodesUnless
+        (RefusesLong (λ content. SpellsValues content values) pool.now nodes.now)
+        SpellsValues values out.new result }
 {
     are_bytes(pool);
     fill_values(out, nodes, pool)

@@ -93,15 +93,15 @@ fn make_method(
     let shapes = match shapes_of(head.class_id, head.method_id) {
         Some(shapes) => shapes,
         None => {
-            return Err(Refusal::payload(0, unknown(head.class_id)));
+            return Err(Refusal::of_head(WriteRefusal::Payload(unknown(head.class_id))));
         }
     };
     if head.body_size != 0 {
-        return Err(Refusal::bad(0));
+        return Err(Refusal::of_head(WriteRefusal::BadArgument));
     }
     let own = match nodes_of(nodes, head) {
         Some(own) => own,
-        None => return Err(Refusal::bad(0)),
+        None => return Err(Refusal::of_head(WriteRefusal::BadArgument)),
     };
     let front = put(buf, at, &id_bytes(head));
     match make_slots(buf, plus(at, front), pool, nodes_end(head), shapes, own) {
@@ -136,11 +136,11 @@ fn make_header(
     ensures { Makes (made_header pool.now nodes.now head.now) buf.old buf.new at result }
 {
     if head.method_id != 0 {
-        return Err(Refusal::bad(0));
+        return Err(Refusal::of_head(WriteRefusal::BadArgument));
     }
     let own = match nodes_of(nodes, head) {
         Some(own) => own,
-        None => return Err(Refusal::bad(0)),
+        None => return Err(Refusal::of_head(WriteRefusal::BadArgument)),
     };
     let front = put(buf, at, &front_bytes(head));
     match make_properties(buf, plus(at, front), pool, nodes_end(head), own) {
@@ -164,11 +164,11 @@ fn make_body(buf: &mut [u8], at: usize, pool: &[u8], head: &Head) -> Result<usiz
     ensures { Makes (made_body pool.now head.now) buf.old buf.new at result }
 {
     if !has_no_ids(head) || head.nodes != 0 {
-        return Err(Refusal::bad(0));
+        return Err(Refusal::of_head(WriteRefusal::BadArgument));
     }
     match span(pool, head.start, head.length) {
         Some(content) => Ok(put(buf, at, content)),
-        None => Err(Refusal::bad(0)),
+        None => Err(Refusal::of_head(WriteRefusal::BadArgument)),
     }
 }
 
@@ -181,7 +181,7 @@ fn make_beat(buf: &mut [u8], at: usize, head: &Head) -> Result<usize, Refusal>
     if has_no_ids(head) && head.nodes == 0 {
         Ok(put(buf, at, &[]))
     } else {
-        Err(Refusal::bad(0))
+        Err(Refusal::of_head(WriteRefusal::BadArgument))
     }
 }
 
@@ -198,11 +198,11 @@ fn make_version(
     ensures { Makes (made_version pool.now nodes.now head.now) buf.old buf.new at result }
 {
     if !has_no_ids(head) || head.channel != 0 {
-        return Err(Refusal::bad(0));
+        return Err(Refusal::of_head(WriteRefusal::BadArgument));
     }
     let own = match nodes_of(nodes, head) {
         Some(own) => own,
-        None => return Err(Refusal::bad(0)),
+        None => return Err(Refusal::of_head(WriteRefusal::BadArgument)),
     };
     let mark = put(buf, at, b"AMQP\0");
     match make_slots(
@@ -235,7 +235,7 @@ fn make_payload(
         FRAME_HEADER => make_header(buf, at, pool, nodes, head),
         FRAME_BODY => make_body(buf, at, pool, head),
         FRAME_HEARTBEAT => make_beat(buf, at, head),
-        _ => Err(Refusal::bad(0)),
+        _ => Err(Refusal::of_head(WriteRefusal::BadArgument)),
     }
 }
 
@@ -252,10 +252,7 @@ fn close_frame(
         payload max_payload buf.old buf.new at result }
 {
     if payload > max_payload as usize {
-        return Err(Refusal {
-            node: 0,
-            why: WriteRefusal::TooLarge,
-        });
+        return Err(Refusal::of_head(WriteRefusal::TooLarge));
     }
     let front = put(
         buf,

@@ -93,7 +93,7 @@ pub(crate) fn put_long(
 {
     if bytes.len() > u32::MAX as usize {
         return Err(Refusal {
-            node: index,
+            node: Some(index),
             why: WriteRefusal::TooLong,
         });
     }
@@ -114,7 +114,7 @@ pub(crate) fn put_text(
 {
     if text.len() > 255 {
         return Err(Refusal {
-            node: index,
+            node: Some(index),
             why: WriteRefusal::TooLong,
         });
     }
@@ -139,7 +139,7 @@ pub(crate) fn put_length(
 {
     if count > u32::MAX as usize {
         return Err(Refusal {
-            node: index,
+            node: Some(index),
             why: WriteRefusal::TooLong,
         });
     }

@@ -1,7 +1,7 @@
 //! Why frames and contents are not written.
 
 ghost use Rattle.std.specs.Prelude.{◌≡◌};
-ghost use Rattle.amqp_fields.specs.Made.{refusal};
+ghost use Rattle.amqp_fields.specs.Made.{refusal, refusal_of_head};
 
 use amqp_types::ParserError;
 
@@ -16,7 +16,7 @@ pub enum WriteRefusal {
     /// has this fault.
     Payload(ParserError),
 
-    /// A short string has more than 255 bytes, or what fills a table or an array more than 4 bytes count.
+    /// A short string has more than 255 bytes, or what fills a table or an array has more than 4 bytes count.
     TooLong,
 
     /// The payload is longer than the limit.
@@ -26,8 +26,9 @@ pub enum WriteRefusal {
 /// Which node is refused, and why.
 #[derive(Clone, Copy, Debug, PartialEq, Eq)]
 pub struct Refusal {
-    /// Which one of all nodes; 0 where a head is refused. Where a field misses, the place behind the last node.
-    pub node: usize,
+    /// Which one of all nodes; none where a head is refused, or a content as a whole. Where a field misses, the place behind the
+    /// last node.
+    pub node: Option<usize>,
 
     /// Why.
     pub why: WriteRefusal,
@@ -39,7 +40,7 @@ impl Refusal {
         ensures { result ≡ refusal node WriteRefusal.BadArgument }
     {
         Refusal {
-            node,
+            node: Some(node),
             why: WriteRefusal::BadArgument,
         }
     }
@@ -49,9 +50,16 @@ impl Refusal {
         ensures { result ≡ refusal node (WriteRefusal.Payload error) }
     {
         Refusal {
-            node,
+            node: Some(node),
             why: WriteRefusal::Payload(error),
         }
+    }
+
+    /// Why a head is refused, or a content as a whole, and none of its nodes.
+    pub(crate) fn of_head(why: WriteRefusal) -> Refusal
+        ensures { result ≡ refusal_of_head why }
+    {
+        Refusal { node: None, why }
     }
 }
 
@@ -63,9 +71,9 @@ pub enum WriteError {
         /// Which head; 0 of a content alone.
         head: usize,
 
-        /// Which one of all nodes; 0 where the head itself is refused. Where a field misses, the place behind the last
-        /// node.
-        node: usize,
+        /// Which one of all nodes; none where the head itself is refused, or a content as a whole. Where a field misses, the
+        /// place behind the last node.
+        node: Option<usize>,
 
         /// Why.
         why: WriteRefusal,

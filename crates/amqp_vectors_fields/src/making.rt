@@ -200,8 +200,13 @@ fn nothing_is_written_where_there_is_no_room() -> Result<(), Fail> {
 
 const BAD: WriteRefusal = WriteRefusal::BadArgument;
 
-/// A head after a heartbeat, the nodes of both, the node that is refused, and why.
-type Row = (&'static [Head], &'static [Node], usize, WriteRefusal);
+/// A head after a heartbeat, the nodes of both, the node that is refused or none where the head is, and why.
+type Row = (
+    &'static [Head],
+    &'static [Node],
+    Option<usize>,
+    WriteRefusal,
+);
 
 /// `connection.secure`: a long string.
 const SECURE: Head = Head {
@@ -236,7 +241,7 @@ const ROWS: &[Row] = &[
             },
         ],
         &[],
-        0,
+        None,
         BAD,
     ),
     (
@@ -248,7 +253,7 @@ const ROWS: &[Row] = &[
             },
         ],
         NODES,
-        0,
+        None,
         WriteRefusal::Payload(ParserError::UnknownClass),
     ),
     (
@@ -260,7 +265,7 @@ const ROWS: &[Row] = &[
             },
         ],
         NODES,
-        0,
+        None,
         WriteRefusal::Payload(ParserError::UnknownMethod),
     ),
     (
@@ -272,7 +277,7 @@ const ROWS: &[Row] = &[
             },
         ],
         NODES,
-        0,
+        None,
         BAD,
     ),
     (
@@ -284,11 +289,11 @@ const ROWS: &[Row] = &[
             },
         ],
         NODES,
-        0,
+        None,
         BAD,
     ),
-    (&[BEAT, Head { nodes: 1, ..BEAT }], NODES, 0, BAD),
-    (&[BEAT, Head { length: 6, ..BODY }], &[], 0, BAD),
+    (&[BEAT, Head { nodes: 1, ..BEAT }], NODES, None, BAD),
+    (&[BEAT, Head { length: 6, ..BODY }], &[], None, BAD),
     (
         &[
             BEAT,
@@ -298,7 +303,7 @@ const ROWS: &[Row] = &[
             },
         ],
         NODES,
-        0,
+        None,
         BAD,
     ),
     // One field misses, and one is too many.
@@ -311,7 +316,7 @@ const ROWS: &[Row] = &[
             },
         ],
         NODES,
-        4,
+        Some(4),
         BAD,
     ),
     (
@@ -323,11 +328,11 @@ const ROWS: &[Row] = &[
             },
         ],
         NODES,
-        5,
+        Some(5),
         BAD,
     ),
     // The kind of another field, and a number outside its width.
-    (&[BEAT, TUNE], &[BLANK, BLANK, BLANK], 0, BAD),
+    (&[BEAT, TUNE], &[BLANK, BLANK, BLANK], Some(0), BAD),
     (
         &[BEAT, TUNE],
         &[
@@ -339,7 +344,7 @@ const ROWS: &[Row] = &[
             BLANK,
             BLANK,
         ],
-        0,
+        Some(0),
         BAD,
     ),
     // A span that passes the end of the pool, and a payload that passes the limit.
@@ -351,7 +356,7 @@ const ROWS: &[Row] = &[
             length: 9,
             ..BLANK
         }],
-        0,
+        Some(0),
         BAD,
     ),
     (
@@ -361,7 +366,7 @@ const ROWS: &[Row] = &[
             length: 9,
             ..BLANK
         }],
-        0,
+        None,
         WriteRefusal::TooLarge,
     ),
     // A property at the place of another.
@@ -372,7 +377,7 @@ const ROWS: &[Row] = &[
             place: 5,
             ..BLANK
         }],
-        0,
+        Some(0),
         BAD,
     ),
 ];
@@ -464,7 +469,12 @@ fn entries_are_refused() -> Result<(), Fail> {
     for row in ENTRY_ROWS {
         let (nodes, node, why) = *row;
         let made = write_entries(nodes, POOL, &mut out);
-        same(made, Err(WriteError::Refused { head: 0, node, why }))?;
+        let refused = WriteError::Refused {
+            head: 0,
+            node: Some(node),
+            why,
+        };
+        same(made, Err(refused))?;
     }
     same((out[0], out[63]), (7, 7))
 }

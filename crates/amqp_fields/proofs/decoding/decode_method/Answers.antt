@@ -1,9 +1,9 @@
--- `decode_method`: clauses `judged` and `counts`.
+-- `decode_method`: clauses `judged`, `counts` and `faulty`.
 use Rattle.std.proofs.Common.{rules, ◌≡◌, drop, sym, arith}
 use Rattle.std.proofs.lemmas.List.{take_rest, drop-drop}
 use Rattle.amqp_types.specs.Judging.{took}
 use Rattle.amqp_types.specs.Numbers.{bytes2, judge_number}
-use Rattle.amqp_fields.proofs.PayloadSteps.{method_listed, method_read}
+use Rattle.amqp_fields.proofs.PayloadSteps.{method_listed, method_read, more_fields, no_fields, no_ids, no_method}
 use Rattle.amqp_fields.proofs.decoding.decode_method.Goals as goal
 
 pub returns-else-found-fields-clause-judged : goal.returns-else-found-fields-clause-judged
@@ -24,3 +24,30 @@ returns-else-found-fields-clause-counts c =
     let id : judge_number bytes2 (drop 2 c.args.payload.now) ≡ took c.from_be_bytes-id.result 2 = search rules in
     method_listed c.args.deep c.args.end c.args.count c.args.payload.now (drop 4 c.args.payload.now) c.from_be_bytes-class.result c.from_be_bytes-id.result
     c.shapes_of.result c.in-Some.shapes _ _ _ class id (sym (drop-drop 2 2 c.args.payload.now)) c.shapes_of.ensures.slots c.in-Some.is listed
+
+pub returns-then-found-fields-clause-faulty : goal.returns-then-found-fields-clause-faulty
+returns-then-found-fields-clause-faulty c = λ none.
+    let judged = rw take_rest at c.in-Ok.ensures.judged in
+    let less = rw take_rest at c.if-found-fields.true in
+    let class : judge_number bytes2 c.args.payload.now ≡ took c.from_be_bytes-class.result 2 = search rules in
+    let id : judge_number bytes2 (drop 2 c.args.payload.now) ≡ took c.from_be_bytes-id.result 2 = search rules in
+    more_fields c.args.payload.now (drop 4 c.args.payload.now) c.from_be_bytes-class.result c.from_be_bytes-id.result c.shapes_of.result
+    c.in-Some.shapes c.in-Ok.found (λ k. omega (arith, c.type_inv.payload k)) c.in-len4-up.len_at_least class id (sym (drop-drop 2 2 c.args.payload.now))
+    c.shapes_of.ensures.slots c.in-Some.is less judged
+
+pub returns-in-Err-clause-faulty : goal.returns-in-Err-clause-faulty
+returns-in-Err-clause-faulty c = λ none.
+    let judged = rw take_rest at c.in-Err.ensures.judged in
+    let class : judge_number bytes2 c.args.payload.now ≡ took c.from_be_bytes-class.result 2 = search rules in
+    let id : judge_number bytes2 (drop 2 c.args.payload.now) ≡ took c.from_be_bytes-id.result 2 = search rules in
+    no_fields c.args.payload.now (drop 4 c.args.payload.now) c.from_be_bytes-class.result c.from_be_bytes-id.result c.shapes_of.result
+    c.in-Some.shapes c.in-Err.field-0 class id (sym (drop-drop 2 2 c.args.payload.now)) c.shapes_of.ensures.slots c.in-Some.is judged
+
+pub returns-in-None-clause-faulty : goal.returns-in-None-clause-faulty
+returns-in-None-clause-faulty c = λ none.
+    let class : judge_number bytes2 c.args.payload.now ≡ took c.from_be_bytes-class.result 2 = search rules in
+    let id : judge_number bytes2 (drop 2 c.args.payload.now) ≡ took c.from_be_bytes-id.result 2 = search rules in
+    no_method c.args.payload.now c.from_be_bytes-class.result c.from_be_bytes-id.result c.shapes_of.result class id c.shapes_of.ensures.slots c.in-None.is
+
+pub returns-in_default-clause-faulty : goal.returns-in_default-clause-faulty
+returns-in_default-clause-faulty c = λ none. no_ids c.args.payload.now (omega arith)
