@@ -16,7 +16,7 @@ use Rattle.amqp_wire.specs.Frames.{Frame}
 use Rattle.amqp_wire.specs.Spelling.{SpellsFrames}
 use Rattle.amqp_fields.specs.declared.head.Head.{Head}
 use Rattle.amqp_fields.specs.declared.node.Node.{Node}
-use Rattle.amqp_c.specs.declared.writing.WriteReport.{WriteReport}
+use Rattle.amqp_c.specs.declared.writing.Written.{Written}
 use Rattle.amqp_c.specs.Making.{Reports, ReportsMeant, all_written, refusal_status, refused_at, report_of, too_small}
 use Rattle.amqp_c.specs.Statuses.{bad_argument}
 
@@ -25,7 +25,7 @@ cut_le : (n : ℕ) → cut_long n ≤ n
 cut_le n = grind (arith, nat_tests)
 
 -- What is reported of writing is the bytes that were made, or the error, with the buffer as it was.
-pub made_reported : (made : Result (List ℕ) WriteError) (old new : List ℕ) (written : Result ℕ WriteError) (report : WriteReport)
+pub made_reported : (made : Result (List ℕ) WriteError) (old new : List ℕ) (written : Result ℕ WriteError) (report : Written)
     → Writes made old new written → report ≡ report_of written → Reports made old new report
 made_reported made old new (Ok count) report h is =
     subst (λ m. Reports m old new report) (sym h.made_is) (record {
@@ -57,32 +57,32 @@ refusal_some (whys.Payload errors.TooDeep) h = omega (arith, h)
 refusal_some (whys.Payload errors.NoMemory) h = omega (arith, h)
 
 -- what is said of bytes that are written holds where all is reported as written
-written_means : (Means : ℕ → Type 0) (written : Result ℕ WriteError) (report : WriteReport) (count : ℕ)
+written_means : (Means : ℕ → Type 0) (written : Result ℕ WriteError) (report : Written) (count : ℕ)
     → IfOk written Means → report ≡ report_of written → report ≡ all_written count → Means count
 written_means Means (Ok n) report count h is all =
-    let same : n ≡ count = ap (λ (r : WriteReport). r.length) (sym is ∙ all) in
+    let same : n ≡ count = ap (λ (r : Written). r.length) (sym is ∙ all) in
     subst Means same h
 written_means Means (Err (failures.Refused head place why)) report count h is all =
-    absurd (refusal_some why (ap (λ (r : WriteReport). r.status) (sym is ∙ all)))
+    absurd (refusal_some why (ap (λ (r : Written). r.status) (sym is ∙ all)))
 written_means Means (Err (failures.TooSmall needed)) report count h is all =
-    absurd (omega (arith, ap (λ (r : WriteReport). r.status) (sym is ∙ all)))
+    absurd (omega (arith, ap (λ (r : Written). r.status) (sym is ∙ all)))
 
 -- what is reported as written encodes the frames that are meant
-pub frames_encoded : (pool : List ℕ) (nodes : List Node) (heads : List Head) (m : ℕ) (old new : List ℕ) (written : Result ℕ WriteError) (report : WriteReport)
+pub frames_encoded : (pool : List ℕ) (nodes : List Node) (heads : List Head) (m : ℕ) (old new : List ℕ) (written : Result ℕ WriteError) (report : Written)
     → IfOk written (EncodesFrames pool nodes heads m old new) → report ≡ report_of written
     → (count : ℕ) → report ≡ all_written count → EncodesFrames pool nodes heads m old new count
 frames_encoded pool nodes heads m old new written report h is count all =
     written_means (EncodesFrames pool nodes heads m old new) written report count h is all
 
 -- and is canonical, where keys ascend and content in the pool is canonical
-pub frames_canonical : (pool : List ℕ) (nodes : List Node) (heads : List Head) (new : List ℕ) (written : Result ℕ WriteError) (report : WriteReport)
+pub frames_canonical : (pool : List ℕ) (nodes : List Node) (heads : List Head) (new : List ℕ) (written : Result ℕ WriteError) (report : Written)
     → IfOk written (λ count. AreCanonicalInOrder pool nodes heads (take count new)) → report ≡ report_of written
     → (count : ℕ) → report ≡ all_written count → AreCanonicalInOrder pool nodes heads (take count new)
 frames_canonical pool nodes heads new written report h is count all =
     written_means (λ n. AreCanonicalInOrder pool nodes heads (take n new)) written report count h is all
 
 -- where frames are meant, nothing is refused but what is too long, and that is reported
-pub meant_reported : (pool : List ℕ) (nodes : List Node) (m : ℕ) (heads : List Head) (new : List ℕ) (written : Result ℕ WriteError) (report : WriteReport)
+pub meant_reported : (pool : List ℕ) (nodes : List Node) (m : ℕ) (heads : List Head) (new : List ℕ) (written : Result ℕ WriteError) (report : Written)
     → ((frames : List Frame) → TellFrames pool nodes heads frames
     → EncodesUnless (RefusesFirst plain pool nodes m 0 heads frames) (SpellsFrames plain (Some m)) frames new written)
     → report ≡ report_of written
@@ -91,19 +91,19 @@ meant_reported pool nodes m heads new written report h is frames meant =
     record { written = written; report_is = is; encoded = h frames meant }
 
 -- what is reported as written encodes the entries that are meant
-pub entries_encoded : (pool : List ℕ) (nodes : List Node) (old new : List ℕ) (written : Result ℕ WriteError) (report : WriteReport)
+pub entries_encoded : (pool : List ℕ) (nodes : List Node) (old new : List ℕ) (written : Result ℕ WriteError) (report : Written)
     → IfOk written (EncodesEntries pool nodes old new) → report ≡ report_of written
     → (count : ℕ) → report ≡ all_written count → EncodesEntries pool nodes old new count
 entries_encoded pool nodes old new written report h is count all =
     written_means (EncodesEntries pool nodes old new) written report count h is all
 
 -- the same of values
-pub values_encoded : (pool : List ℕ) (nodes : List Node) (old new : List ℕ) (written : Result ℕ WriteError) (report : WriteReport)
+pub values_encoded : (pool : List ℕ) (nodes : List Node) (old new : List ℕ) (written : Result ℕ WriteError) (report : Written)
     → IfOk written (EncodesValues pool nodes old new) → report ≡ report_of written
     → (count : ℕ) → report ≡ all_written count → EncodesValues pool nodes old new count
 values_encoded pool nodes old new written report h is count all =
     written_means (EncodesValues pool nodes old new) written report count h is all
 
 -- a kind that is neither a table's nor an array's is not reported as written
-pub no_content : (report : WriteReport) (count : ℕ) → report ≡ refused_at 0 None bad_argument → report ≡ all_written count → ⊥
-no_content report count is all = absurd (omega (arith, ap (λ (r : WriteReport). r.status) (sym is ∙ all)))
+pub no_content : (report : Written) (count : ℕ) → report ≡ refused_at 0 None bad_argument → report ≡ all_written count → ⊥
+no_content report count is all = absurd (omega (arith, ap (λ (r : Written). r.status) (sym is ∙ all)))

@@ -19,17 +19,17 @@ use Rattle.amqp_fields.specs.Makes.{cut_long}
 use Rattle.amqp_fields.specs.Making.{EncodesEntries, EncodesUnless, EncodesValues, RefusesFirst}
 use Rattle.amqp_fields.specs.Making.{made_entries, made_values}
 use Rattle.amqp_fields.specs.Nodes.{cut}
-use Rattle.amqp_c.specs.declared.writing.WriteReport.{WriteReport}
+use Rattle.amqp_c.specs.declared.writing.Written.{Written}
 use Rattle.amqp_c.specs.Batches.{frame_error}
 use Rattle.amqp_c.specs.Scans.{fault_status}
 use Rattle.amqp_c.specs.Statuses.{bad_argument, buffer_too_small, too_long}
 
 -- so many bytes were written
-abbrev pub all_written : ℕ → WriteReport
+abbrev pub all_written : ℕ → Written
 all_written count = record { length = count; head = 0; node = 0; status = 0; unused = 0 }
 
 -- the buffer needs so many bytes
-abbrev pub too_small : ℕ → WriteReport
+abbrev pub too_small : ℕ → Written
 too_small needed =
     record { length = needed; head = 0; node = 0; status = buffer_too_small; unused = 0 }
 
@@ -50,30 +50,30 @@ node_number None = no_node
 node_number (Some node) = if nat_lt node 4294967294 then node else 4294967294
 
 -- a head is refused, or one of the nodes; 4 bytes say which
-abbrev pub refused_at : ℕ → Option ℕ → ℕ → WriteReport
+abbrev pub refused_at : ℕ → Option ℕ → ℕ → Written
 refused_at head node status =
     record { length = 0; head = cut head; node = node_number node; status = status; unused = 0 }
 
 -- nothing was written
-abbrev pub not_written : WriteError → WriteReport
+abbrev pub not_written : WriteError → Written
 not_written (failures.Refused head node why) = refused_at head node (refusal_status why)
 not_written (failures.TooSmall needed) = too_small needed
 
 -- as it is reported
-abbrev pub report_of : Result ℕ WriteError → WriteReport
+abbrev pub report_of : Result ℕ WriteError → Written
 report_of (Ok count) = all_written count
 report_of (Err error) = not_written error
 
 -- These bytes were made. Where the buffer has room for them they stand at its front, and what comes
 -- after them is as it was; else all of it is.
-pub record PutsMade (bytes old new : List ℕ) (report : WriteReport) : Type 0 where
+pub record PutsMade (bytes old new : List ℕ) (report : Written) : Type 0 where
   pub fits : length bytes ≤ length old
       → (new ≡ written old 0 bytes) × (report ≡ all_written (length bytes))
   pub too_short : length old < length bytes
       → (new ≡ old) × (report ≡ too_small (cut_long (length bytes)))
 
 -- what was made is written; where something is refused the buffer is as it was
-abbrev pub Reports : Result (List ℕ) WriteError → List ℕ → List ℕ → WriteReport → Type 0
+abbrev pub Reports : Result (List ℕ) WriteError → List ℕ → List ℕ → Written → Type 0
 Reports (Ok bytes) old new report = PutsMade bytes old new report
 Reports (Err error) old new report = (new ≡ old) × (report ≡ not_written error)
 
@@ -96,7 +96,7 @@ EncodesContent other pool nodes old new count = ⊥
 -- Frames that are meant are encoded at the front, or the buffer is too small, or the first head is
 -- refused that has too long a payload, or a node that holds too many bytes.
 pub record ReportsMeant (pool : List ℕ) (nodes : List Node) (m : ℕ) (heads : List Head)
-    (frames : List Frame) (new : List ℕ) (report : WriteReport) : Type 0 where
+    (frames : List Frame) (new : List ℕ) (report : Written) : Type 0 where
   pub written : Result ℕ WriteError
   pub report_is : report ≡ report_of written
   pub encoded : EncodesUnless (RefusesFirst plain pool nodes m 0 heads frames)

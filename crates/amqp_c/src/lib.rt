@@ -45,4 +45,4 @@ pub use next::FrontFrame;
 pub use recutting::{BodyCut, BodyPiece};
 pub use rules::FrameRule;
 pub use turns::{ChannelState, ChannelStep};
-pub use writing::WriteReport;
+pub use writing::Written;

@@ -25,7 +25,7 @@ use amqp_types::FieldTag;
 /// How many bytes were written, or why none. In C it has 24 bytes and no padding.
 #[repr(C)]
 #[derive(Clone, Copy, Debug)]
-pub struct WriteReport {
+pub struct Written {
     /// How many bytes were written, or at status 40, how many the buffer needs; else 0.
     pub length: u64,
 
@@ -89,18 +89,18 @@ fn refusal_status(why: WriteRefusal) -> u8
 }
 
 /// What is reported where nothing was written.
-fn not_written(error: WriteError) -> WriteReport
+fn not_written(error: WriteError) -> Written
     ensures { result ≡ not_written error }
 {
     match error {
-        WriteError::Refused { head, node, why } => WriteReport {
+        WriteError::Refused { head, node, why } => Written {
             length: 0,
             head: cut(head),
             node: node_number(node),
             status: refusal_status(why) as u32,
             unused: 0,
         },
-        WriteError::TooSmall { needed } => WriteReport {
+        WriteError::TooSmall { needed } => Written {
             length: needed,
             head: 0,
             node: 0,
@@ -111,11 +111,11 @@ fn not_written(error: WriteError) -> WriteReport
 }
 
 /// What is reported.
-fn report(written: Result<usize, WriteError>) -> WriteReport
+fn report(written: Result<usize, WriteError>) -> Written
     ensures { result ≡ report_of written }
 {
     match written {
-        Ok(count) => WriteReport {
+        Ok(count) => Written {
             length: count as u64,
             head: 0,
             node: 0,
@@ -136,7 +136,7 @@ pub extern "C" fn feksroum_write(
     pool: &[u8],
     max_payload: u32,
     out: &mut [u8],
-) -> WriteReport
+) -> Written
     ensures written { Reports
         (made_frames pool.now nodes.now max_payload 0 heads.now) out.old out.new result }
 
@@ -157,7 +157,7 @@ pub extern "C" fn feksroum_write(
 
 /// The entries of a table.
 #[tactic(auto, using(crate::proofs::Reported::made_reported, crate::proofs::Reported::entries_encoded))]
-fn put_entries(nodes: &[Node], pool: &[u8], out: &mut [u8]) -> WriteReport
+fn put_entries(nodes: &[Node], pool: &[u8], out: &mut [u8]) -> Written
     ensures written { Reports (made_entries pool.now nodes.now) out.old out.new result }
     ensures encoded { (count : ℕ) → result ≡ all_written count
         → EncodesEntries pool.now nodes.now out.old out.new count }
@@ -167,7 +167,7 @@ fn put_entries(nodes: &[Node], pool: &[u8], out: &mut [u8]) -> WriteReport
 
 /// The values of an array.
 #[tactic(auto, using(crate::proofs::Reported::made_reported, crate::proofs::Reported::values_encoded))]
-fn put_values(nodes: &[Node], pool: &[u8], out: &mut [u8]) -> WriteReport
+fn put_values(nodes: &[Node], pool: &[u8], out: &mut [u8]) -> Written
     ensures written { Reports (made_values pool.now nodes.now) out.old out.new result }
     ensures encoded { (count : ℕ) → result ≡ all_written count
         → EncodesValues pool.now nodes.now out.old out.new count }
@@ -184,7 +184,7 @@ pub extern "C" fn feksroum_write_content(
     nodes: &[Node],
     pool: &[u8],
     out: &mut [u8],
-) -> WriteReport
+) -> Written
     ensures written { Reports
         (content_made (tag_at kind) pool.now nodes.now) out.old out.new result }
 

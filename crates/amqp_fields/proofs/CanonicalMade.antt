@@ -6,7 +6,7 @@ use Rattle.amqp_wire.proofs.Strictness.{one_strict}
 use Rattle.amqp_fields.specs.declared.refusals.WriteError.{WriteError}
 use Rattle.amqp_fields.specs.Making.{RefusesFirst, Suits}
 use Rattle.amqp_fields.specs.WritingLaws.{CanonicalWhereKeysAscend}
-use Rattle.amqp_fields.proofs.SuitedFrames.{frames_fit}
+use Rattle.amqp_fields.proofs.MeantFramesMade.{frames_fit}
 
 -- what is made is canonical, where keys ascend and content that stands in the pool is canonical
 pub canonical_made : CanonicalWhereKeysAscend

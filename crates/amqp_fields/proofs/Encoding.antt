@@ -27,8 +27,8 @@ use Rattle.amqp_fields.specs.Canonical.{AreCanonicalInOrder}
 use Rattle.amqp_fields.proofs.CanonicalMade.{canonical_made}
 use Rattle.amqp_fields.proofs.FramesTold.{at_ok, frames_told}
 use Rattle.amqp_fields.proofs.Ordered.{plain_order}
-use Rattle.amqp_fields.proofs.Suited.{entries_fit, value_fits, values_fit}
-use Rattle.amqp_fields.proofs.SuitedFrames.{at_suits, frames_fit}
+use Rattle.amqp_fields.proofs.MeantValuesMade.{entries_fit, value_fits, values_fit}
+use Rattle.amqp_fields.proofs.MeantFramesMade.{at_suits, frames_fit}
 use Rattle.amqp_fields.proofs.ValuesTold.{Told, each_told, entry_told, value_told}
 
 front : (old bytes : List ℕ) (count : ℕ) → count ≡ length bytes → take count (written old 0 bytes) ≡ bytes

@@ -29,7 +29,7 @@ use Rattle.amqp_fields.specs.Meant.{TellsField, TellsItem, kind_limit}
 use Rattle.amqp_fields.specs.Counting.{total}
 use Rattle.amqp_fields.proofs.FieldsFound.{fields_append, nodes_append}
 use Rattle.amqp_fields.proofs.FieldsMade.{bit_is}
-use Rattle.amqp_fields.proofs.Inverted.{after_ok, alone_ok, fails, holds, long_ok, number_ok, ok_is, span_ok, text_ok}
+use Rattle.amqp_fields.proofs.MadeOfParts.{after_ok, alone_ok, fails, holds, long_ok, number_ok, ok_is, span_ok, text_ok}
 use Rattle.amqp_fields.proofs.Spans.{byte_below}
 use Rattle.amqp_fields.proofs.ValuesTold.{Told, table_told, value_told}
 

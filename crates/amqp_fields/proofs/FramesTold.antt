@@ -37,7 +37,7 @@ use Rattle.amqp_fields.specs.Meaning.{AreNodes, IsSpan, fields_from, fields_of, 
 use Rattle.amqp_fields.specs.Meant.{HasNoIds, IsMethod, TellFrames, TellsField, TellsFields, TellsFrame, TellsTyped}
 use Rattle.amqp_fields.proofs.AtLevel.{from_tidy}
 use Rattle.amqp_fields.proofs.FieldsTold.{field_told, slots_told}
-use Rattle.amqp_fields.proofs.Inverted.{after_ok, fails, holds, ok_is}
+use Rattle.amqp_fields.proofs.MadeOfParts.{after_ok, fails, holds, ok_is}
 use Rattle.amqp_fields.proofs.PayloadsFound.{few_fields, fourteen}
 use Rattle.amqp_fields.proofs.Spans.{byte_below}
 use Rattle.amqp_fields.proofs.ValuesTold.{Told}

@@ -23,8 +23,8 @@ pub mod EachMade
 pub mod ValuesMade
 pub mod FieldsMade
 pub mod FramesMade
-pub mod Written
-pub mod Inverted
+pub mod HeadsInLoops
+pub mod MadeOfParts
 pub mod SignedNumbers
 pub mod PropertiesMade
 pub mod ValuesTold
@@ -33,9 +33,9 @@ pub mod FramesTold
 pub mod AtLevel
 pub mod Ordered
 pub mod GivenContent
-pub mod Suited
-pub mod SuitedFields
-pub mod SuitedFrames
+pub mod MeantValuesMade
+pub mod MeantFieldsMade
+pub mod MeantFramesMade
 pub mod CanonicalMade
 pub mod Encoding
 pub mod ReadMeant

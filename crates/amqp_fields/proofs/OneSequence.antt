@@ -7,7 +7,7 @@ use Rattle.amqp_fields.specs.declared.refusals.WriteError.{WriteError}
 use Rattle.amqp_fields.specs.Making.{RefusesFirst, Suits}
 use Rattle.amqp_fields.specs.WritingLaws.{HeadsMeanOne}
 use Rattle.amqp_fields.proofs.Ordered.{plain_order}
-use Rattle.amqp_fields.proofs.SuitedFrames.{frames_fit}
+use Rattle.amqp_fields.proofs.MeantFramesMade.{frames_fit}
 
 -- heads and nodes that are written mean one sequence of frames
 pub heads_mean_one : HeadsMeanOne

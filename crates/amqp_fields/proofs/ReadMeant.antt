@@ -31,8 +31,8 @@ use Rattle.amqp_fields.specs.Meaning.{SaysAt, TableInside, fields_from, fields_o
 use Rattle.amqp_fields.specs.WritingLaws.{ReadNodesAreMeant}
 use Rattle.amqp_fields.specs.Meant.{Holds, HoldsTable, Tells, TellsAt, TellsEntry, TellsField, TellsItem, TellsValue, kind_limit}
 use Rattle.amqp_fields.proofs.FieldsFound.{fields_append}
-use Rattle.amqp_fields.proofs.SuitedFields.{IsOne}
-use Rattle.amqp_fields.proofs.SuitedFrames.{AreOne, all_one}
+use Rattle.amqp_fields.proofs.MeantFieldsMade.{IsOne}
+use Rattle.amqp_fields.proofs.MeantFramesMade.{AreOne, all_one}
 use Rattle.amqp_fields.proofs.ValuesTold.{span_fits}
 
 -- ---- lists

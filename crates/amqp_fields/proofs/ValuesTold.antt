@@ -36,7 +36,7 @@ use Rattle.amqp_fields.specs.Made.{made_truth, made_value, nested_array, nested_
 use Rattle.amqp_fields.specs.declared.refusals.WriteRefusal.TheVariants as whys
 use Rattle.amqp_fields.specs.Meaning.{AreNodes, IsSpan}
 use Rattle.amqp_fields.specs.Meant.{Holds, HoldsTable, IsSigned, Tells, TellsAt, TellsEntry, TellsValue}
-use Rattle.amqp_fields.proofs.Inverted.{after_ok, alone_ok, closed_ok, fails, given_ok, holds, if_ok, long_ok, number_ok, ok_is, span_ok, text_ok}
+use Rattle.amqp_fields.proofs.MadeOfParts.{after_ok, alone_ok, closed_ok, fails, given_ok, holds, if_ok, long_ok, number_ok, ok_is, span_ok, text_ok}
 use Rattle.amqp_fields.proofs.SignedNumbers.{signed_back}
 
 -- something that is meant, and that the bytes encode

@@ -20,7 +20,7 @@ use Rattle.amqp_fields.specs.WritingLaws.{ReadAgainIsSame, ReadIsWrittenAgain}
 use Rattle.amqp_fields.proofs.HeadsTold.{HaveNodes, heads_told}
 use Rattle.amqp_fields.proofs.Ordered.{group_part, plain_order}
 use Rattle.amqp_fields.proofs.SameNodes.{same_append, same_nodes}
-use Rattle.amqp_fields.proofs.SuitedFrames.{frames_fit}
+use Rattle.amqp_fields.proofs.MeantFramesMade.{frames_fit}
 
 -- what is made of heads encodes the frames that they mean
 told_encoded : (pool : List ℕ) (nodes : List Node) (heads : List Head) (k : ℕ) (made : List ℕ) (frames : List Frame) → IsBytes pool

@@ -142,7 +142,7 @@ pub fn write_frames(
 }
 
 /// Entries one after another, as far as a buffer has room, and how many bytes they have, or that they are too many.
-#[tactic(auto, using(crate::proofs::Written::whole_made, crate::proofs::Written::whole_long, crate::proofs::Written::whole_refused))]
+#[tactic(auto, using(crate::proofs::HeadsInLoops::whole_made, crate::proofs::HeadsInLoops::whole_long, crate::proofs::HeadsInLoops::whole_refused))]
 fn make_all_entries(buf: &mut [u8], nodes: &[Node], pool: &[u8]) -> Result<usize, WriteError>
     ensures { Makes (made_entries pool.now nodes.now) buf.old buf.new 0 result }
 {
@@ -189,7 +189,7 @@ pub fn write_entries(nodes: &[Node], pool: &[u8], out: &mut [u8]) -> Result<usiz
 }
 
 /// Values one after another, as far as a buffer has room, and how many bytes they have, or that they are too many.
-#[tactic(auto, using(crate::proofs::Written::whole_made, crate::proofs::Written::whole_long, crate::proofs::Written::whole_refused))]
+#[tactic(auto, using(crate::proofs::HeadsInLoops::whole_made, crate::proofs::HeadsInLoops::whole_long, crate::proofs::HeadsInLoops::whole_refused))]
 fn make_all_values(buf: &mut [u8], nodes: &[Node], pool: &[u8]) -> Result<usize, WriteError>
     ensures { Makes (made_values pool.now nodes.now) buf.old buf.new 0 result }
 {

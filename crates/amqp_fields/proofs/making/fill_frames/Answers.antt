@@ -1,7 +1,7 @@
 -- `fill_frames`: what it ensures.
 use Rattle.std.proofs.Common.{arith, rules}
 use Rattle.std.proofs.lemmas.Bool.Decides.{nat_tests}
-use Rattle.amqp_fields.proofs.Written.{made_copied, never_small, refused}
+use Rattle.amqp_fields.proofs.HeadsInLoops.{made_copied, never_small, refused}
 use Rattle.amqp_fields.proofs.making.fill_frames.Goals as goal
 
 pub returns-in-Err : goal.returns-in-Err

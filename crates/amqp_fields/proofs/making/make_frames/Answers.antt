@@ -1,7 +1,7 @@
 -- `make_frames`: what it ensures, and what the loop keeps.
 use Rattle.std.proofs.Common.{refl, arith}
 use Rattle.std.proofs.lemmas.Bool.Decides.{nat_tests}
-use Rattle.amqp_fields.proofs.Written.{head_made, head_refused, heads_begin, heads_made}
+use Rattle.amqp_fields.proofs.HeadsInLoops.{head_made, head_refused, heads_begin, heads_made}
 use Rattle.amqp_fields.proofs.making.make_frames.Goals as goal
 
 pub loop-rest-init : goal.loop-rest-init

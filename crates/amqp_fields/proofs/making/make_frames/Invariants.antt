@@ -1,6 +1,6 @@
 -- `make_frames`: what the loop keeps, and what falls with each iteration.
 use Rattle.std.proofs.Common.{length}
-use Rattle.amqp_fields.proofs.Written.{HeadsLeft}
+use Rattle.amqp_fields.proofs.HeadsInLoops.{HeadsLeft}
 use Rattle.amqp_fields.proofs.making.make_frames.Given as goal
 
 abbrev pub decreases-loop-rest : goal.decreases-loop-rest

@@ -32,8 +32,9 @@ use Rattle.amqp_fields.proofs.AtLevel.{from_tidy}
 use Rattle.amqp_fields.proofs.FieldsFound.{spare}
 use Rattle.amqp_fields.proofs.Ordered.{Ordered, With}
 use Rattle.amqp_fields.proofs.Spans.{byte_below}
-use Rattle.amqp_fields.proofs.Suited.{Fits, IsLongAt, IsLongBy, after_fits, alone_fits, as_fits, behind_long, fits_for, fits_into, group_long, long_fits}
-use Rattle.amqp_fields.proofs.Suited.{number_fits, ok_fits, own_long, span_fits_in, table_fits_at, text_fits, value_fits}
+use Rattle.amqp_fields.proofs.MeantValuesMade.{Fits, IsLongAt, IsLongBy, after_fits, alone_fits, as_fits, behind_long, fits_for}
+use Rattle.amqp_fields.proofs.MeantValuesMade.{fits_into, group_long, long_fits}
+use Rattle.amqp_fields.proofs.MeantValuesMade.{number_fits, ok_fits, own_long, span_fits_in, table_fits_at, text_fits, value_fits}
 
 limit_of : (width : NumberWidth) → kind_limit (kind_of (number_form width)) ≡ number_limit width
 limit_of bytes1 = refl

@@ -43,8 +43,8 @@ use Rattle.amqp_fields.proofs.FramesTold.{front_spelled}
 use Rattle.amqp_fields.proofs.Ordered.{InOrder, each_with, order_taken}
 use Rattle.amqp_fields.proofs.PayloadsFound.{few_fields, few_spare, fourteen}
 use Rattle.amqp_fields.proofs.Spans.{byte_below}
-use Rattle.amqp_fields.proofs.Suited.{Fits, IsLongBy, after_fits, as_fits, behind_long, fits_for, fits_into, ok_fits}
-use Rattle.amqp_fields.proofs.SuitedFields.{IsOne, Means, field_fits, slots_fit}
+use Rattle.amqp_fields.proofs.MeantValuesMade.{Fits, IsLongBy, after_fits, as_fits, behind_long, fits_for, fits_into, ok_fits}
+use Rattle.amqp_fields.proofs.MeantFieldsMade.{IsOne, Means, field_fits, slots_fit}
 
 -- ---- properties
 
