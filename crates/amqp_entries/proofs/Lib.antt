@@ -11,3 +11,4 @@ pub mod AsciiEnds
 pub mod HighBits
 pub mod KeysInOrder
 pub mod PlainValues
+pub mod Sizes

@@ -2,11 +2,9 @@
 use Rattle.std.proofs.Common.{◌≡◌, ℕ, ◌+◌, ◌≤◌, List, ◌++◌, length, Option, Some, None, Ok, refl, ap, ◌∙◌, arith}
 use Rattle.std.proofs.lemmas.Bool.{le-ltb}
 use Rattle.std.proofs.lemmas.List.{length-append}
-use Rattle.std.proofs.lemmas.Str.{IsUtf8-from_ascii, is_utf8-from_IsUtf8}
-use Rattle.std.specs.Str.{IsAscii}
-use Rattle.amqp_types.specs.Strings.{short_string_bytes, with_length}
+use Rattle.amqp_types.specs.Strings.{with_length}
 use Rattle.amqp_entries.specs.Appending.{room_flaw}
-use Rattle.amqp_entries.specs.Flaws.{first_of, size_or, text_flaw}
+use Rattle.amqp_entries.specs.Flaws.{first_of, size_or}
 use Rattle.amqp_entries.specs.declared.errors.PutError.{PutError}
 
 -- what was measured
@@ -40,12 +38,3 @@ entry_fits kf vf kb vb n m at room key value fits =
     let enough = le-ltb room (at + length (kb ++ vb)) (entry_room kf vf kb vb n m at room key value fits) in
     ap (λ (flaw : Option PutError). first_of (first_of flaw vf) (room_flaw at (length (kb ++ vb)) room)) k.none
     ∙ ap (λ (flaw : Option PutError). first_of flaw (room_flaw at (length (kb ++ vb)) room)) v.none ∙ rw enough refl
-
--- a short key of ASCII is measured without a flaw
-pub short_size : (key : List ℕ) → length key ≤ 255 → IsAscii key → Ok (1 + length key) ≡ size_or (text_flaw key) (short_string_bytes key)
-short_size key few ascii =
-    let short = le-ltb 255 (length key) (omega (arith, few)) in
-    let utf8 = is_utf8-from_IsUtf8 key (IsUtf8-from_ascii key ascii) in
-    let none : text_flaw key ≡ None = rw (short, utf8) refl in
-    let size : 1 + length key ≡ length (short_string_bytes key) = omega arith in
-    rw none (ap Ok size)

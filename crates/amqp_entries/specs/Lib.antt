@@ -6,3 +6,4 @@ pub mod Found
 pub mod Plain
 pub mod Appending
 pub mod Laws
+pub mod Sizes

@@ -8,7 +8,7 @@ ghost use Rattle.amqp_entries.specs.Flaws.{size_or, text_flaw};
 ghost use Rattle.amqp_entries.specs.Written.{IsWritten};
 
 use crate::errors::PutError;
-use crate::few::{is_short_ascii, text_size};
+use crate::few::{is_short_key, text_size};
 use crate::puts::{put_short_text, put_text};
 use crate::values::ToValue;
 
@@ -90,10 +90,13 @@ pub fn append_entry<V: ToValue>(
         (V.value value.now) (V.flaw value.now) result }
     ensures written { IfOk result (λ _. IsWritten (V.value value.now)) }
 {
-    if is_short_ascii(key) {
+    if is_short_key(key) {
         return append_short(out, at, key, value);
     }
-    append_any(out, at, key, value)
+    match append_any(out, at, key, value) {
+        Ok(end) => return Ok(end),
+        Err(refusal) => return Err(refusal),
+    }
 }
 
 /// Puts the canonical bytes of a value of an array after those in front of a place of a slice, and returns the place after

@@ -1,10 +1,11 @@
 //! Short texts, which are tested and put by words.
 
-ghost use Rattle.std.specs.Prelude.{◌≡◌, ◌≤◌, ◌+◌, ◌*◌, IfOk, IsTrue, length, take};
+ghost use Rattle.std.specs.Prelude.{◌≡◌, ◌≤◌, ◌+◌, ◌*◌, ◌^◌, IfOk, IsTrue, length, take};
 ghost use Rattle.std.specs.Str.{IsAscii, is_utf8};
 ghost use Rattle.amqp_types.specs.Strings.{short_string_bytes};
 ghost use Rattle.amqp_types.specs.Writing.{Puts};
 ghost use Rattle.amqp_entries.specs.Flaws.{size_or, text_flaw};
+ghost use Rattle.amqp_entries.specs.Sizes.{IsSize};
 
 use crate::errors::PutError;
 use amqp_canonical::is_text;
@@ -94,6 +95,20 @@ pub(crate) fn is_short_ascii(bytes: &[u8]) -> bool
     4 <= n && n <= 7 && fours_are_ascii(bytes)
 }
 
+/// The same for keys, of which many have four to seven bytes: these are tested first.
+#[inline(always)]
+pub(crate) fn is_short_key(bytes: &[u8]) -> bool
+    ensures some { IsTrue result → 4 ≤ length bytes.now }
+    ensures few { IsTrue result → length bytes.now ≤ 16 }
+    ensures ascii { IsTrue result → IsAscii bytes.now }
+{
+    let n = bytes.len();
+    if 4 <= n && n <= 7 {
+        return fours_are_ascii(bytes);
+    }
+    8 <= n && n <= 16 && eights_are_ascii(bytes)
+}
+
 /// Whether bytes are UTF-8, which are many, or not ASCII.
 #[inline(never)]
 fn is_any_text(bytes: &[u8]) -> bool
@@ -113,19 +128,44 @@ pub fn is_short_text(bytes: &[u8]) -> bool
     is_any_text(bytes)
 }
 
-/// How many bytes a short string has with its length, or why it is not put. Apart, since most are short and ASCII.
+/// What is said to be the size of a short string that is not put: more than any frame has.
+const TOO_MANY: usize = 4294967296;
+
+/// How many bytes a short string has with its length. Apart, since most are short and ASCII; a number goes through no
+/// memory.
 #[inline(never)]
-fn any_text_size(text: &[u8]) -> Result<usize, PutError>
-    ensures size { result ≡ size_or (text_flaw text.now) (short_string_bytes text.now) }
-    ensures bound { IfOk result (λ n. n ≤ 256) }
+fn any_text_size(text: &[u8]) -> usize
+    ensures size { IsSize (text_flaw text.now) (short_string_bytes text.now) result }
+    ensures bound { result ≤ 2 ^ 32 }
 {
     if text.len() > 255 {
-        return Err(PutError::TooLong);
+        return TOO_MANY;
     }
     if !is_short_text(text) {
-        return Err(PutError::NotUtf8);
+        return TOO_MANY;
     }
-    Ok(1 + text.len())
+    1 + text.len()
+}
+
+/// How many bytes a short string has with its length; 2^32 where it is not put, as no frame has.
+#[inline(always)]
+fn quick_text_size(text: &[u8]) -> usize
+    ensures size { IsSize (text_flaw text.now) (short_string_bytes text.now) result }
+    ensures bound { result ≤ 2 ^ 32 }
+{
+    if is_short_ascii(text) {
+        return 1 + text.len();
+    }
+    any_text_size(text)
+}
+
+/// The same as a call, for texts of which there may be many.
+#[inline(never)]
+pub fn called_text_size(text: &[u8]) -> usize
+    ensures size { IsSize (text_flaw text.now) (short_string_bytes text.now) result }
+    ensures bound { result ≤ 2 ^ 32 }
+{
+    quick_text_size(text)
 }
 
 /// How many bytes a short string has with its length, or why it is not put.
@@ -134,10 +174,14 @@ pub fn text_size(text: &[u8]) -> Result<usize, PutError>
     ensures size { result ≡ size_or (text_flaw text.now) (short_string_bytes text.now) }
     ensures bound { IfOk result (λ n. n ≤ 256) }
 {
-    if is_short_ascii(text) {
-        return Ok(1 + text.len());
+    let size = quick_text_size(text);
+    if size <= 256 {
+        return Ok(size);
     }
-    any_text_size(text)
+    if text.len() > 255 {
+        return Err(PutError::TooLong);
+    }
+    Err(PutError::NotUtf8)
 }
 
 /// Puts bytes by the first and the last N of them, which may overlap.

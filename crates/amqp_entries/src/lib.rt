@@ -16,10 +16,10 @@ mod values;
 
 pub use appending::{append_entry, append_value};
 pub use errors::PutError;
-pub use few::{is_short_text, put_few, text_size};
+pub use few::{called_text_size, is_short_text, put_few, text_size};
 pub use laws::{appended_in_order_is_canonical, appended_is_decoded};
 pub use nested::{ArrayValue, TableValue};
-pub use puts::{put_counted, put_text};
+pub use puts::{called_put_text, put_counted, put_text};
 pub use table_content::TableContent;
 pub use values::{
     ByteArrayValue, DoubleValue, FloatValue, LongStringValue, TimestampValue, ToValue, VoidValue,

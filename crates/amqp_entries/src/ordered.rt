@@ -1,7 +1,7 @@
 //! Content in ascending key order, found canonical in one quick pass: the entries that `append_entry` makes in that order,
 //! whose keys have four to sixteen bytes of ASCII.
 
-ghost use Rattle.std.specs.Prelude.{◌≡◌, ◌≤◌, ◌<◌, ◌+◌, true, length, IfSome, IsTrue};
+ghost use Rattle.std.specs.Prelude.{◌≡◌, ◌≤◌, ◌<◌, ◌+◌, true, length, Some, IfSome, IsTrue};
 ghost use Rattle.amqp_types.specs.Judging.{took};
 ghost use Rattle.amqp_types.specs.Strings.{judge_short_string};
 ghost use Rattle.amqp_types.specs.ValueJudging.{judge_entry, judge_value};
@@ -11,7 +11,7 @@ ghost use Rattle.amqp_canonical.specs.Leads.{leading};
 ghost use Rattle.amqp_entries.specs.Contents.{read_entries};
 ghost use Rattle.amqp_entries.specs.Plain.{IsCanonicalFront, number_size_after};
 
-use crate::few::is_short_ascii;
+use crate::few::is_short_key;
 use amqp_types::{
     TAG_BOOLEAN, TAG_DOUBLE, TAG_FLOAT, TAG_LONG_INT, TAG_LONG_LONG_INT, TAG_LONG_STRING,
     TAG_LONG_UINT, TAG_SHORT_INT, TAG_SHORT_SHORT_INT, TAG_SHORT_SHORT_UINT, TAG_SHORT_UINT,
@@ -34,28 +34,28 @@ fn short_key(i: &[u8]) -> Option<&[u8]>
                 return None;
             }
             let key = &rest[..n];
-            if is_short_ascii(key) { Some(key) } else { None }
+            if is_short_key(key) { Some(key) } else { None }
         }
     }
 }
 
-/// How many bytes stand after a tag byte, where these are a number.
+/// How many bytes stand after a tag byte, where these are a number; else 0.
 #[inline(always)]
-fn number_size_after(tag: u8) -> Option<usize>
-    ensures { result ≡ number_size_after tag }
+fn number_size_after(tag: u8) -> usize
+    ensures { 0 < result → number_size_after tag ≡ Some result }
 {
     match tag {
-        TAG_SHORT_SHORT_INT => Some(1),
-        TAG_SHORT_SHORT_UINT => Some(1),
-        TAG_SHORT_INT => Some(2),
-        TAG_SHORT_UINT => Some(2),
-        TAG_LONG_INT => Some(4),
-        TAG_LONG_UINT => Some(4),
-        TAG_FLOAT => Some(4),
-        TAG_LONG_LONG_INT => Some(8),
-        TAG_DOUBLE => Some(8),
-        TAG_TIMESTAMP => Some(8),
-        _ => None,
+        TAG_SHORT_SHORT_INT => 1,
+        TAG_SHORT_SHORT_UINT => 1,
+        TAG_SHORT_INT => 2,
+        TAG_SHORT_UINT => 2,
+        TAG_LONG_INT => 4,
+        TAG_LONG_UINT => 4,
+        TAG_FLOAT => 4,
+        TAG_LONG_LONG_INT => 8,
+        TAG_DOUBLE => 8,
+        TAG_TIMESTAMP => 8,
+        _ => 0,
     }
 }
 
@@ -66,15 +66,16 @@ fn number_size(i: &[u8], depth_left: usize) -> Option<usize>
 {
     match i {
         [] => None,
-        [tag, rest @ ..] => match number_size_after(*tag) {
-            Some(n) => {
-                if rest.len() < n {
-                    return None;
-                }
-                Some(1 + n)
+        [tag, rest @ ..] => {
+            let n = number_size_after(*tag);
+            if n == 0 {
+                return None;
             }
-            None => None,
-        },
+            if rest.len() < n {
+                return None;
+            }
+            Some(1 + n)
+        }
     }
 }
 

@@ -33,6 +33,16 @@ pub fn put_text(buf: &mut [u8], at: usize, text: &[u8]) -> usize
     put_few(buf, place, text)
 }
 
+/// The same as `put_text` by a call, for texts of which there may be many.
+#[inline(never)]
+pub fn called_put_text(buf: &mut [u8], at: usize, text: &[u8]) -> usize
+    requires few { length text.now < 256 }
+    requires room { at + length (short_string_bytes text.now) ≤ length buf.old }
+    ensures { Puts buf.old buf.new at (short_string_bytes text.now) result }
+{
+    put_text(buf, at, text)
+}
+
 /// Puts a short string of four to sixteen bytes, its length first.
 #[inline(always)]
 pub(crate) fn put_short_text(buf: &mut [u8], at: usize, text: &[u8]) -> usize

@@ -1,6 +1,6 @@
 -- Content headers that are made of put calls.
-use Rattle.std.proofs.Common.{◌≡◌, ℕ, ◌+◌, ◌^◌, ◌<◌, ◌≤◌, List, [], ◌∷◌, ◌++◌, length, Option, Some, None, Ok, refl, ap, subst, sym, ◌∙◌, arith}
-use Rattle.std.proofs.lemmas.Bool.{le-ltb, lt-ltb}
+use Rattle.std.proofs.Common.{◌≡◌, ℕ, suc, pred, ◌+◌, ◌^◌, ◌<◌, ◌≤◌, List, [], ◌∷◌, ◌++◌, length, Option, Some, None, Ok, refl, ap, subst, sym, ◌∙◌, arith}
+use Rattle.std.proofs.lemmas.Bool.{le-ltb}
 use Rattle.std.proofs.lemmas.List.{length-append}
 use Rattle.amqp_types.specs.Numbers.{bytes1, bytes2, bytes8, number_bytes}
 use Rattle.amqp_types.specs.Writing.{Puts}
@@ -20,7 +20,6 @@ use Rattle.amqp_put.specs.Made.{size_flaw, MakesBytes}
 use Rattle.amqp_put.specs.MadeFrames.{MakesFrame}
 use Rattle.amqp_put.specs.Properties.{from_bit, size_after}
 use Rattle.amqp_entries.specs.declared.errors.PutError.{PutError}
-use Rattle.amqp_entries.specs.declared.errors.PutError.TheVariants as errors
 use Rattle.amqp_put.proofs.Masks.{mask_below}
 
 -- ---- a payload that was measured
@@ -35,24 +34,6 @@ counted k (Some refusal) bytes n e = absurd cc
 
 first_none : (flaw after : Option PutError) → flaw ≡ None → first_of flaw after ≡ after
 first_none flaw after e = ap (λ (o : Option PutError). first_of o after) e
-
--- a payload above the limit is refused as too large
-pub above_limit : (k : ℕ) (flaw : Option PutError) (bytes : List ℕ) (n size max room : ℕ) → Ok n ≡ size_after k flaw bytes → size ≡ k + length bytes → max < n
-    → first_of flaw (size_flaw size max room) ≡ Some errors.TooLarge
-above_limit k flaw bytes n size max room e len above =
-    let m = counted k flaw bytes n e in
-    let large = lt-ltb max size (omega (arith, m.is, len, above)) in
-    first_none flaw (size_flaw size max room) m.none ∙ rw large refl
-
--- a frame that has no room is refused with its length
-pub above_room : (k : ℕ) (flaw : Option PutError) (bytes : List ℕ) (n size max room : ℕ) → Ok n ≡ size_after k flaw bytes → size ≡ k + length bytes → n ≤ max
-    → room < n + 8 → first_of flaw (size_flaw size max room) ≡ Some (errors.BufferTooSmall (n + 8))
-above_room k flaw bytes n size max room e len within above =
-    let m = counted k flaw bytes n e in
-    let small = le-ltb max size (omega (arith, m.is, len, within)) in
-    let many : size + 8 ≡ n + 8 = omega (arith, m.is, len) in
-    let none = lt-ltb room (size + 8) (omega (arith, many, above)) in
-    first_none flaw (size_flaw size max room) m.none ∙ (rw (small, none) (ap (λ (j : ℕ). Some (errors.BufferTooSmall j)) many))
 
 fits : (k : ℕ) (flaw : Option PutError) (bytes : List ℕ) (n size max room : ℕ) → Ok n ≡ size_after k flaw bytes → size ≡ k + length bytes → n ≤ max
     → n + 8 ≤ room → first_of flaw (size_flaw size max room) ≡ None
@@ -110,6 +91,14 @@ standard_forms =
 standard : properties ≡ from_bit 15 standard_forms
 unfolding properties later_properties
 standard = refl
+
+count_from : (bit : ℕ) (forms : List Form) → length (from_bit bit forms) ≡ length forms
+count_from bit [] = refl
+count_from bit (form ∷ forms) = ap suc (count_from (pred bit) forms)
+
+-- the forms of all properties are 14
+pub forms_count : (forms : List Form) → from_bit 15 forms ≡ properties → length forms ≡ 14
+forms_count forms all = sym (count_from 15 forms) ∙ ap length (all ∙ standard)
 
 -- two bytes hold the mask
 pub mask_fits : (mask : ℕ) (options : List (Option Item)) → mask ≡ mask_of properties options → mask < 2 ^ 16

@@ -5,3 +5,4 @@ pub mod HeadersMade
 pub mod OtherFrames
 pub mod HeaderFlaws
 pub mod MadeLaws
+pub mod SizesAdded

@@ -7,3 +7,4 @@ pub mod Properties
 pub mod Headers
 pub mod MadeFrames
 pub mod MadeLaws
+pub mod Refusals

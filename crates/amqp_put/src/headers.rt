@@ -1,18 +1,20 @@
 //! Content headers by their properties (AMQP 0-9-1, section 4.2.6.1).
 
-ghost use Rattle.std.specs.Prelude.{◌≡◌, ◌↔◌, ◌<◌, ◌^◌, false, IsTrue};
+ghost use Rattle.std.specs.Prelude.{◌≡◌, ◌↔◌, ◌≤◌, ◌<◌, ◌+◌, ◌^◌, false, length, IsTrue};
 ghost use Rattle.amqp_types.specs.Flags.{flag_at};
 ghost use Rattle.amqp_types.specs.Slots.{table_form};
 ghost use Rattle.amqp_types.specs.Properties.{properties};
 ghost use Rattle.amqp_types.specs.PropertyBytes.{mask_of};
 ghost use Rattle.amqp_wire.specs.Frames.{Head};
 ghost use Rattle.amqp_put.specs.MadeFrames.{MakesFrame};
+ghost use Rattle.amqp_put.specs.Refusals.{refusal_of};
 ghost use Rattle.amqp_put.specs.Properties.{from_bit};
 ghost use Rattle.amqp_put.specs.Headers.{HasNoUnusedBit, options_of, flaw_of};
 ghost use Rattle.amqp_put.specs.Headers.{header_with, masked_options, masked_flaw};
 
 use crate::properties::{Masked, MaskedText, ToItem, ToProperties};
 use crate::reserved::ReservedShort;
+use crate::sizes::ToSizes;
 use crate::slots::ToSlots;
 use crate::strings::Text;
 use amqp_canonical::has_bit;
@@ -169,11 +171,37 @@ impl<'a> MaskedProperties<'a> {
     }
 }
 
+/// Whether a payload of so many bytes may be put, and has room with the 8 bytes around it.
+#[inline(always)]
+fn fits(size: usize, max_payload: u32, room: usize) -> bool
+    ensures { IsTrue result ↔ (size ≤ max_payload) × (size + 8 ≤ room) }
+{
+    size <= max_payload as usize && size + 8 <= room
+}
+
+/// Why a content header is not put. Apart, since most are.
+#[inline(never)]
+fn refusal<P: ToProperties>(fields: &P, max_payload: u32) -> PutError
+    requires few { P.most < 2 ^ 39 }
+    ensures { result ≡
+        refusal_of (P.flaw fields.now) (14 + length (P.bytes fields.now)) max_payload }
+{
+    match fields.measure(14) {
+        Ok(size) => {
+            if size > max_payload as usize {
+                return PutError::TooLarge;
+            }
+            PutError::BufferTooSmall(size + 8)
+        }
+        Err(error) => error,
+    }
+}
+
 /// Puts the canonical bytes of the frame of a content header with this mask at the front of a slice, and returns how
 /// many they are. A property that is not written is told first, in their order, then a payload of more than `max_payload`
 /// bytes, and then a slice that has no room.
 #[inline(always)]
-fn put_header<P: ToProperties>(
+fn put_header<P: ToSizes + Copy>(
     channel: ChannelId,
     class: Identifier,
     body_size: PayloadSize,
@@ -189,12 +217,11 @@ fn put_header<P: ToProperties>(
         (Head channel (header_with class body_size (P.options fields.now)))
         (P.flaw fields.now) result }
 {
-    let size = fields.measure(14)?;
-    if size > max_payload as usize {
-        return Err(PutError::TooLarge);
-    }
-    if out.len() < size + 8 {
-        return Err(PutError::BufferTooSmall(size + 8));
+    let size = 14 + fields.size();
+    if !fits(size, max_payload, out.len()) {
+        // A copy, so that the fields themselves need no place in memory.
+        let refused = *fields;
+        return Err(refusal(&refused, max_payload));
     }
     let front = (class, (ReservedShort, (body_size, ())));
     let mask_place = front.put(out, 7);

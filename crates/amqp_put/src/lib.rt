@@ -11,6 +11,7 @@ mod numbers;
 mod other_frames;
 mod properties;
 mod reserved;
+mod sizes;
 mod slots;
 mod strings;
 mod tables;

@@ -14,7 +14,7 @@ ghost use Rattle.amqp_put.specs.Properties.{bytes_if, some_spells, masked_spells
 
 use crate::slots::ToSlot;
 use crate::strings::Text;
-use amqp_entries::{PutError, TableContent};
+use amqp_entries::{PutError, TableContent, called_put_text};
 
 /// A field that gives one item.
 pub trait ToItem: ToSlot {
@@ -283,7 +283,7 @@ impl<'a> ToProperty for MaskedText<'a> {
     #[inline(always)]
     fn put(&self, buf: &mut [u8], at: usize) -> usize {
         if self.set {
-            Text { bytes: *self.text }.put(buf, at)
+            called_put_text(buf, at, *self.text)
         } else {
             at
         }

@@ -4,9 +4,9 @@ use Rattle.std.proofs.lemmas.List.{take_rest}
 use Rattle.amqp_entries.proofs.KeysInOrder.{front_key}
 use Rattle.amqp_entries.proofs.ordered.short_key.Goals as goal
 
-pub returns-then-is_short_ascii-clause-key : goal.returns-then-is_short_ascii-clause-key
-returns-then-is_short_ascii-clause-key c =
+pub returns-then-is_short_key-clause-key : goal.returns-then-is_short_key-clause-key
+returns-then-is_short_key-clause-key c =
     let i = c.args.i.now in
     let enough : get_or i 0 0 ≤ length (drop 1 i) = rw take_rest at c.if-rest-n.false in
-    let ascii = rw take_rest at (c.is_short_ascii.ensures.ascii c.if-is_short_ascii.true) in
+    let ascii = rw take_rest at (c.is_short_key.ensures.ascii c.if-is_short_key.true) in
     rw take_rest (front_key i c.in-len1-up.len_at_least enough ascii)
