@@ -93,6 +93,7 @@ pub fn append_entry<V: ToValue>(
     if is_short_key(key) {
         return append_short(out, at, key, value);
     }
+    // Taken apart, since the compiler then passes no result on in memory.
     match append_any(out, at, key, value) {
         Ok(end) => return Ok(end),
         Err(refusal) => return Err(refusal),
