@@ -1,4 +1,6 @@
 -- The lemmas of amqp_canonical.
+pub mod AsciiEnds
+pub mod HighBits
 pub mod Refusing
 pub mod Children
 pub mod TagBytes

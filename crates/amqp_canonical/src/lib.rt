@@ -2,6 +2,7 @@
 //! use, which fault they have, whether their bytes are canonical and tidy, and their canonical bytes.
 #![tactic(auto)]
 
+mod ascii;
 mod equality;
 mod headers;
 mod laws;
@@ -21,6 +22,7 @@ mod values;
 mod writing;
 mod writing_laws;
 
+pub use ascii::{eights_are_ascii, fours_are_ascii, sixteens_are_ascii};
 pub use equality::{equal_forms, equal_judgements, equal_slots, equal_value_judgements};
 pub use headers::{has_bit, judge_content_header};
 pub use laws::{

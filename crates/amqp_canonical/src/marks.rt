@@ -141,30 +141,6 @@ fn order(content: &[u8], a: &EntryMark, b: &EntryMark) -> Ordering {
     a.place.cmp(&b.place)
 }
 
-/// Exchanges two marks. The fields of one are named, since the compiler then keeps them in a register.
-#[inline(always)]
-fn exchange(marks: &mut [EntryMark], low: usize, high: usize)
-    requires { (low < length marks.old) × (high < length marks.old) }
-    ensures len { length marks.new ≡ length marks.old }
-    ensures permutation { IsPermutation marks.old marks.new }
-{
-    let EntryMark {
-        lead,
-        place,
-        more,
-        key_size,
-        size,
-    } = marks[low];
-    marks[low] = marks[high];
-    marks[high] = EntryMark {
-        lead,
-        place,
-        more,
-        key_size,
-        size,
-    };
-}
-
 /// Moves a mark down by steps of `gap` while it comes before the one there.
 #[inline(always)]
 fn move_down(marks: &mut [EntryMark], content: &[u8], gap: usize, from: usize)
@@ -176,7 +152,7 @@ fn move_down(marks: &mut [EntryMark], content: &[u8], gap: usize, from: usize)
         if order(content, &marks[k], &marks[k - gap]) != Ordering::Less {
             return;
         }
-        exchange(marks, k, k - gap);
+        marks.swap(k, k - gap);
         k -= gap;
     }
 }
@@ -200,7 +176,7 @@ fn sort(marks: &mut [EntryMark], content: &[u8])
     if marks.len() > FEW {
         return sort_many(marks, content);
     }
-    sort_by_gap(marks, content, 40);
+    sort_by_gap(marks, content, 32);
     sort_by_gap(marks, content, 13);
     sort_by_gap(marks, content, 4);
     sort_by_gap(marks, content, 1);

@@ -1,10 +1,12 @@
-//! Short strings decoded without memory. Most are ASCII, which is tested eight bytes at a time.
+//! Short strings decoded without memory. Most are ASCII, which is tested eight bytes at a time, and most of these have
+//! eight to sixteen.
 
 ghost use Rattle.std.specs.Prelude.{◌≡◌, ◌≤◌, ◌<◌, length, IfOk};
 ghost use Rattle.std.specs.Str.{is_utf8};
 ghost use Rattle.amqp_types.specs.Answers.{AnswersFully};
 ghost use Rattle.amqp_types.specs.Strings.{judge_short_string};
 
+use crate::ascii::eights_are_ascii;
 use amqp_types::ParserError;
 use std::str;
 
@@ -24,6 +26,10 @@ fn is_utf8_text(bytes: &[u8]) -> bool
 pub fn is_text(bytes: &[u8]) -> bool
     ensures { result ≡ is_utf8 bytes.now }
 {
+    let n = bytes.len();
+    if 8 <= n && n <= 16 && eights_are_ascii(bytes) {
+        return true;
+    }
     if bytes.is_ascii() {
         return true;
     }

@@ -7,8 +7,6 @@ pub mod Nesting
 pub mod Appended
 pub mod Room
 pub mod Ends
-pub mod AsciiEnds
-pub mod HighBits
 pub mod KeysInOrder
 pub mod PlainValues
 pub mod Sizes

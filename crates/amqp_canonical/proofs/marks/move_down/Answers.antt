@@ -6,7 +6,7 @@ use Rattle.amqp_canonical.proofs.marks.move_down.Goals as goal
 pub loop-k-preserved : goal.loop-k-preserved
 loop-k-preserved c =
     let l = c.loop-k in (
-      c.exchange.ensures.len ∙ l.invariant.0,
-      omega (arith, l.invariant.1, c.exchange.ensures.len),
-      IsPermutation-trans c.args.marks.now l.marks c.exchange.new.marks l.invariant.2 c.exchange.ensures.permutation,
+      c.swap.ensures.len ∙ l.invariant.0,
+      omega (arith, l.invariant.1, c.swap.ensures.len),
+      IsPermutation-trans c.args.marks.now l.marks c.swap.new.self l.invariant.2 c.swap.ensures.permutation,
     )

@@ -1,7 +1,7 @@
 -- `four_are_ascii`: no highest bit is set.
 use Rattle.std.proofs.Common.{arith}
-use Rattle.amqp_entries.proofs.HighBits.{ascii_first, word_of_four}
-use Rattle.amqp_entries.proofs.few.four_are_ascii.Goals as goal
+use Rattle.amqp_canonical.proofs.HighBits.{ascii_first, word_of_four}
+use Rattle.amqp_canonical.proofs.ascii.four_are_ascii.Goals as goal
 
 pub returns : goal.returns
 returns c =

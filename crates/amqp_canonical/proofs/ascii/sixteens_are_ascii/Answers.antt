@@ -2,8 +2,8 @@
 use Rattle.std.proofs.Common.{ℕ, List, length, take, drop, ◌-◌, subst}
 use Rattle.std.proofs.lemmas.List.{take_rest}
 use Rattle.std.specs.Str.{IsAscii}
-use Rattle.amqp_entries.proofs.AsciiEnds.{ascii_ends}
-use Rattle.amqp_entries.proofs.few.sixteens_are_ascii.Goals as goal
+use Rattle.amqp_canonical.proofs.AsciiEnds.{ascii_ends}
+use Rattle.amqp_canonical.proofs.ascii.sixteens_are_ascii.Goals as goal
 
 pub returns-then-eights_are_ascii : goal.returns-then-eights_are_ascii
 returns-then-eights_are_ascii c = λ test.

@@ -7,7 +7,7 @@ use Rattle.std.proofs.lemmas.Nat.{and_block}
 use Rattle.std.proofs.lemmas.Nat.Bits.{and_pow}
 use Rattle.std.specs.Int.RustNames.{bit_and}
 use Rattle.std.specs.Str.{IsAscii}
-use Rattle.amqp_entries.proofs.AsciiEnds.{ascii_ends}
+use Rattle.amqp_canonical.proofs.AsciiEnds.{ascii_ends}
 
 -- a word of these bytes, the first one the lowest
 abbrev pub word : List ℕ → ℕ

@@ -1,6 +1,6 @@
 -- `eights_are_ascii`: bytes whose first and last ones are ASCII.
-use Rattle.amqp_entries.proofs.HighBits.{ascii_both}
-use Rattle.amqp_entries.proofs.few.eights_are_ascii.Goals as goal
+use Rattle.amqp_canonical.proofs.HighBits.{ascii_both}
+use Rattle.amqp_canonical.proofs.ascii.eights_are_ascii.Goals as goal
 
 pub returns-then-eight_are_ascii : goal.returns-then-eight_are_ascii
 returns-then-eight_are_ascii c = λ test.

@@ -1,6 +1,6 @@
 -- `fours_are_ascii`: bytes whose first and last ones are ASCII.
-use Rattle.amqp_entries.proofs.HighBits.{ascii_both}
-use Rattle.amqp_entries.proofs.few.fours_are_ascii.Goals as goal
+use Rattle.amqp_canonical.proofs.HighBits.{ascii_both}
+use Rattle.amqp_canonical.proofs.ascii.fours_are_ascii.Goals as goal
 
 pub returns-then-four_are_ascii : goal.returns-then-four_are_ascii
 returns-then-four_are_ascii c = λ test.
