@@ -206,9 +206,10 @@ impl<'a> MessageFilter<'a> {
         self.messages.is_empty()
     }
 
-    /// Takes a frame: a fault of its payload comes first.
+    /// Takes a frame: a fault of its payload comes first. The number says which of the calls below this is for: each has code
+    /// of its own, since what is large is part of the loop only where one place calls it.
     #[inline(always)]
-    fn take(&mut self, raw: AMQPRawFrame<'_>) -> Result<Decision, RunError<Refusal>>
+    fn take<const CALL: usize>(&mut self, raw: AMQPRawFrame<'_>) -> Result<Decision, RunError<Refusal>>
         ensures { DecidesBy filtering self.old self.new (raw_of raw.entry) result }
     {
         match judge_frame(raw) {
@@ -227,10 +228,13 @@ impl<'a> MessageFilter<'a> {
 
     /// The same, as a writer passes a frame.
     #[inline(always)]
-    fn pass_taken(&mut self, raw: AMQPRawFrame<'_>) -> Result<Option<Decision>, RunError<Refusal>>
+    fn pass_taken<const CALL: usize>(
+        &mut self,
+        raw: AMQPRawFrame<'_>,
+    ) -> Result<Option<Decision>, RunError<Refusal>>
         ensures { PassesBy filtering self.old self.new (raw_of raw.entry) result }
     {
-        match self.take(raw) {
+        match self.take::<CALL>(raw) {
             Ok(decision) => Ok(Some(decision)),
             Err(error) => Err(error),
         }
@@ -246,21 +250,20 @@ impl<'a> FrameDecider for MessageFilter<'a> {
 
     #[inline(always)]
     fn decide(&mut self, raw: AMQPRawFrame<'_>) -> Result<Decision, RunError<Refusal>> {
-        self.take(raw)
+        self.take::<0>(raw)
     }
 
-    // So the loop has code for each type, without the tests for other types. It stands here, and not in `decide`, which is
-    // called from two places: what is large is part of the loop only where that alone calls it.
+    // So the loop has code for each type, without the tests for other types.
     #[inline(always)]
     fn pass_decided(
         &mut self,
         raw: AMQPRawFrame<'_>,
     ) -> Result<Option<Decision>, RunError<Refusal>> {
         match raw.frame_type {
-            AMQPFrameType::Method => self.pass_taken(raw),
-            AMQPFrameType::Header => self.pass_taken(raw),
-            AMQPFrameType::Body => self.pass_taken(raw),
-            AMQPFrameType::ProtocolHeader | AMQPFrameType::Heartbeat => self.pass_taken(raw),
+            AMQPFrameType::Method => self.pass_taken::<1>(raw),
+            AMQPFrameType::Header => self.pass_taken::<2>(raw),
+            AMQPFrameType::Body => self.pass_taken::<3>(raw),
+            AMQPFrameType::ProtocolHeader | AMQPFrameType::Heartbeat => self.pass_taken::<4>(raw),
         }
     }
 

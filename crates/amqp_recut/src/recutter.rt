@@ -198,9 +198,13 @@ impl Recutter {
         }
     }
 
-    /// Takes a method or content header: a fault of its payload comes first.
+    /// Takes a method or content header: a fault of its payload comes first. Passing has code of its own, since what is large is
+    /// part of the loop only where one place calls it.
     #[inline(always)]
-    fn decide_typed(&mut self, raw: AMQPRawFrame<'_>) -> Result<Decision, RunError<Refusal>>
+    fn decide_typed<const PASSING: bool>(
+        &mut self,
+        raw: AMQPRawFrame<'_>,
+    ) -> Result<Decision, RunError<Refusal>>
         requires typed { IsTyped raw.frame_type }
         ensures { DecidesBy recutting self.old self.new (raw_of raw.entry) result }
     {
@@ -408,7 +412,7 @@ impl FrameWriter for Recutter {
                 Ok(decision) => Ok(Some(decision)),
                 Err(error) => Err(RunError::Stream(error)),
             },
-            AMQPFrameType::Method | AMQPFrameType::Header => match self.decide_typed(raw) {
+            AMQPFrameType::Method | AMQPFrameType::Header => match self.decide_typed::<true>(raw) {
                 Ok(decision) => Ok(Some(decision)),
                 Err(error) => Err(error),
             },
@@ -433,7 +437,7 @@ impl FrameWriter for Recutter {
         match raw.frame_type {
             AMQPFrameType::ProtocolHeader => as_run(write_canonical(out, sink, raw)),
             AMQPFrameType::Heartbeat => as_run(write_canonical(out, sink, raw)),
-            AMQPFrameType::Method | AMQPFrameType::Header => match self.decide_typed(raw) {
+            AMQPFrameType::Method | AMQPFrameType::Header => match self.decide_typed::<false>(raw) {
                 Ok(decision) => {
                     put_decided(out, raw, decision);
                     Ok(())

@@ -7,11 +7,11 @@ use Rattle.amqp_in_turn.proofs.Judging.{judged_takes}
 use Rattle.amqp_filter.proofs.message_filter.MessageFilter.take.Goals as goal
 
 pub returns-in-Ok-keep : goal.returns-in-Ok-keep
-returns-in-Ok-keep c =
+returns-in-Ok-keep g c =
     judged_takes filtering refl refl c.args.self.now c.keep.new.self c.keep.new.self c.in-Ok-keep.kept
     (raw_of c.args.raw) c.decision_of.result refl c.in-Ok-keep.ensures (c.decision_of.ensures (raw_of c.args.raw) c.in-Ok.ensures)
 
 pub returns-then-keeps_alone : goal.returns-then-keeps_alone
-returns-then-keeps_alone c =
+returns-then-keeps_alone g c =
     judged_takes filtering refl refl c.args.self.now c.args.self.now c.args.self.now true (raw_of c.args.raw)
     (decisions.Kept c.in-Ok.judged) refl (c.keeps_alone.ensures c.if-keeps_alone.true) (refl, c.in-Ok.ensures)
