@@ -209,7 +209,10 @@ impl<'a> MessageFilter<'a> {
     /// Takes a frame: a fault of its payload comes first. The number says which of the calls below this is for: each has code
     /// of its own, since what is large is part of the loop only where one place calls it.
     #[inline(always)]
-    fn take<const CALL: usize>(&mut self, raw: AMQPRawFrame<'_>) -> Result<Decision, RunError<Refusal>>
+    fn take<const CALL: usize>(
+        &mut self,
+        raw: AMQPRawFrame<'_>,
+    ) -> Result<Decision, RunError<Refusal>>
         ensures { DecidesBy filtering self.old self.new (raw_of raw.entry) result }
     {
         match judge_frame(raw) {
