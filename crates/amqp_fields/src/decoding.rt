@@ -106,10 +106,11 @@ fn fault_of(raw: AMQPRawFrame<'_>) -> ParserError
 }
 
 /// Decodes a whole payload, and puts the nodes of its fields after `count` others. It ends at the place `end` of the bytes in
-/// which spans are counted. Where it has a fault, the list is left.
+/// which spans are counted. Where it has a fault, the list is left. The number says which of its two calls this is: each has
+/// code of its own, since what is large is part of a caller only where one place calls it.
 #[inline(always)]
 #[tactic(auto, using(crate::proofs::PayloadSteps::no_frame), unfolding(crate::specs::Listed::listed_payload))]
-pub(crate) fn decode(
+pub(crate) fn decode<const CALL: usize>(
     raw: AMQPRawFrame<'_>,
     nodes: &mut [Node],
     count: u32,

@@ -195,7 +195,7 @@ fn read_raw(
 {
     let length = raw.payload.len() as u32;
     let end = start + length;
-    let decoded = match decode(raw, nodes, first, deep, end) {
+    let decoded = match decode::<1>(raw, nodes, first, deep, end) {
         Ok(decoded) => decoded,
         Err(error) => return Err(error),
     };

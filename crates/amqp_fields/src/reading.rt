@@ -66,7 +66,7 @@ pub fn read_fields(
         payload,
     };
     let end = payload.len() as u32;
-    let decoded = match decode(raw, nodes, 0, deep, end) {
+    let decoded = match decode::<0>(raw, nodes, 0, deep, end) {
         Ok(decoded) => decoded,
         Err(error) => return Err(FieldsError::Payload(error)),
     };

@@ -9,7 +9,7 @@ use Rattle.amqp_fields.proofs.decoding.decode.Goals as goal
 
 pub returns-in-Some : goal.returns-in-Some
 unfolding listed_payload
-returns-in-Some c =
+returns-in-Some g c =
     let raw = c.args.raw in
     let found = c.in-Some.found in
     let P : AMQPFrameType → Type 0 =
