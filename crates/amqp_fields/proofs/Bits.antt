@@ -1,6 +1,7 @@
 -- Bits of a byte of flags.
 use Rattle.std.proofs.Common.{◌≡◌, ℕ, zero, suc, ◌+◌, ◌*◌, ◌-◌, ◌^◌, ◌<◌, ◌≤◌, subst, arith}
 
+-- a bit with a number of count - 1 bits above it is a number of count bits
 pub one_more_bit : (bit count byte : ℕ) → bit ≤ 1 → 0 < count → byte < 2 ^ (count - 1) → bit + 2 * byte < 2 ^ count
 one_more_bit bit zero byte small some below = absurd (omega (arith, some))
 one_more_bit bit (suc n) byte small some below =

@@ -20,26 +20,32 @@ use Rattle.amqp_fields.specs.Makes.{ArePut, Gives, IsClosed, cut_long}
 pub cut_is : (n : ℕ) → n < 2 ^ 64 → cut_long n ≡ n
 cut_is n few = grind (arith, nat_tests)
 
+-- a number that is cut fits 8 bytes
 pub cut_most : (n : ℕ) → cut_long n < 2 ^ 64
 cut_most n = grind (arith, nat_tests)
 
+-- a number whose cut is below the greatest number of 8 bytes was not cut
 pub cut_small : (n k : ℕ) → cut_long n ≡ k → k < 18446744073709551615 → n ≡ k
 cut_small n k is few = grind (arith, nat_tests)
 
 pub cut_sum : (a b : ℕ) → cut_long (cut_long a + cut_long b) ≡ cut_long (a + b)
 cut_sum a b = grind (arith, nat_tests)
 
+-- the test for less fails where the second number is at most the first
 pub not_lt : (a b : ℕ) → b ≤ a → nat_lt a b ≡ false
 not_lt a b le = grind (arith, nat_tests)
 
 -- ---- two parts
 
+-- where bytes were put, bytes that are equal to them were put
 pub as_put : {old new a b : List ℕ} {at count : ℕ} → a ≡ b → ArePut old new at a count → ArePut old new at b count
 as_put {old} {new} {a} {b} {at} {count} is h = subst (λ bytes. ArePut old new at bytes count) is h
 
+-- in a buffer that is left as it was, no bytes were put
 pub none_put : (old : List ℕ) (at : ℕ) → ArePut old old at [] 0
 none_put old at = record { count_is = refl; same_length = refl; put = λ few room. sym (written-nil old at) }
 
+-- bytes that were put, and then others behind them, were put as a whole
 pub both_put : {old mid new a b : List ℕ} {at place n m total : ℕ} → ArePut old mid at a n → place ≡ cut_long (at + n)
     → ArePut mid new place b m → total ≡ cut_long (n + m) → ArePut old new at (a ++ b) total
 both_put {old} {mid} {new} {a} {b} {at} {place} {n} {m} {total} one there two sum =
@@ -59,6 +65,7 @@ both_put {old} {mid} {new} {a} {b} {at} {place} {n} {m} {total} one there two su
 
 -- ---- what was made
 
+-- a text of at most 255 bytes of UTF-8 is made where its short string was put
 pub text_put : {old new : List ℕ} {at count : ℕ} (node : ℕ) (text : List ℕ) → length text < 256 → is_utf8 text ≡ true
     → ArePut old new at (short_string_bytes text) count → Gives (made_text node text) old new at count
 text_put node text few valid put =
@@ -71,12 +78,14 @@ text_put node text few valid put =
       are_put = put;
     }
 
+-- content that a length of 4 bytes counts is made where it was put behind that length
 pub long_put : {old new : List ℕ} {at count : ℕ} (node : ℕ) (content : List ℕ) → length content < 2 ^ 32
     → ArePut old new at (with_length content) count → Gives (made_long node content) old new at count
 long_put node content few put =
     let short : is_too_long content ≡ false = grind (arith, nat_tests, few) in
     record { bytes = with_length content; is = ap (λ test. if test then refuse node whys.TooLong else Ok (with_length content)) short; are_put = put }
 
+-- two parts that were made and put one behind the other were made and put as a whole
 pub both_made : {E : Type 0} {first second : Result (List ℕ) E} {old mid new : List ℕ} {at place n m total : ℕ} → Gives first old mid at n
     → place ≡ cut_long (at + n) → Gives second mid new place m → total ≡ cut_long (n + m) → Gives (after first second) old new at total
 both_made {E} {first} {second} one there two sum =
@@ -92,10 +101,12 @@ pub made_after : {E : Type 0} {second : Result (List ℕ) E} {old mid new first 
 made_after {E} {second} {old} {mid} {new} {first} one there two sum =
     both_made {first = Ok first} (record { bytes = first; is = refl; are_put = one }) there two sum
 
+-- where a first part was made and put, a refusal of the second is one of the whole
 pub second_refused : {E : Type 0} {old mid : List ℕ} {at n : ℕ} (first second : Result (List ℕ) E) (bad : E)
     → Gives first old mid at n → second ≡ Err bad → after first second ≡ Err bad
 second_refused first second bad one is = ap (λ made. after made second) one.is ∙ ap (after (Ok one.bytes)) is
 
+-- a refusal behind bytes that were made is one of the whole
 pub rest_refused : {E : Type 0} (first : List ℕ) (second : Result (List ℕ) E) (bad : E) → second ≡ Err bad → after (Ok first) second ≡ Err bad
 rest_refused first second bad is = ap (after (Ok first)) is
 
@@ -120,6 +131,7 @@ before_put {old} {mid} {new} {first} {second} {at} {place} {k} {n} {total} later
           ended ∙ ap (λ bs. written bs at first) begun ∙ written_before old first second at place at_place (omega (arith, room, size, at_place));
     }
 
+-- content that was made is made with its length, where this was put in front of it
 pub closed_put : {made : Made} {old mid new : List ℕ} {at place n total : ℕ} (node : ℕ) → Gives made old mid place n
     → place ≡ cut_long (at + 4) → IsClosed n mid new at total → Gives (closed node made) old new at total
 closed_put {made} {old} {mid} {new} {at} {place} {n} {total} node one there h =
@@ -133,6 +145,7 @@ closed_put {made} {old} {mid} {new} {at} {place} {n} {total} node one there h =
       are_put = before_put one.are_put there head refl (h.count_is ∙ sym (cut_is (4 + n) (omega (arith, h.fits))));
     }
 
+-- content that a length of 4 bytes does not count is refused as too long
 pub closed_long : {made : Made} {old mid : List ℕ} {place n : ℕ} (node : ℕ) (bad : Refusal)
     → Gives made old mid place n → (2 ^ 32 ≤ n) × (bad ≡ refusal node whys.TooLong) → closed node made ≡ Err bad
 closed_long {made} {old} {mid} {place} {n} node bad one h =

@@ -14,12 +14,15 @@ use Rattle.amqp_fields.specs.contracts.frames.FramesReadPartialEq.TheImpl as fra
 use Rattle.amqp_fields.specs.declared.frames.FramesEnd.{FramesEnd}
 use Rattle.amqp_fields.specs.contracts.frames.FramesEndPartialEq.TheImpl as ends
 
+-- the test for equality of nodes holds exactly where they are the same
 pub same_node : (a b : Node) → Decides (node.ghosts.eq a b) (a ≡ b)
 same_node a b = search rules
 
+-- the test for equality of what was read of payloads holds exactly where it is the same
 pub same_read : (a b : FieldsRead) → Decides (read.ghosts.eq a b) (a ≡ b)
 same_read a b = search rules
 
+-- the test for equality of heads holds exactly where they are the same
 pub same_head : (a b : Head) → Decides (head.ghosts.eq a b) (a ≡ b)
 same_head a b = search rules
 
@@ -41,5 +44,6 @@ read_to : (a b : FramesRead) → a ≡ b → SameRead a b
 unfolding SameRead
 read_to a b e = search rules
 
+-- the test for equality of what was read of frames holds exactly where it is the same
 pub same_frames_read : (a b : FramesRead) → Decides (frames.ghosts.eq a b) (a ≡ b)
 same_frames_read a b = (λ h. read_of a b ((read_members a b).0 h), λ e. (read_members a b).1 (read_to a b e))

@@ -17,17 +17,20 @@ use Rattle.amqp_fields.proofs.Bits.{one_more_bit}
 -- ---- flags
 
 module _ (end place next : ℕ) where
+  -- where no flags are left, none are taken
   pub flags_none : (count : ℕ) (nodes : List Node) → count ≡ 0 → flags_in end place count nodes ≡ Ok []
   unfolding flags_in
   flags_none zero nodes none = refl
   flags_none (suc count) nodes none = absurd (omega (arith, none))
 
+  -- where a flag is left and no node, the place where the nodes end is refused
   pub flags_missing : (count : ℕ) (nodes : List Node) → 0 < count → length nodes < 1 → flags_in end place count nodes ≡ misfit end
   unfolding flags_in
   flags_missing zero nodes some none = absurd (omega (arith, some))
   flags_missing (suc count) [] some none = refl
   flags_missing (suc count) (node ∷ nodes) some none = absurd (omega (arith, none))
 
+  -- a first node that is no flag at the place is refused
   pub flags_other : (count : ℕ) (nodes : List Node) (blank : Node) → 0 < count → 1 ≤ length nodes
       → is_flag place (get_or nodes 0 blank) ≡ false → flags_in end place count nodes ≡ misfit (end - length nodes)
   unfolding flags_in
@@ -36,6 +39,7 @@ module _ (end place next : ℕ) where
   flags_other (suc count) (node ∷ nodes) blank some more other =
       ap (λ test. if test then flag_before node.number (flags_in end (next_place place 1) count nodes) else misfit (end - length (node ∷ nodes))) other
 
+  -- a first node that is a flag at the place stands in front of the flags of the others
   pub flags_more : (count : ℕ) (nodes : List Node) (blank : Node) → 0 < count → 1 ≤ length nodes
       → is_flag place (get_or nodes 0 blank) ≡ true → next ≡ next_place place 1
       → flags_in end place count nodes ≡ flag_before (get_or nodes 0 blank).number (flags_in end next (count - 1) (drop 1 nodes))
@@ -47,11 +51,13 @@ module _ (end place next : ℕ) where
       ap (λ test. if test then flag_before node.number (flags_in end (next_place place 1) count nodes) else misfit (end - length (node ∷ nodes))) is
       ∙ ap₂ (λ p k. flag_before node.number (flags_in end p k nodes)) (sym at) (sym less)
 
+-- a number below 2 is the bit of whether it is 1
 pub bit_is : (n : ℕ) → n < 2 → bit_of (n == 1) ≡ n
 bit_is zero few = refl
 bit_is (suc zero) few = refl
 bit_is (suc (suc n)) few = absurd (omega (arith, few))
 
+-- the number of a flag is below 2
 pub flag_few : (place : ℕ) (node : Node) → is_flag place node ≡ true → node.number < 2
 flag_few place node is = grind (arith, nat_tests, is)
 
@@ -66,17 +72,20 @@ byte_more read more number count byte total is few some h sum =
       fits = subst (λ n. n < 2 ^ count) (sym sum) (one_more_bit number count byte (omega (arith, few)) some h.fits);
     }
 
+-- a refusal behind a flag is one of all flags
 pub byte_refused : (read more : Result (List Bool) Refusal) (number : ℕ) (bad : Refusal) → read ≡ flag_before number more → more ≡ Err bad → read ≡ Err bad
 byte_refused read more number bad is h = is ∙ ap (flag_before number) h
 
 -- ---- masks
 
+-- a bit that is worth less than 2 ^ 16 is below 16
 pub bit_below : (bit : ℕ) → 2 ^ bit < 2 ^ 16 → bit < 16
 bit_below bit less = elim (cases_lt bit 16) [
   | inl lt ↦ lt
   | inr ge ↦ absurd (omega (arith, pow_mono ge, less))
 ]
 
+-- the bits of all properties together fit a mask of 2 bytes
 pub worths_few : worths properties < 2 ^ 16
 unfolding properties later_properties
 worths_few = omega arith

@@ -100,6 +100,7 @@ module _ (pool : List ℕ) (fits : IsBytes pool) where
     pub tells : TellsField pool node inside (field place (kind_of form) item)
     pub spelled : SpellsForm plain form bytes (item ∷ [])
 
+  -- bytes that are made of a field encode an item that the first of the nodes means
   pub field_told : (end place : ℕ) (form : Form) (nodes : List Node) (bytes : List ℕ)
       → made_field pool end place form nodes ≡ Ok bytes → FieldTold place form nodes bytes
   unfolding made_field Of
@@ -278,6 +279,7 @@ module _ (pool : List ℕ) (fits : IsBytes pool) where
   none_ok end [] bytes h = (refl, ok_is h)
   none_ok end (node ∷ nodes) bytes h = absurd cc
 
+  -- bytes that are made of fields one after another encode items that the nodes mean
   pub slots_told : (end place : ℕ) (slots : List Slot) (nodes : List Node) (bytes : List ℕ) → place + total slots < 256
       → are_least slots ≡ true → made_slots pool end place slots nodes ≡ Ok bytes → SlotsTold place slots nodes bytes
   unfolding made_slots

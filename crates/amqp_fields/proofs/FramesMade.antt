@@ -25,16 +25,19 @@ use Rattle.amqp_fields.proofs.Combined.{before_put, both_put, cut_small}
 
 -- ---- ids
 
+-- where the class is in the table, it is the method that is unknown
 pub class_known : (rows : Option (List Row)) → is_some rows ≡ true → unknown_in rows ≡ errors.UnknownMethod
 class_known None h = absurd (search (arith, h))
 class_known (Some rows) h = refl
 
+-- where the class is not in the table, it is the class that is unknown
 pub class_unknown : (rows : Option (List Row)) → is_some rows ≡ false → unknown_in rows ≡ errors.UnknownClass
 class_unknown None h = refl
 class_unknown (Some rows) h = absurd (search (arith, h))
 
 -- ---- around a payload
 
+-- a payload that was made makes a frame with what is put around it, or is refused as too large
 pub surrounds : (type channel m n : ℕ) (head_of : Head) (new : List ℕ) {made : Made} {old mid : List ℕ} {place : ℕ} (at : ℕ) (result : Result ℕ Refusal)
     → m < 2 ^ 32 → type ≡ head_of.frame_type → channel ≡ head_of.channel → Gives made old mid place n → place ≡ cut_long (at + 7)
     → Surrounds type channel n m mid new at result → Makes (made_around m head_of made) old new at result
@@ -66,6 +69,7 @@ surrounds type channel m n head_of new {made} at (Err bad) few t ch one there h 
 
 module _ (pool : List ℕ) (nodes own : List Node) (head_of : Head) (end : ℕ)
     (own_is : nodes_in nodes head_of ≡ Some own) (end_is : end ≡ head_of.first + head_of.nodes) where
+  -- without a method id a content header is made of its front and its properties
   pub header_parts : head_of.method_id ≡ 0 → made_header pool nodes head_of ≡ after (Ok (header_front head_of)) (made_properties pool end own)
   unfolding made_header
   header_parts none =
@@ -78,6 +82,7 @@ module _ (pool : List ℕ) (nodes own : List Node) (head_of : Head) (end : ℕ)
       ∙ ap (made_own (λ own. after (Ok (header_front head_of)) (made_properties pool (head_of.first + head_of.nodes) own))) own_is
       ∙ ap (λ e. after (Ok (header_front head_of)) (made_properties pool e own)) (sym end_is)
 
+  -- without a body size a known method is made of its ids and its fields
   pub method_parts : (slots : List meant.Slot) → slots_at head_of.class_id head_of.method_id ≡ Some slots → head_of.body_size ≡ 0
       → made_method pool nodes head_of
       ≡ after (Ok (number_bytes bytes2 head_of.class_id ++ number_bytes bytes2 head_of.method_id)) (made_slots pool end 0 slots own)
@@ -93,6 +98,7 @@ module _ (pool : List ℕ) (nodes own : List Node) (head_of : Head) (end : ℕ)
       ∙ ap (made_own (λ own. after (Ok ids) (made_slots pool (head_of.first + head_of.nodes) 0 slots own))) own_is
       ∙ ap (λ e. after (Ok ids) (made_slots pool e 0 slots own)) (sym end_is)
 
+  -- without ids a protocol header on channel 0 is made of its mark and its numbers
   pub version_parts : has_no_ids head_of ≡ true → head_of.channel ≡ 0
       → made_version pool nodes head_of ≡ after (Ok (protocol_byte ∷ protocol_mark)) (made_slots pool end 0 version_slots own)
   unfolding made_version
@@ -107,14 +113,17 @@ module _ (pool : List ℕ) (nodes own : List Node) (head_of : Head) (end : ℕ)
       ∙ ap (made_own (λ own. after (Ok (protocol_byte ∷ protocol_mark)) (made_slots pool (head_of.first + head_of.nodes) 0 version_slots own))) own_is
       ∙ ap (λ e. after (Ok (protocol_byte ∷ protocol_mark)) (made_slots pool e 0 version_slots own)) (sym end_is)
 
+-- the nodes that were found for a head are those that the list has for it
 pub own_nodes : (nodes : List Node) (head_of : Head) (found : Option (Bor (List Node))) (own : Bor (List Node))
     → option_copied found ≡ nodes_in nodes head_of → found ≡ Some own → nodes_in nodes head_of ≡ Some own.now
 own_nodes nodes head_of found own is h = sym is ∙ ap (λ o. option_copied o) h
 
+-- the shapes that were found for a method are those of its fields
 pub known_slots : (class id : ℕ) (found : Option (Bor (List Slot))) (shapes : Bor (List Slot))
     → option_map slots_of (option_copied found) ≡ slots_at class id → found ≡ Some shapes → slots_at class id ≡ Some (slots_of shapes.now)
 known_slots class id found shapes is h = sym is ∙ ap (λ o. option_map slots_of (option_copied o)) h
 
+-- a frame that is no protocol header is made around its payload
 pub frame_parts : (pool : List ℕ) (nodes : List Node) (m : ℕ) (head_of : Head) → (head_of.frame_type ≡ protocol_byte → ⊥)
     → made_typed pool nodes m head_of ≡ made_around m head_of (made_payload pool nodes head_of)
 unfolding made_typed

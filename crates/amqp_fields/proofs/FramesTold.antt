@@ -44,6 +44,7 @@ use Rattle.amqp_fields.proofs.ValuesTold.{Told}
 
 -- ---- properties
 
+-- bytes that are given where a refusal names its head are those that were made
 pub at_ok : (k : ℕ) (made : Made) (bytes : List ℕ) → at_head k made ≡ Ok bytes → made ≡ Ok bytes
 at_ok k (Ok made) bytes h = let same : made ≡ bytes = cc in ap Ok same
 at_ok k (Err bad) bytes h = absurd cc
@@ -257,6 +258,7 @@ module _ (pool : List ℕ) (fits : IsBytes pool) where
         (Head head.channel (header_of_parts (number_item head.class_id ∷ number_item head.body_size ∷ []) options))
     spelled : SpellsContentHeader plain bytes (header_of_parts (number_item head.class_id ∷ number_item head.body_size ∷ []) options)
 
+  -- a class id, a weight of 0 and a body size encode the front of a content header at each level
   pub front_spelled : (level : Level) (class size : ℕ) → class < 2 ^ 16 → size < 2 ^ 64
       → SpellsSlots level header_slots (number_bytes bytes2 class ++ (number_bytes bytes2 0 ++ number_bytes bytes8 size))
       (number_item class ∷ number_item size ∷ [])

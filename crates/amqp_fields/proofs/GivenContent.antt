@@ -108,6 +108,7 @@ module _ (room : ℕ) (content bytes : List ℕ) (long : SpellsLongString bytes 
   -- ---- at each level
 
   module _ (pool : List ℕ) (node : Node) (span : IsSpan pool node.start node.length content) where
+    -- a table whose content stands in the pool is encoded at each level at which its node is in order
     pub table_at : (level : Level) (table : List Entry) → Ordered level pool node [] → IsTableKind node.kind
         → SpellsTable plain (SpellsValue plain room) bytes table → SpellsTable level (SpellsValue level room) bytes table
     table_at plain table order kind h = h
@@ -119,6 +120,7 @@ module _ (room : ℕ) (content bytes : List ℕ) (long : SpellsLongString bytes 
         let given = order.order.is.1 [] node [] [] refl order.inside_is in
         table_strict table (given.table kind refl content span) h
 
+    -- an array whose content stands in the pool is encoded at each level at which its node is in order
     pub array_at : (level : Level) (values : List FieldValue) → Ordered level pool node [] → node.kind ≡ tag_byte tag.FieldArray
         → SpellsArray (SpellsValue plain room) bytes values → SpellsArray (SpellsValue level room) bytes values
     array_at plain values order kind h = h

@@ -62,10 +62,12 @@ module _ (pool : List ℕ) (end : ℕ) where
       ∙ ap₂ (λ p ns. after (made_slot pool end place (slot_of shape) nodes) (made_slots pool end p (slots_of others) ns))
       (sym (at ∙ ap (next_place place) kept)) (sym (there ∙ ap (λ n. drop n nodes) counted))
 
+  -- before the first field nothing is made, and all fields are left
   pub slots_begin : (shapes : List Slot) (nodes : List Node) (old : List ℕ) (at : ℕ) → have_constants shapes ≡ true
       → SlotsLeft (made_slots pool end 0 (slots_of shapes) nodes) shapes 0 nodes old old at 0
   slots_begin shapes nodes old at constants = record { constants = constants; onward = begins (made_slots pool end 0 (slots_of shapes) nodes) old at }
 
+  -- a field that is made leaves the fields after it, and the nodes behind its own
   pub slots_on : {whole : Made} {place next k count at made from n total : ℕ}
       {left others : List Slot} {shape : Slot} {nodes rest : List Node} {old mid new : List ℕ}
       → SlotsLeft whole left place nodes old mid at made → left ≡ shape ∷ others → from ≡ cut_long (at + made)
@@ -78,6 +80,7 @@ module _ (pool : List ℕ) (end : ℕ) where
         onward = steps h.onward (slots_next place next k count left others shape nodes rest is at_next kept behind counted) there one sum;
       }
 
+  -- a refusal of the next field is one of the whole
   pub slots_refused : {whole : Made} {place at made : ℕ} {left others : List Slot} {shape : Slot} {nodes : List Node} {old new : List ℕ} (bad : Refusal)
       → SlotsLeft whole left place nodes old new at made → left ≡ shape ∷ others → made_slot pool end place (slot_of shape) nodes ≡ Err bad → whole ≡ Err bad
   slots_refused {whole} {place} {at} {made} {left} {others} {shape} {nodes} bad h is refuses =
@@ -93,6 +96,7 @@ module _ (pool : List ℕ) (end : ℕ) where
   no_slots place [] nodes none = refl
   no_slots place (shape ∷ left) nodes none = absurd (omega (arith, none))
 
+  -- where neither fields nor nodes are left, the whole was made
   pub slots_end : {whole : Made} {place at made : ℕ} {left : List Slot} {nodes : List Node} {old new : List ℕ}
       → SlotsLeft whole left place nodes old new at made → length left ≡ 0 → length nodes ≡ 0 → Gives whole old new at made
   slots_end {whole} {place} {at} {made} {left} {nodes} h none bare = ends h.onward (no_slots place left nodes none ∙ nothing nodes bare)
@@ -101,6 +105,7 @@ module _ (pool : List ℕ) (end : ℕ) where
       nothing [] bare = refl
       nothing (node ∷ nodes) bare = absurd (omega (arith, bare))
 
+  -- where nodes and no fields are left, the first of these nodes is refused
   pub slots_more : {whole : Made} {place at made index : ℕ} {left : List Slot} {nodes : List Node} {old new : List ℕ} (bad : Refusal)
       → SlotsLeft whole left place nodes old new at made → length left ≡ 0 → 0 < length nodes
       → index ≡ end - length nodes → bad ≡ refusal index whys.BadArgument → whole ≡ Err bad
@@ -138,10 +143,12 @@ module _ (shapes : List (ℕ × Form)) (other : ℕ × Form) (place : ℕ) (node
       ap (drop node.place) (sym all) ∙ property_at shapes other node.place few
       ∙ ap₂ (λ (ps : List Property) k. property_of (get_or shapes node.place other) ∷ drop k ps) all next
 
+  -- a node that is a field of the shape at its place is the property of that shape
   pub property_stands : node.place < length shapes → place ≤ node.place → is_field node.place (property_of (get_or shapes node.place other)).form node ≡ true
       → IsProperty place node (property_of (get_or shapes node.place other))
   property_stands few from is = record { from = from; later = drop (node.place + 1) properties; stands = found_at few; later_is = refl; is = is }
 
+  -- a node that is no field of the shape at its place is no property
   pub property_other : node.place < length shapes
       → is_field node.place (property_of (get_or shapes node.place other)).form node ≡ false → IsNoProperty place node
   property_other few is p later le stands =
@@ -152,11 +159,13 @@ module _ (shapes : List (ℕ × Form)) (other : ℕ × Form) (place : ℕ) (node
       first_is : (a b : Property) (xs ys : List Property) → a ∷ xs ≡ b ∷ ys → a ≡ b
       first_is a b xs ys h = cc
 
+  -- a node whose place is behind all shapes is no property
   pub property_beyond : length shapes ≤ node.place → IsNoProperty place node
   property_beyond many p later le stands =
       let size : length (map property_of shapes) ≡ 14 = ap length all ∙ properties_few in
       absurd (omega (arith, some_left node.place properties later p stands, size, length-map shapes property_of, properties_few, many))
 
+-- a node whose place is before another one is no property from there on
 pub property_before : (place : ℕ) (node : Node) → node.place < place → IsNoProperty place node
 property_before place node before p later le stands = absurd (omega (arith, before, le))
 
@@ -364,6 +373,7 @@ module _ (pool : List ℕ) (end : ℕ) where
     pub onward : Onward (made_set pool end 0 properties all) (made_set pool end place (drop place properties) rest) old new at made
     pub mask_is : mask + mask_of (drop place properties) (set_at place (drop place properties) rest) ≡ mask_of properties (set_at 0 properties all)
 
+  -- before the first property nothing is made, and the mask is 0
   pub set_begins : (nodes : List Node) (old : List ℕ) (at : ℕ) → SetLeft nodes 0 nodes old old at 0 0
   set_begins nodes old at = record { few = omega arith; onward = begins (made_set pool end 0 properties nodes) old at; mask_is = omega arith }
 
@@ -373,6 +383,7 @@ module _ (pool : List ℕ) (end : ℕ) where
   mask_few {place} {at} {made} {mask} p {all} {nodes} {inside} {others} {node} h first found =
       omega (arith, h.mask_is, mask_next place p h.few first found, mask_most properties (set_at 0 properties all), worths_few)
 
+  -- a property that is made leaves the nodes behind its own, and adds its bit to the mask
   pub set_goes_on : {place next last at made from n total mask more : ℕ} (p : Property)
       {all nodes inside others : List Node} {node : Node} {old mid new : List ℕ}
       → SetLeft all place nodes old mid at made mask → StandsFirst nodes node inside others → IsProperty place node p → last ≡ end - length others
@@ -396,6 +407,7 @@ module _ (pool : List ℕ) (end : ℕ) where
   all_refused {place} {at} {made} {mask} {all} bad h is =
       rest_refused (number_bytes bytes2 (mask_of properties (set_at 0 properties all))) (made_set pool end 0 properties all) bad (stops bad h.onward is)
 
+  -- a refusal of a property is one of all properties
   pub set_refused : {place last at made mask : ℕ} (p : Property) {all nodes inside others : List Node} {node : Node} {old new : List ℕ} (bad : Refusal)
       → SetLeft all place nodes old new at made mask → StandsFirst nodes node inside others → IsProperty place node p → last ≡ end - length others
       → made_form pool p.form last node inside ≡ Err bad → made_properties pool end all ≡ Err bad
@@ -436,17 +448,20 @@ module _ (pool : List ℕ) (end : ℕ) where
       else (if is_field node.place p.form node then made_form pool p.form (end - length (drop node.inside others)) node (take node.inside others) else bad))
       more)
 
+  -- where the next node is none of the properties that are left, it is refused
   pub set_misfit : {place at made mask index : ℕ} {all nodes inside others : List Node} {node : Node} {old new : List ℕ} (bad : Refusal)
       → SetLeft all place nodes old new at made mask → StandsFirst nodes node inside others → IsNoProperty place node
       → index ≡ end - length nodes → bad ≡ refusal index whys.BadArgument → made_properties pool end all ≡ Err bad
   set_misfit bad h first none place_is is = all_refused bad h (no_property h.few first none ∙ ap (λ k. misfit k) (sym place_is) ∙ ap Err (sym is))
 
+  -- where what lies inside the next node would pass the end, the node is refused
   pub set_passing : {place at made mask index : ℕ} {all : List Node} (nodes : List Node) {old new : List ℕ} (bad : Refusal)
       → SetLeft all place nodes old new at made mask → PassesEnd nodes → 0 < length nodes
       → index ≡ end - length nodes → bad ≡ refusal index whys.BadArgument → made_properties pool end all ≡ Err bad
   set_passing nodes bad h passes some place_is is =
       all_refused bad h (passing_property nodes h.few passes some ∙ ap (λ k. misfit k) (sym place_is) ∙ ap Err (sym is))
 
+  -- where no nodes are left, the properties are made, with their mask put in front
   pub set_ends : {place at first made mask head total : ℕ} {all : List Node} (nodes : List Node) {old mid new : List ℕ}
       → SetLeft all place nodes old mid first made mask → length nodes ≡ 0 → first ≡ cut_long (at + 2)
       → ArePut mid new at (number_bytes bytes2 mask) head → total ≡ cut_long (head + made) → Gives (made_properties pool end all) old new at total

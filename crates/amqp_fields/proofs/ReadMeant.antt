@@ -42,6 +42,7 @@ pub record Encoded {A : Type 0} (Spells : List ℕ → A → Type 0) (x : A) : T
   pub bytes : List ℕ
   pub spelled : Spells bytes x
 
+-- nodes that mean things in one way mean them in another, where that follows of each thing
 pub nodes_into : {A : Type 0} (M T : Node → List Node → A → Type 0) (P : A → Type 0)
     → ((node : Node) (inside : List Node) (x : A) → P x → M node inside x → T node inside x)
     → (xs : List A) (nodes : List Node) → AllByRecursion P xs → AreNodes M xs nodes → AreNodes T xs nodes
@@ -88,6 +89,7 @@ ItemOf kind (text_item text) = (kind ≡ 6) × (length text < 256) × IsUtf8 tex
 ItemOf kind (bytes_item content) = kind ≡ 7
 ItemOf kind (entries_item table) = kind ≡ 8
 
+-- the item of the field is one that its kind gives
 abbrev pub Suitable : Field → Type 0
 Suitable f = ItemOf f.kind f.item
 
@@ -191,6 +193,7 @@ header_options bytes header h =
     let found = front_items h.front h.one h.first_is in
     sym (ap (λ (x : ContentHeader). x.options) (h.joined ∙ ap (λ xs. header_of_parts xs h.two) found.2))
 
+-- the item of each field of an encoded frame is one that its kind gives
 pub frame_suits : (bytes : List ℕ) (frame : Frame) → IsBytes bytes → Spells plain bytes frame → AllByRecursion Suitable (fields_of frame)
 unfolding fields_of
 frame_suits bytes (Proto major minor revision) fits h =

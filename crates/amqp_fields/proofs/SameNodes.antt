@@ -22,6 +22,7 @@ use Rattle.amqp_fields.proofs.ReadMeant.{ItemOf, Suitable, frame_suits, nodes_in
 module _ (bytes others : List ℕ) where
   -- ---- lists
 
+  -- nodes that say the same, and then others that do, say the same as a whole
   pub same_append : (ns ms more rest : List Node) → SameNodes bytes others ns ms
       → SameNodes bytes others more rest → SameNodes bytes others (ns ++ more) (ms ++ rest)
   same_append [] [] more rest one two = two
@@ -237,6 +238,7 @@ module _ (bytes others : List ℕ) where
       (no_key a b p.0.no_key q.no_key) f.item (subst (λ k. ItemOf k f.item) (sym p.0.kind_is) p.1) p.0.means q.means)
       fields nodes more suited g ascend rise
 
+-- nodes that were read of one frame say the same, where the keys of each table ascend
 pub same_nodes : OneFrameHasSameNodes
 same_nodes bytes others encoded frame nodes more fits spelled h g ascend rise =
     fields_same bytes others (fields_of frame) nodes more (frame_suits encoded frame fits spelled) h g ascend rise

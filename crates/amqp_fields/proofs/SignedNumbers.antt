@@ -43,6 +43,7 @@ halves bytes8 = (omega arith, omega arith)
 
 -- ---- both ways
 
+-- a signed number that a width holds is the one that its lowest bits stand for
 pub signed_back : (width : NumberWidth) (n : ℕ) → (n < half_limit width) ⊎ ((2 ^ 64 - half_limit width ≤ n) × (n < 2 ^ 64))
     → n ≡ cast_unsigned w64 (cast_signed (width_of width) (n % number_limit width))
 signed_back width n (inl few) = sym (ap (λ k. cast_unsigned w64 (cast_signed (width_of width) k)) (low_rest width n few) ∙ low_bits width n few)
@@ -54,6 +55,7 @@ signed_back width n (inr most) =
     let rest : n % number_limit width ≡ number_limit width - suc k = ap (λ m. m % number_limit width) (sym back) ∙ high_rest width k below in
     sym (ap (λ m. cast_unsigned w64 (cast_signed (width_of width) m)) rest ∙ high_bits width k below ∙ back)
 
+-- the signed number that bits of a width stand for is one of the width, and has these lowest bits
 pub signed_bits : (width : NumberWidth) (bits number : ℕ) → bits < number_limit width
     → number ≡ cast_unsigned w64 (cast_signed (width_of width) bits) → (is_signed width number ≡ true) × (number % number_limit width ≡ bits)
 signed_bits width bits number few is = elim (cases_lt bits (half_limit width)) [

@@ -30,6 +30,7 @@ use Rattle.amqp_fields.proofs.Pushing.{grows_more, grows_none}
 
 -- ---- flags
 
+-- where no flags are left, nothing more is put
 pub no_bits : (place flags k byte count : ℕ) (old : List Node) → flags ≡ 0
     → Grows (listing old count) (listing old count) (listed_bits place (flags_from flags k byte))
 no_bits place zero k byte count old h = grows_none (listing old count)
@@ -42,6 +43,7 @@ shifted (suc count) k byte =
     let bit : bit_at byte (k + 1) ≡ bit_at (byte / 2) k = ap (bit_at byte) {x = k + 1} {y = suc k} (omega arith) ∙ bit_at-suc byte k in
     ap₂ (λ (f : Bool) (fs : List Bool). f ∷ fs) (ap (λ n. eqb n 1) bit) (shifted count (k + 1) byte)
 
+-- a node for the lowest bit, and then those for half the byte, are the nodes of all flags of the byte
 pub bits_more : (place next flags byte half count more total : ℕ) (node : Node) (old mid new : List Node)
     → 0 < flags → node ≡ numbered (placed place (flags_form 1)) (bit_of (flag_at byte 0))
     → next ≡ next_place place 1 → half ≡ byte / 2 → Grows (listing old count) (listing mid more) (node ∷ [])
@@ -91,6 +93,7 @@ second (took others n) added used old mid new count more total one h = grows_mor
 second past added used old mid new count more total one h = tt
 second (fault bad) added used old mid new count more total one h = tt
 
+-- what is listed of the front, and then of the rest, is listed of both
 pub first : (j : Judged (List Node)) (others : Judge (List Node)) (i rest : List ℕ) (old mid new : List Node) (count total : ℕ) (step : Step)
     → Lists j old count mid step → rest ≡ drop step.used i → Counts (others rest) mid step.count new total
     → Counts (j >>= λ x. others (drop x.1 i) >>= λ y. took (x.0 ++ y.0) (x.1 + y.1)) old count new total
@@ -100,6 +103,7 @@ first (took added n) others i rest old mid new count total step one e h =
     let P : List ℕ → Type 0 = λ bytes. Counts (others bytes) mid step.count new total in
     second (others (drop n i)) added n old mid new count step.count total one.1 (subst P (e ∙ ap (λ k. drop k i) one.0) h)
 
+-- where no fields are left, nothing more is put
 pub no_slots : (deep : Bool) (end place : ℕ) (shapes : List Slot) (i : List ℕ) (old : List Node) (count : ℕ)
     → length shapes < 1 → Counts (listed_slots deep end place (slots_of shapes) i) old count old count
 unfolding listed_slots
@@ -122,6 +126,7 @@ slots_listed deep end place next (shape ∷ shapes) other i rest old mid new cou
 pub place_stays : (place : ℕ) → place < 256 → place ≡ next_place place 0
 place_stays place small = grind (arith, nat_tests)
 
+-- where the first field is reserved, the nodes are those of the fields after it
 pub reserved_first : (deep : Bool) (end place : ℕ) (shapes : List Slot) (other : Slot) (form : Form)
     (constant : Bor (List ℕ)) (i rest : List ℕ) (old new : List Node) (count total n : ℕ)
     → 1 ≤ length shapes → get_or shapes 0 other ≡ slots.Reserved form constant → place < 256
@@ -133,6 +138,7 @@ reserved_first deep end place shapes other form constant i rest old new count to
     slots_listed deep end place place shapes other i rest old old new count total (record { used = n; count = count }) some
     (reserved_listed deep end place (get_or shapes 0 other) form constant i old count n is size) (subst P (sym is) (place_stays place small)) e h
 
+-- where the first field is kept, its nodes stand before those of the fields after it
 pub kept_first : (deep : Bool) (end place next : ℕ) (shapes : List Slot) (other : Slot)
     (form : Form) (i rest : List ℕ) (old mid new : List Node) (count total : ℕ) (step : Step)
     → 1 ≤ length shapes → get_or shapes 0 other ≡ slots.Kept form → Lists (listed_form deep end place (form_of form) i) old count mid step
@@ -166,15 +172,18 @@ number_and_flags deep end place next flags count shapes other label i rest old m
 
 -- ---- properties
 
+-- the next place is not cut, where it is below 256
 pub next_is : (place n : ℕ) → 0 < n → place + n < 256 → place + 1 ≡ next_place place 1
 next_is place n some few = grind (arith, nat_tests)
 
+-- where nothing is in front, what is listed of the rest is listed of all
 pub skipped : (j : Judged (List Node)) (old new : List Node) (count total : ℕ)
     → Counts j old count new total → Counts (j >>= λ y. took ([] ++ y.0) (0 + y.1)) old count new total
 skipped (took added n) old new count total h = h
 skipped past old new count total h = tt
 skipped (fault bad) old new count total h = tt
 
+-- where nothing is in front, what is listed of all is listed of the rest
 pub unskipped : (j : Judged (List Node)) (old new : List Node) (count total : ℕ)
     → Counts (j >>= λ y. took ([] ++ y.0) (0 + y.1)) old count new total → Counts j old count new total
 unskipped (took added n) old new count total h = h
@@ -187,6 +196,7 @@ counted (took added k) old new n count total h = h
 counted past old new n count total h = tt
 counted (fault bad) old new n count total h = tt
 
+-- the nodes that are listed of the bytes behind a mask are those of the properties
 pub properties_listed : (deep : Bool) (end : ℕ) (bytes rest : List ℕ) (old new : List Node) (mask count total : ℕ)
     → judge_number bytes2 bytes ≡ took mask 2 → rest ≡ drop 2 bytes
     → Counts (listed_set mask deep end 0 properties rest) old count new total → Counts (listed_properties deep end bytes) old count new total

@@ -133,10 +133,12 @@ two_up mask zero some below = absurd (omega (arith, some, below))
 two_up mask (suc zero) some below = absurd (omega (arith, some, below))
 two_up mask (suc (suc bit)) some below = omega arith
 
+-- a highest bit above bits 1 and 0 has the shape of a property
 pub shape_there : (shapes : List (ℕ × Form)) (mask bit : ℕ) → map property_of shapes ≡ properties
     → 4 ≤ mask → mask < 2 * 2 ^ bit → bit < 16 → 15 - bit < length shapes
 shape_there shapes mask bit h some below few = omega (arith, shapes_few shapes h, two_up mask bit some below)
 
+-- the nodes of the property of the highest bit, and then of the other bits, are those of the mask
 pub top_listed : (mask bit others : ℕ) (deep : Bool) (end : ℕ) (shapes : List (ℕ × Form))
     (other : ℕ × Form) (i rest : List ℕ) (old mid new : List Node) (count total : ℕ) (step : Step)
     → map property_of shapes ≡ properties → 4 ≤ mask → 2 ^ bit ≤ mask → mask < 2 * 2 ^ bit → bit < 16 → others ≡ mask - 2 ^ bit
