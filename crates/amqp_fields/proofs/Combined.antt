@@ -95,7 +95,7 @@ both_made {E} {first} {second} one there two sum =
       are_put = both_put one.are_put there two.are_put sum;
     }
 
--- of which the first is there
+-- where the first part was put, what comes of both is what comes of the second
 pub made_after : {E : Type 0} {second : Result (List ℕ) E} {old mid new first : List ℕ} {at place n m total : ℕ} → ArePut old mid at first n
     → place ≡ cut_long (at + n) → Gives second mid new place m → total ≡ cut_long (n + m) → Gives (after (Ok first) second) old new at total
 made_after {E} {second} {old} {mid} {new} {first} one there two sum =

@@ -52,7 +52,7 @@ use Rattle.amqp_fields.proofs.ValuesTold.{array_encoded, span_fits, table_encode
 pub record Fits (Why : Refusal → Type 0) (made : Made) (P : List ℕ → Type 0) : Type 0 where
   pub suits : Suits Why made P
 
--- what is made
+-- bytes that were made fit what is said of them
 pub ok_fits : {Why : Refusal → Type 0} {P : List ℕ → Type 0} (bytes : List ℕ) → P bytes → Fits Why (Ok bytes) P
 ok_fits bytes p = record { suits = p }
 
@@ -62,7 +62,7 @@ after_suits Why (Ok x) (Ok y) P Q R both p q = both x y p q
 after_suits Why (Ok x) (Err bad) P Q R both p q = q
 after_suits Why (Err bad) b P Q R both p q = p
 
--- one after another
+-- two makings fit, one after another, where each of them does
 pub after_fits : {Why : Refusal → Type 0} (a b : Made) {P Q R : List ℕ → Type 0}
     → ((x y : List ℕ) → P x → Q y → R (x ++ y)) → Fits Why a P → Fits Why b Q → Fits Why (after a b) R
 after_fits {Why} a b {P} {Q} {R} both p q = record { suits = after_suits Why a b P Q R both p.suits q.suits }
@@ -85,7 +85,7 @@ pub fits_for : {Why Reason : Refusal → Type 0} {P : List ℕ → Type 0} (made
     → ((bad : Refusal) → Why bad → Reason bad) → Fits Why made P → Fits Reason made P
 fits_for {Why} {Reason} {P} made into p = record { suits = suits_for Why Reason made P into p.suits }
 
--- the same of what is equal
+-- a making fits where an equal one does
 pub as_fits : {Why : Refusal → Type 0} {P : List ℕ → Type 0} (made other : Made) → made ≡ other → Fits Why other P → Fits Why made P
 as_fits {Why} {P} made other is h = subst (λ m. Fits Why m P) (sym is) h
 
@@ -93,7 +93,7 @@ if_fits : {Why : Refusal → Type 0} {P : List ℕ → Type 0} (test : Bool) (no
     → test ≡ true → P bytes → Fits Why (made_if test node bytes) P
 if_fits {Why} {P} test node bytes is p = subst (λ t. Fits Why (made_if t node bytes) P) (sym is) (ok_fits bytes p)
 
--- where nothing lies inside
+-- a value with nothing inside it fits where its own bytes do
 pub alone_fits : {Why : Refusal → Type 0} {P : List ℕ → Type 0} (made : Made) (index : ℕ) (inside : List Node)
     → inside ≡ [] → Fits Why made P → Fits Why (made_alone made index inside) P
 alone_fits {Why} {P} made index inside none h = subst (λ ns. Fits Why (made_alone made index ns) P) (sym none) h
@@ -173,14 +173,14 @@ pub record IsOwnLong (level : Level) (pool : List ℕ) (end : ℕ) (node : Node)
 abbrev pub IsLongAt : Level → List ℕ → ℕ → Node → List Node → Refusal → Type 0
 IsLongAt level pool end node inside bad = IsOwnLong level pool end node inside bad ⊎ IsLongBy level pool end inside bad
 
--- a span of a node with nothing inside it
+-- a node with nothing inside it is refused where its span has 2^32 bytes or more
 pub own_long : (level : Level) (pool : List ℕ) (end : ℕ) (node : Node) (inside : List Node) (content : List ℕ) → IsSpan pool node.start node.length content
     → inside ≡ [] → 2 ^ 32 ≤ length content → IsLongAt level pool end node inside (refusal (own_index end inside) whys.TooLong)
 own_long level pool end node inside content span none long =
     let P : List Node → Type 0 = λ ns. HoldsBytes level pool node ns content in
     inl (record { bad_is = refl; content = content; holds = subst P (sym none) span; long = long })
 
--- the first of some nodes, or one inside it
+-- a refusal within the first of some nodes is one among all of them
 pub group_long : {level : Level} {pool : List ℕ} {nodes inside others : List Node} {node : Node} {end : ℕ} {bad : Refusal}
     → StandsFirst nodes node inside others → IsLongAt level pool (end - length others) node inside bad → IsLongBy level pool end nodes bad
 group_long {nodes = nodes} {inside = inside} {others = others} {node = node} {end = end} {bad = bad} first (inl own) = record {
@@ -220,7 +220,7 @@ group_long {nodes = nodes} {inside = inside} {others = others} {node = node} {en
   because_is = in_it.because_is;
 }
 
--- one of those behind some others
+-- a refusal among the nodes behind some others is one among all of them
 pub behind_long : {level : Level} {pool : List ℕ} {nodes rest : List Node} {end : ℕ} {index : Option ℕ} {because : WriteRefusal} (front : List Node)
     → nodes ≡ front ++ rest → IsLongIn level pool end rest index because → IsLongIn level pool end nodes index because
 behind_long front is h = record {

@@ -27,11 +27,11 @@ use Rattle.amqp_fields.proofs.FieldsMade.{worths_few}
 
 -- ---- fields of methods
 
--- there is one
+-- a list that is empty has no element
 pub some_none : {A : Type 0} (left : List Slot) → length left ≡ 0 → 0 < length left → A
 some_none left none some = absurd (omega (arith, none, some))
 
--- the first shape, and those after it
+-- where reserved fields have their constants, the first one has
 pub first_constant : (left others : List Slot) (shape : Slot) → left ≡ shape ∷ others → have_constants left ≡ true → has_constant shape ≡ true
 first_constant left others shape is h = by_both (has_constant shape) (have_constants others) (sym (ap have_constants is) ∙ h)
   where
@@ -377,7 +377,7 @@ module _ (pool : List ℕ) (end : ℕ) where
   pub set_begins : (nodes : List Node) (old : List ℕ) (at : ℕ) → SetLeft nodes 0 nodes old old at 0 0
   set_begins nodes old at = record { few = omega arith; onward = begins (made_set pool end 0 properties nodes) old at; mask_is = omega arith }
 
-  -- what a property adds to the mask
+  -- the mask with the bit of one property more fits two bytes
   pub mask_few : {place at made mask : ℕ} (p : Property) {all nodes inside others : List Node} {node : Node} {old new : List ℕ}
       → SetLeft all place nodes old new at made mask → StandsFirst nodes node inside others → IsProperty place node p → mask + 2 ^ p.bit < 2 ^ 16
   mask_few {place} {at} {made} {mask} p {all} {nodes} {inside} {others} {node} h first found =

@@ -414,7 +414,7 @@ head_lies m deep bytes at first size head nodes says =
     subst (LieIn start (start + length says.raw.payload)) (sym says.nodes_are) (payload_lie says.raw.kind deep start says.raw.payload) in
     subst (λ (h : Head). LieIn h.start (h.start + h.length) nodes) (sym says.head_is) own
 
--- those of entries and values in their content
+-- the nodes of entries lie in their content
 pub entries_lie : (content : List ℕ) → LieIn 0 (length content) (nodes_in (filled (listed_entry (listed_value inner_depth) (length content)) 0 content))
 entries_lie content =
     content_lie (listed_entry (listed_value inner_depth) (length content)) content

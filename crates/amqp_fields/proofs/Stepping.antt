@@ -75,7 +75,7 @@ too_deep_array depth_left end label t i old new count step none is =
     let Q : FieldTag → Type 0 = λ u. Lists (listed_behind (listed_nested depth_left) end label u i) old count new step in
     subst Q (sym is) (subst P (sym (nested_none depth_left none)) tt)
 
--- the same of a table
+-- a table where no more may be nested is a fault, and nothing is listed
 pub too_deep_table : (depth_left end : ℕ) (label : Node) (t : FieldTag) (i : List ℕ) (old new : List Node) (count : ℕ) (step : Step)
     → depth_left ≡ 0 → t ≡ tag.FieldTable → Lists (listed_behind (listed_nested depth_left) end label t i) old count new step
 unfolding listed_behind
@@ -94,7 +94,7 @@ array_behind depth_left end label t i old new count step some is h =
     let Q : FieldTag → Type 0 = λ u. Lists (listed_behind (listed_nested depth_left) end label u i) old count new step in
     subst Q (sym is) (subst P (sym (nested_more depth_left some)) h)
 
--- the same of a table
+-- a table where one more may be nested is listed as the value after its tag
 pub table_behind : (depth_left end : ℕ) (label : Node) (t : FieldTag) (i : List ℕ) (old new : List Node) (count : ℕ) (step : Step)
     → 0 < depth_left → t ≡ tag.FieldTable → Lists (listed_table (listed_value (depth_left - 1)) end label i) old count new step
     → Lists (listed_behind (listed_nested depth_left) end label t i) old count new step

@@ -66,7 +66,7 @@ pub record IsListed (Means : Node → List Node → Type 0) (label : Node) (list
 abbrev pub IsBounded : {A : Type 0} → Judge A → Type 0
 IsBounded {A} judge = (bytes : List ℕ) (x : A) (n : ℕ) → judge bytes ≡ took x n → n ≤ length bytes
 
--- what is mapped
+-- what a mapped judgement took is made of what the judgement took
 pub map_took : {A B : Type 0} (judge : Judge A) (make : A → B) (bytes : List ℕ) (y : B) (n : ℕ)
     → judge_map make judge bytes ≡ took y n → (x : A) × (judge bytes ≡ took x n) × (make x ≡ y)
 map_took judge make bytes y n h =

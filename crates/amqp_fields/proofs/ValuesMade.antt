@@ -18,7 +18,7 @@ use Rattle.amqp_fields.specs.Makes.{Closes, Gives, Makes, cut_long}
 use Rattle.amqp_fields.proofs.Combined.{both_made, closed_long, closed_put, rest_refused}
 use Rattle.amqp_fields.proofs.EachMade.{Onward, each_next, each_none, each_passing, ends, steps, stops}
 
--- the same by another name
+-- what equal results give is the same
 pub as_made : {E : Type 0} {made other : Result (List ℕ) E} {old new : List ℕ} {at count : ℕ}
     → made ≡ other → Gives other old new at count → Gives made old new at count
 as_made is h = record { bytes = h.bytes; is = is ∙ h.is; are_put = h.are_put }

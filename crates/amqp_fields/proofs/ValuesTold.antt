@@ -163,12 +163,6 @@ module _ (pool : List ℕ) (nested : Nested) (depth : ℕ) (Array : Node → Lis
           spelled = spelled;
         }
 
-    signed_tag : (kind : SignedKind) (n m : ℤ) → tag_of (signed_value kind n) ≡ tag_of (signed_value kind m)
-    signed_tag short_short_int n m = refl
-    signed_tag short_int n m = refl
-    signed_tag long_int n m = refl
-    signed_tag long_long_int n m = refl
-
     signed_kind : (kind : SignedKind) (t : FieldTag) (node : Node) (inside : List Node) (bytes : List ℕ) → ((n : ℤ) → tag_of (signed_value kind n) ≡ t)
         → inside ≡ [] → Told (λ z. IsSigned (signed_width kind) node.number z) (λ z. SpellsSigned (signed_width kind) bytes z) → Of t node inside bytes
     unfolding Tells
