@@ -1,0 +1,383 @@
+-- Frames that were read, one after another, are made, and are read again as the same nodes.
+use Rattle.std.proofs.Common.{◌≡◌, ◌≢◌, ℕ, suc, ◌+◌, ◌-◌, ◌≤◌, ◌<◌, ◌^◌, nat_le, Bool, true, List, [], ◌∷◌, ◌++◌, length, take, drop, Option, Some, None, Result}
+use Rattle.std.proofs.Common.{Ok, Err, refl, sym, ap, ap₂, subst, ◌∙◌, append_assoc, append-nil, arith, if◌then◌else◌}
+use Rattle.std.proofs.lemmas.Bool.Decides.{nat_tests}
+use Rattle.std.proofs.lemmas.List.{drop-drop, drop_at, length-append, length-drop, length-take-le, take_all, take_at}
+use Rattle.amqp_types.specs.Judging.{Judged, IsBytes, took}
+use Rattle.amqp_types.specs.Levels.{plain}
+use Rattle.amqp_types.specs.Constants.{protocol_byte, protocol_mark}
+use Rattle.amqp_types.proofs.Bytes.{IsBytes-drop}
+use Rattle.amqp_wire.specs.declared.frame_type.AMQPFrameType.{AMQPFrameType}
+use Rattle.amqp_wire.specs.declared.frame_type.AMQPFrameType.TheVariants as kinds
+use Rattle.amqp_wire.specs.Frames.{Frame, Proto, Meth, Head, Body, Beat, BadBeat, Raw, length_around, raw_as}
+use Rattle.amqp_wire.specs.Fronts.{front}
+use Rattle.amqp_wire.specs.Looks.{payload_place}
+use Rattle.amqp_wire.specs.Outer.{behind_type, judge_version, outer}
+use Rattle.amqp_wire.specs.Outlines.{outline_of}
+use Rattle.amqp_wire.specs.Spelling.{IsWithin, Spells, byte_of, bytes_as, proto}
+use Rattle.amqp_wire.specs.Verdicts.{judged, verdict, whole}
+use Rattle.amqp_wire.proofs.Cuts.{front-got}
+use Rattle.amqp_wire.proofs.Encoded.{judged_frame-is, outer-beside, verdict-spells}
+use Rattle.amqp_wire.proofs.OuterLook.{outer-exact, outer-in_bounds}
+use Rattle.amqp_wire.proofs.Sizes.{framed_length}
+use Rattle.amqp_wire.proofs.Spelled.{outer-beat, outer-body, outer-header, outer-method, verdict-spelled}
+use Rattle.amqp_fields.specs.declared.head.Head as given
+use Rattle.amqp_fields.specs.declared.node.Node.{Node}
+use Rattle.amqp_fields.specs.declared.refusals.Refusal.{Refusal}
+use Rattle.amqp_fields.specs.declared.refusals.WriteError.{WriteError}
+use Rattle.amqp_fields.specs.Heads.{SayFrames, SaysFrame, head_of, nodes_at}
+use Rattle.amqp_fields.specs.Listed.{payload_nodes}
+use Rattle.amqp_fields.specs.Made.{Made, after, misfit_head}
+use Rattle.amqp_fields.specs.MadeFrames.{at_head, is_held, made_frame, made_frames, made_typed, nodes_in}
+use Rattle.amqp_fields.specs.Meaning.{IsSpan}
+use Rattle.amqp_fields.specs.Meant.{TellFrames, TellsFrame, TellsTyped}
+use Rattle.amqp_fields.specs.SameNodes.{SameNodes}
+use Rattle.amqp_fields.proofs.FramesGiven.{verdict_whole}
+use Rattle.amqp_fields.proofs.HeadsTold.{heads_told}
+use Rattle.amqp_fields.proofs.MeantFramesMade.{frame_fits}
+use Rattle.amqp_fields.proofs.MeantValuesMade.{Fits}
+use Rattle.amqp_fields.proofs.Ordered.{plain_order}
+use Rattle.amqp_fields.proofs.SameNodes.{same_append}
+use Rattle.amqp_fields.proofs.Spans.{Stands}
+use Rattle.amqp_fields_laws.specs.RoundTrips.{IsReadAgain, ReadAgainHasSameNodes, ReadIsAccepted}
+use Rattle.amqp_fields_laws.proofs.Frames.{HeadOf, IsFrame, frame_round, span_stands}
+
+-- ---- the bytes of one frame
+
+-- a frame is as long as its payload and what stands around it
+around_fits : (kind : AMQPFrameType) (p n : ℕ) → 8 ≤ n → (kind ≢ kinds.ProtocolHeader → p + 8 ≤ n) → length_around kind p ≤ n
+around_fits kinds.ProtocolHeader p n least beside = least
+around_fits kinds.Method p n least beside = beside (λ e. absurd cc)
+around_fits kinds.Header p n least beside = beside (λ e. absurd cc)
+around_fits kinds.Body p n least beside = beside (λ e. absurd cc)
+around_fits kinds.Heartbeat p n least beside = beside (λ e. absurd cc)
+
+-- the length of what is encoded is written in four bytes
+spelled_few : (frame : Frame) (bytes : List ℕ) → Spells plain bytes frame → length bytes < 2 ^ 32 + 8
+spelled_few (Proto major minor revision) bytes s = omega (arith, ap length s)
+spelled_few (Meth channel m) bytes s = omega (arith, ap length s.is_framed.bytes_are, framed_length 1 channel s.payload, s.is_framed.length_fits)
+spelled_few (Head channel header) bytes s = omega (arith, ap length s.is_framed.bytes_are, framed_length 2 channel s.payload, s.is_framed.length_fits)
+spelled_few (Body channel content) bytes s = omega (arith, ap length s.bytes_are, framed_length 3 channel content, s.length_fits)
+spelled_few Beat bytes s = omega (arith, ap length s.is_framed.bytes_are, framed_length 8 0 s.payload, s.is_framed.length_fits)
+spelled_few (BadBeat channel) bytes s =
+    omega (arith, ap length s.1.is_framed.bytes_are, framed_length 8 channel s.1.payload, s.1.is_framed.length_fits)
+
+-- what begins as a protocol header has eight bytes
+spelled_eight : (frame : Frame) (rest : List ℕ) → Spells plain (65 ∷ rest) frame → length (65 ∷ rest) ≡ 8
+spelled_eight (Proto major minor revision) rest s = ap length s
+spelled_eight (Meth channel m) rest s = absurd (let e = s.is_framed.bytes_are in cc)
+spelled_eight (Head channel header) rest s = absurd (let e = s.is_framed.bytes_are in cc)
+spelled_eight (Body channel content) rest s = absurd (let e = s.bytes_are in cc)
+spelled_eight Beat rest s = absurd (let e = s.is_framed.bytes_are in cc)
+spelled_eight (BadBeat channel) rest s = absurd (let e = s.1.is_framed.bytes_are in cc)
+
+outer_version : (k : Option ℕ) (a b c : ℕ) → outer k (proto a b c) ≡ took (raw_as kinds.ProtocolHeader 0 (a ∷ b ∷ c ∷ [])) 8
+unfolding outer behind_type judge_version
+outer_version k a b c = refl
+
+-- the header scan finds the payload that was made
+outer_made : (k : ℕ) (kind : AMQPFrameType) (channel : ℕ) (payload : List ℕ) → channel < 2 ^ 16 → length payload < 2 ^ 32
+    → IsWithin (Some k) (bytes_as kind channel payload) → (kind ≡ kinds.ProtocolHeader → (channel ≡ 0) × (length payload ≡ 3))
+    → outer (Some k) (bytes_as kind channel payload) ≡ took (raw_as kind channel payload) (length (bytes_as kind channel payload))
+outer_made k kinds.ProtocolHeader channel (a ∷ b ∷ c ∷ []) on few within version =
+    outer_version (Some k) a b c ∙ ap (λ n. took (raw_as kinds.ProtocolHeader n (a ∷ b ∷ c ∷ [])) 8) (sym (version refl).0)
+outer_made k kinds.ProtocolHeader channel [] on few within version = absurd (omega (arith, (version refl).1))
+outer_made k kinds.ProtocolHeader channel (a ∷ []) on few within version = absurd (omega (arith, (version refl).1))
+outer_made k kinds.ProtocolHeader channel (a ∷ b ∷ []) on few within version = absurd (omega (arith, (version refl).1))
+outer_made k kinds.ProtocolHeader channel (a ∷ b ∷ c ∷ d ∷ more) on few within version = absurd (omega (arith, (version refl).1))
+outer_made k kinds.Method channel payload on few within version =
+    outer-method (Some k) (bytes_as kinds.Method channel payload) channel payload
+    (record { channel_fits = on; length_fits = few; bytes_are = refl }) within
+outer_made k kinds.Header channel payload on few within version =
+    outer-header (Some k) (bytes_as kinds.Header channel payload) channel payload
+    (record { channel_fits = on; length_fits = few; bytes_are = refl }) within
+outer_made k kinds.Body channel payload on few within version =
+    outer-body (Some k) (bytes_as kinds.Body channel payload) channel payload
+    (record { channel_fits = on; length_fits = few; bytes_are = refl }) within
+outer_made k kinds.Heartbeat channel payload on few within version =
+    outer-beat (Some k) (bytes_as kinds.Heartbeat channel payload) channel payload
+    (record { channel_fits = on; length_fits = few; bytes_are = refl }) within
+
+-- the payload stands at its place
+payload_at : (kind : AMQPFrameType) (channel : ℕ) (payload rest : List ℕ)
+    → take (length payload) (drop (payload_place kind) (bytes_as kind channel payload ++ rest)) ≡ payload
+payload_at kinds.ProtocolHeader channel payload rest = take_at payload rest (length payload) refl
+payload_at kinds.Method channel payload rest =
+    ap (take (length payload)) (append_assoc payload (206 ∷ []) rest) ∙ take_at payload (206 ∷ rest) (length payload) refl
+payload_at kinds.Header channel payload rest =
+    ap (take (length payload)) (append_assoc payload (206 ∷ []) rest) ∙ take_at payload (206 ∷ rest) (length payload) refl
+payload_at kinds.Body channel payload rest =
+    ap (take (length payload)) (append_assoc payload (206 ∷ []) rest) ∙ take_at payload (206 ∷ rest) (length payload) refl
+payload_at kinds.Heartbeat channel payload rest =
+    ap (take (length payload)) (append_assoc payload (206 ∷ []) rest) ∙ take_at payload (206 ∷ rest) (length payload) refl
+
+payload_within : (kind : AMQPFrameType) (channel : ℕ) (payload : List ℕ) → payload_place kind + length payload ≤ length (bytes_as kind channel payload)
+payload_within kinds.ProtocolHeader channel payload = omega arith
+payload_within kinds.Method channel payload = omega (arith, framed_length 1 channel payload)
+payload_within kinds.Header channel payload = omega (arith, framed_length 2 channel payload)
+payload_within kinds.Body channel payload = omega (arith, framed_length 3 channel payload)
+payload_within kinds.Heartbeat channel payload = omega (arith, framed_length 8 channel payload)
+
+-- a protocol header that is encoded has three numbers
+version_size : (kind : AMQPFrameType) (channel : ℕ) (payload : List ℕ) (frame : Frame) → Spells plain (bytes_as kind channel payload) frame
+    → kind ≡ kinds.ProtocolHeader → length payload ≡ 3
+version_size kinds.ProtocolHeader channel payload frame s is = omega (arith, spelled_eight frame (protocol_mark ++ payload) s)
+version_size kinds.Method channel payload frame s is = absurd cc
+version_size kinds.Header channel payload frame s is = absurd cc
+version_size kinds.Body channel payload frame s is = absurd cc
+version_size kinds.Heartbeat channel payload frame s is = absurd cc
+
+payload_few : (kind : AMQPFrameType) (channel : ℕ) (payload : List ℕ) → length (bytes_as kind channel payload) < 2 ^ 32 + 8
+    → (kind ≡ kinds.ProtocolHeader → length payload ≡ 3) → length payload < 2 ^ 32
+payload_few kinds.ProtocolHeader channel payload few three = omega (arith, three refl)
+payload_few kinds.Method channel payload few three = omega (arith, few, framed_length 1 channel payload)
+payload_few kinds.Header channel payload few three = omega (arith, few, framed_length 2 channel payload)
+payload_few kinds.Body channel payload few three = omega (arith, few, framed_length 3 channel payload)
+payload_few kinds.Heartbeat channel payload few three = omega (arith, few, framed_length 8 channel payload)
+
+-- a protocol header has no channel
+version_channel : (pool : List ℕ) (nodes : List Node) (head : given.Head) (frame : Frame)
+    → head.frame_type ≡ protocol_byte → TellsTyped pool nodes head frame → head.channel ≡ 0
+version_channel pool nodes head (Proto major minor revision) is told = told.1
+version_channel pool nodes head (Meth channel m) is told = absurd (omega (arith, is, told.0))
+version_channel pool nodes head (Head channel header) is told = absurd (omega (arith, is, told.0))
+version_channel pool nodes head (Body channel content) is told = absurd (omega (arith, is, told.0))
+version_channel pool nodes head Beat is told = absurd (omega (arith, is, told.0))
+version_channel pool nodes head (BadBeat channel) is told = absurd (omega (arith, is, told.0))
+
+-- where the header scan finds a frame, its payload is decoded as the verdict has it
+whole_is : (k : ℕ) (bytes : List ℕ) (raw : Raw) (n : ℕ) (frame : Frame) → outer (Some k) bytes ≡ took raw n
+    → verdict plain (Some k) bytes ≡ took frame n → whole raw ≡ Ok frame
+unfolding verdict
+whole_is k bytes raw n frame found is = (judged_frame-is true (whole raw) n frame n (sym (ap (judged plain) found) ∙ is)).1
+
+-- such bytes are made of what was made
+made_as : {Why : Refusal → Type 0} {P : List ℕ → Type 0} (made : Made) (bytes : List ℕ) → made ≡ Ok bytes → Fits Why made P → P bytes
+made_as {Why} {P} (Ok x) bytes is h = let same : x ≡ bytes = cc in subst P same h.suits
+made_as (Err bad) bytes is h = absurd cc
+
+-- ---- one frame
+
+module _ (m : ℕ) (deep : Bool) (pool : List ℕ) (fits : IsBytes pool) (nodes : List Node) where
+  told_first : (frames : List Frame) (head : given.Head) (frame : Frame) (rest others : List Frame) → TellFrames pool nodes (head ∷ []) frames
+      → frames ++ rest ≡ frame ∷ others → TellsFrame pool nodes head frame
+  told_first [] head frame rest others told is = absurd told
+  told_first (f ∷ frames) head frame rest others told is =
+      let same : f ≡ frame = cc in
+      subst (λ g. TellsFrame pool nodes head g) same told.0
+
+  -- a head and its nodes mean the frame that they say
+  told_frame : (at first size : ℕ) (head : given.Head) (before own more : List Node) → nodes ≡ before ++ (own ++ more)
+      → length before ≡ first → (says : SaysFrame m deep pool at first head own size) → TellsFrame pool nodes head says.frame
+  told_frame at first size head before own more parts there says =
+      let one : SayFrames m deep pool at first (head ∷ []) own (at + size) =
+      record { own = own; others = []; size = size; nodes_are = sym (append-nil own); says = says; rest = (refl, refl) } in
+      let told = heads_told m deep pool fits nodes at first (at + size) (head ∷ []) before own more parts there one in
+      let goes = front-got plain (Some m) (drop at pool) says.frame size (verdict_whole m (drop at pool) says.raw size says.frame says.found says.is) in
+      told_first told.frames head says.frame (front plain (Some m) (drop (at + size) pool)) (front plain (Some m) (drop size (drop at pool)))
+      told.told (sym told.sequence ∙ goes.sequence)
+
+  -- bytes that were made are read as a frame, behind other bytes and in front of others, with the same nodes
+  pub record IsAgain (k : ℕ) (own : List Node) (made before rest : List ℕ) (place : ℕ) : Type 0 where
+    pub twin : given.Head
+    pub others : List Node
+    pub says : SaysFrame k deep (before ++ (made ++ rest)) (length before) place twin others (length made)
+    pub same : SameNodes pool (before ++ (made ++ rest)) own others
+
+  -- A head makes a frame at each limit from that of reading on, of no more bytes than were read, and it is read again.
+  pub record IsRead (head : given.Head) (own : List Node) (size : ℕ) : Type 0 where
+    pub made : List ℕ
+    pub made_is : (k : ℕ) → m ≤ k → made_frame pool nodes k head ≡ Ok made
+    pub made_size : length made ≤ size
+    pub again : (k : ℕ) → m ≤ k → (before rest : List ℕ) (place : ℕ) → IsAgain k own made before rest place
+
+  -- a frame that was made is read again, wherever it stands
+  frame_again : (k : ℕ) (kind : AMQPFrameType) (channel : ℕ) (payload : List ℕ) (frame : Frame) (own : List Node) → channel < 2 ^ 16
+      → Spells plain (bytes_as kind channel payload) frame → IsWithin (Some k) (bytes_as kind channel payload) → length (bytes_as kind channel payload) < 2 ^ 32 + 8
+      → (kind ≡ kinds.ProtocolHeader → channel ≡ 0)
+      → ((other : List ℕ) (end : ℕ) → Stands other end payload → SameNodes pool other own (payload_nodes kind deep end payload))
+      → (before rest : List ℕ) (place : ℕ) → IsAgain k own (bytes_as kind channel payload) before rest place
+  frame_again k kind channel payload frame own on spelled within few free again before rest place =
+      let made = bytes_as kind channel payload in
+      let whole_bytes = before ++ (made ++ rest) in
+      let at = length before in
+      let raw = raw_as kind channel payload in
+      let start = at + payload_place kind in
+      let three : kind ≡ kinds.ProtocolHeader → length payload ≡ 3 = version_size kind channel payload frame spelled in
+      let found = outer_made k kind channel payload on (payload_few kind channel payload few three) within (λ version. (free version, three version)) in
+      let behind : drop at whole_bytes ≡ made ++ rest = drop_at before (made ++ rest) at refl in
+      let front_is : outer (Some k) (made ++ rest) ≡ took raw (length made) =
+      ap (λ bs. outer (Some k) (bs ++ rest)) (sym (take_all (length made) made (omega arith))) ∙ outer-exact (Some k) made rest raw (length made) found in
+      let span : IsSpan whole_bytes start (length payload) payload = record {
+        within = omega (arith, length-append before (made ++ rest), length-append made rest, payload_within kind channel payload);
+        bytes_are =
+            ap (take (length payload)) (sym (drop-drop (payload_place kind) at whole_bytes))
+            ∙ ap (λ bs. take (length payload) (drop (payload_place kind) bs)) behind ∙ payload_at kind channel payload rest;
+      } in
+      let others = nodes_at raw deep start in
+      record {
+        twin = head_of raw (outline_of frame) start place (length others);
+        others = others;
+        says = record {
+          raw = raw;
+          frame = frame;
+          found = ap (outer (Some k)) behind ∙ front_is;
+          is = whole_is k made raw (length made) frame found (verdict-spelled plain (Some k) made frame spelled within);
+          payload_is = span;
+          head_is = refl;
+          nodes_are = refl;
+        };
+        same = again whole_bytes (start + length payload) (span_stands whole_bytes payload start span);
+      }
+
+  read_frame : (at first size : ℕ) (head : given.Head) (before own more : List Node) → nodes ≡ before ++ (own ++ more)
+      → length before ≡ first → (says : SaysFrame m deep pool at first head own size) → IsRead head own size
+  unfolding made_frame
+  read_frame at first size head before own more parts there says =
+      let raw = says.raw in
+      let frame = says.frame in
+      let kind = raw.kind in
+      let channel = raw.channel in
+      let payload = raw.payload in
+      let left = drop at pool in
+      let start = at + payload_place kind in
+      let bounds = outer-in_bounds (Some m) left raw size says.found in
+      let limit : size ≤ m + 8 = bounds.limit m refl in
+      let around : length_around kind (length payload) ≤ size =
+      around_fits kind (length payload) size bounds.least (λ other. outer-beside (Some m) left raw size says.found other) in
+      let spelled = verdict-spells plain (Some m) left frame size (IsBytes-drop at pool fits) (verdict_whole m left raw size frame says.found says.is) in
+      let few : size < 2 ^ 32 + 8 =
+      omega (arith, spelled_few frame (take size left) spelled.0, length-take-le size left bounds.within) in
+      let own_head = HeadOf pool fits deep nodes start first channel own kind payload frame in
+      let told = told_frame at first size head before own more parts there says in
+      let told_own : TellsFrame pool nodes own_head frame = subst (λ h. TellsFrame pool nodes h frame) says.head_is told in
+      let span : IsSpan pool start (length payload) payload = subst (λ (h : given.Head). IsSpan pool h.start h.length payload) says.head_is says.payload_is in
+      let within : first + length own ≤ length nodes =
+      omega (arith, ap length parts, length-append before (own ++ more), length-append own more, there) in
+      let le : nat_le (first + length own) (length nodes) ≡ true = grind (arith, nat_tests, within) in
+      let behind : drop first nodes ≡ own ++ more = ap (drop first) parts ∙ drop_at before (own ++ more) first there in
+      let own_nodes : nodes_in nodes own_head ≡ Some own =
+      ap (λ test. if test then Some (take (length own) (drop first nodes)) else None) le
+      ∙ ap Some (ap (take (length own)) behind ∙ take_at own more (length own) refl) in
+      let free : kind ≡ kinds.ProtocolHeader → channel ≡ 0 = λ version. version_channel pool nodes own_head frame (ap byte_of version) told_own.1 in
+      let round = frame_round pool fits deep nodes start first channel own kind payload frame free span says.is says.nodes_are own_nodes in
+      let made = bytes_as kind channel round.made in
+      let own_made : (k : ℕ) → size ≤ k + 8 → made_frame pool nodes k own_head ≡ Ok made =
+      λ k enough. ap (λ test. if test then made_typed pool nodes k own_head else misfit_head) told_own.0 ∙ round.typed_is k (omega (arith, around, enough)) in
+      let enough : size ≤ size - 8 + 8 = omega (arith, bounds.least) in
+      let encoded =
+      made_as (made_frame pool nodes (size - 8) own_head) made (own_made (size - 8) enough)
+      (frame_fits plain pool fits nodes (size - 8) own_head frame plain_order (omega (arith, few)) told_own) in
+      let on : channel < 2 ^ 16 = let held = told_own.0 in grind (arith, nat_tests, held) in
+      let made_size : length made ≤ size = omega (arith, round.whole_size, around) in
+      let own_read : IsRead own_head own size = record {
+        made = made;
+        made_is = λ k le. own_made k (omega (arith, limit, le));
+        made_size = made_size;
+        again = λ k le front rest place.
+            frame_again k kind channel round.made frame own on encoded.0 (omega (arith, made_size, limit, le)) (omega (arith, made_size, few)) free round.again
+            front rest place;
+      } in
+      subst (λ h. IsRead h own size) (sym says.head_is) own_read
+
+  -- ---- frames one after another
+
+  -- heads and nodes that were read again
+  pub record AreAgain (k : ℕ) (count : ℕ) (own : List Node) (made before : List ℕ) (place : ℕ) : Type 0 where
+    pub heads : List given.Head
+    pub others : List Node
+    pub says : SayFrames k deep (before ++ made) (length before) place heads others (length before + length made)
+    pub count_is : length heads ≡ count
+    pub same : SameNodes pool (before ++ made) own others
+
+  -- heads make frames that are read again
+  pub record AreRead (heads : List given.Head) (own : List Node) (at used : ℕ) : Type 0 where
+    pub made : List ℕ
+    pub made_is : (k index : ℕ) → m ≤ k → made_frames pool nodes k index heads ≡ Ok made
+    pub made_size : at + length made ≤ used
+    pub again : (k : ℕ) → m ≤ k → (before : List ℕ) (place : ℕ) → AreAgain k (length heads) own made before place
+
+  both_parts : (front made others : List ℕ) → front ++ (made ++ others) ≡ (front ++ made) ++ others
+  both_parts front made others = sym (append_assoc front made others)
+
+  one_more : (head : given.Head) (heads : List given.Head) (own others : List Node) (at size used : ℕ) → IsRead head own size
+      → AreRead heads others (at + size) used → AreRead (head ∷ heads) (own ++ others) at used
+  unfolding made_frames
+  one_more head heads own others at size used one rest =
+      let made = one.made ++ rest.made in
+      let sizes = length-append one.made rest.made in
+      record {
+        made = made;
+        made_is = λ k index le. ap₂ (λ a b. after (at_head index a) b) (one.made_is k le) (rest.made_is k (index + 1) le);
+        made_size = omega (arith, sizes, one.made_size, rest.made_size);
+        again = λ k le before place.
+            let first = one.again k le before rest.made place in
+            let next = rest.again k le (before ++ one.made) (place + length first.others) in
+            let parts : (before ++ one.made) ++ rest.made ≡ before ++ made = append_assoc before one.made rest.made in
+            let there : length (before ++ one.made) ≡ length before + length one.made = length-append before one.made in
+            let end : length (before ++ one.made) + length rest.made ≡ length before + length made = omega (arith, there, sizes) in
+            let P : List ℕ → Type 0 = λ bs.
+            SayFrames k deep bs (length before + length one.made) (place + length first.others) next.heads next.others (length before + length made) in
+            let Q : ℕ → Type 0 = λ a.
+            SayFrames k deep ((before ++ one.made) ++ rest.made) a (place + length first.others) next.heads next.others (length before + length made) in
+            let R : ℕ → Type 0 = λ e.
+            SayFrames k deep ((before ++ one.made) ++ rest.made) (length (before ++ one.made)) (place + length first.others) next.heads next.others e in
+            record {
+              heads = first.twin ∷ next.heads;
+              others = first.others ++ next.others;
+              says = record {
+                own = first.others;
+                others = next.others;
+                size = length one.made;
+                nodes_are = refl;
+                says = first.says;
+                rest = subst P parts (subst Q there (subst R end next.says));
+              };
+              count_is = ap suc next.count_is;
+              same =
+                  same_append pool (before ++ made) own first.others others next.others first.same
+                  (subst (λ bs. SameNodes pool bs others next.others) parts next.same);
+            };
+      }
+
+  heads_read : (at first used : ℕ) (heads : List given.Head) (before own more : List Node) → nodes ≡ before ++ (own ++ more)
+      → length before ≡ first → SayFrames m deep pool at first heads own used → AreRead heads own at used
+  unfolding made_frames
+  heads_read at first used [] before own more parts there says =
+      let none : AreRead [] [] at used = record {
+        made = [];
+        made_is = λ k index le. refl;
+        made_size = omega (arith, says.1);
+        again = λ k le front place. record { heads = []; others = []; says = (refl, omega arith); count_is = refl; same = tt };
+      } in
+      subst (λ ns. AreRead [] ns at used) (sym says.0) none
+  heads_read at first used (head ∷ heads) before own more parts there says =
+      let each : nodes ≡ before ++ (says.own ++ (says.others ++ more)) =
+      parts ∙ ap (λ ns. before ++ (ns ++ more)) says.nodes_are ∙ ap (λ ns. before ++ ns) (append_assoc says.own says.others more) in
+      let one = read_frame at first says.size head before says.own (says.others ++ more) each there says.says in
+      let rest =
+      heads_read (at + says.size) (first + length says.own) used heads (before ++ says.own) says.others more
+      (each ∙ sym (append_assoc before says.own (says.others ++ more))) (length-append before says.own ∙ ap (λ n. n + length says.own) there) says.rest in
+      subst (λ ns. AreRead (head ∷ heads) ns at used) (sym says.nodes_are) (one_more head heads says.own says.others at says.size used one rest)
+
+-- ---- the laws
+
+-- what was read is accepted
+pub accepted : ReadIsAccepted
+accepted m k deep bytes heads nodes others used fits le says =
+    let read = heads_read m deep bytes fits (nodes ++ others) 0 0 used heads [] nodes others refl refl says in
+    record { made = read.made; is = read.made_is k 0 le; few = omega (arith, read.made_size) }
+
+same_made : (a b : List ℕ) (r : Result (List ℕ) WriteError) → r ≡ Ok a → r ≡ Ok b → a ≡ b
+same_made a b r one two = let same : ◌≡◌ {A = Result (List ℕ) WriteError} (Ok a) (Ok b) = sym one ∙ two in cc
+
+-- and is read again as the same nodes
+pub read_again : ReadAgainHasSameNodes
+read_again m k deep bytes heads nodes others used made fits le says is =
+    let read = heads_read m deep bytes fits (nodes ++ others) 0 0 used heads [] nodes others refl refl says in
+    let same = same_made read.made made (made_frames bytes (nodes ++ others) k 0 heads) (read.made_is k 0 le) is in
+    let again = read.again k le [] 0 in
+    let all : SayFrames k deep read.made 0 0 again.heads again.others (length read.made) =
+    subst (λ e. SayFrames k deep read.made 0 0 again.heads again.others e) {x = 0 + length read.made} {y = length read.made} (omega arith) again.says in
+    subst (λ bs. IsReadAgain k deep bytes bs (length heads) nodes) same
+    (record { again = again.heads; more = again.others; says = all; count_is = again.count_is; same = again.same })

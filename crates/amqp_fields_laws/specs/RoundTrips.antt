@@ -1,0 +1,44 @@
+-- What was read is accepted by writing, and what was written is read again as the same nodes.
+use Rattle.std.specs.Prelude.{◌≡◌, ◌≤◌, ◌++◌, ℕ, Bool, List, length, Ok}
+use Rattle.amqp_types.specs.Judging.{IsBytes}
+use Rattle.amqp_fields.specs.declared.head.Head.{Head}
+use Rattle.amqp_fields.specs.declared.node.Node.{Node}
+use Rattle.amqp_fields.specs.Heads.{SayFrames}
+use Rattle.amqp_fields.specs.MadeFrames.{made_frames}
+use Rattle.amqp_fields.specs.SameNodes.{SameNodes}
+
+-- Heads and nodes are written at a limit, to no more than so many bytes.
+pub record IsAccepted (k : ℕ) (pool : List ℕ) (nodes : List Node)
+    (heads : List Head) (used : ℕ) : Type 0 where
+  pub made : List ℕ
+  pub is : made_frames pool nodes k 0 heads ≡ Ok made
+  pub few : length made ≤ used
+
+-- Heads and nodes that were read are written, at any limit from that of reading on, to no more
+-- bytes than were read. These are the pool, and other nodes may stand behind in the list.
+abbrev pub ReadIsAccepted : Type 0
+ReadIsAccepted =
+    (m k : ℕ) (deep : Bool) (bytes : List ℕ) (heads : List Head)
+    (nodes others : List Node) (used : ℕ)
+    → IsBytes bytes → m ≤ k → SayFrames m deep bytes 0 0 heads nodes used
+    → IsAccepted k bytes (nodes ++ others) heads used
+
+-- What was made is read whole, as so many heads and as nodes that say the same as those from which
+-- it was made.
+pub record IsReadAgain (k : ℕ) (deep : Bool) (bytes made : List ℕ)
+    (count : ℕ) (nodes : List Node) : Type 0 where
+  pub again : List Head
+  pub more : List Node
+  pub says : SayFrames k deep made 0 0 again more (length made)
+  pub count_is : length again ≡ count
+  pub same : SameNodes bytes made nodes more
+
+-- Heads and nodes that were read are written, and read again as many heads and as the same nodes
+-- but for their places: no order is asked of the keys of tables.
+abbrev pub ReadAgainHasSameNodes : Type 0
+ReadAgainHasSameNodes =
+    (m k : ℕ) (deep : Bool) (bytes : List ℕ) (heads : List Head)
+    (nodes others : List Node) (used : ℕ) (made : List ℕ)
+    → IsBytes bytes → m ≤ k → SayFrames m deep bytes 0 0 heads nodes used
+    → made_frames bytes (nodes ++ others) k 0 heads ≡ Ok made
+    → IsReadAgain k deep bytes made (length heads) nodes
