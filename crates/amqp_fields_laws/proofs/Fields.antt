@@ -1,5 +1,5 @@
 -- Fields that were read are made, those that are reserved as their constants, and are read again as the same nodes.
-use Rattle.std.proofs.Common.{◌≡◌, ℕ, zero, suc, ◌+◌, ◌-◌, ◌<◌, ◌≤◌, ◌^◌, ◌==◌, ◌&&◌, nat_lt, nat_le, Bool, true, false, List, [], ◌∷◌, ◌++◌, length, map, take}
+use Rattle.std.proofs.Common.{◌≡◌, ℕ, zero, suc, ◌+◌, ◌-◌, ◌<◌, ◌≤◌, ◌^◌, ◌==◌, ◌&&◌, nat_lt, nat_le, Bool, true, false, not, List, [], ◌∷◌, ◌++◌, length, map, take}
 use Rattle.std.proofs.Common.{drop, Ok, inl, refl, sym, ap, ap₂, subst, ◌∙◌, append_assoc, append-nil, arith, if◌then◌else◌}
 use Rattle.std.proofs.lemmas.Bool.Decides.{nat_tests}
 use Rattle.std.proofs.lemmas.List.{drop_at, length-append, length-drop, length-take-le, take_at}
@@ -28,7 +28,6 @@ use Rattle.amqp_fields.specs.Listed.{kept_count, listed_bits, listed_entry, list
 use Rattle.amqp_fields.specs.Made.{after, made_entry, made_given, made_items, made_long, made_span, made_value, misfit, own_index}
 use Rattle.amqp_fields.specs.MadeFields.{flag_before, flags_in, flags_made, group_size, is_field, is_flag, made_field, made_flags, made_form, made_kept}
 use Rattle.amqp_fields.specs.MadeFields.{made_none, made_plain, made_slot, made_slots, node_count}
-use Rattle.amqp_fields.specs.SameNodes.{SameNodes}
 use Rattle.amqp_fields.proofs.FieldsFound.{flags_length, spare}
 use Rattle.amqp_fields.proofs.MeantFieldsMade.{IsOne}
 use Rattle.amqp_fields.proofs.SameNodes.{same_append}
@@ -36,7 +35,7 @@ use Rattle.amqp_fields.proofs.Spans.{Stands, number_took, stands_drop}
 use Rattle.amqp_fields.proofs.ValuesFound.{IsFresh, Keeps, map_took}
 use Rattle.amqp_fields_laws.proofs.Items.{items_round}
 use Rattle.amqp_fields_laws.proofs.Leaves.{long_round, number_round, same_number, short_round, span_made}
-use Rattle.amqp_fields_laws.proofs.Twins.{IsRound, IsTwin, alike_itself, both_again, stands_fit}
+use Rattle.amqp_fields_laws.proofs.Twins.{AreSame, IsRound, IsTwin, alike_itself, both_again, both_same, none_same, one_same, stands_fit}
 use Rattle.amqp_fields_laws.proofs.Values.{entry_round, table_content, value_round}
 
 -- a field that is not read yet is fresh
@@ -68,12 +67,12 @@ module _ (pool : List ℕ) (fits : IsBytes pool) where
   -- a field of a form that was read is made, and is read again
   abbrev pub IsField : Bool → ℕ → Form → Judged (List Node) → ℕ → ℕ → Type 0
   IsField deep place form listed size used =
-      IsRound pool (Keeps (placed place form)) (made_form pool form) (placed place form) listed (λ e twin bs. listed_form deep e place form bs) size used
+      IsRound (not deep) pool (Keeps (placed place form)) (made_form pool form) (placed place form) listed (λ e twin bs. listed_form deep e place form bs) size used
 
   -- what is listed again behind the node of a field
   fixed : (deep : Bool) (place : ℕ) (form : Form) {size used : ℕ} {listed : Judged (List Node)} {relisted : ℕ → Node → Judge (List Node)}
       → ((e : ℕ) (bs : List ℕ) → relisted e (placed place form) bs ≡ listed_form deep e place form bs)
-      → IsRound pool (Keeps (placed place form)) (made_form pool form) (placed place form) listed relisted size used
+      → IsRound (not deep) pool (Keeps (placed place form)) (made_form pool form) (placed place form) listed relisted size used
       → IsField deep place form listed size used
   fixed deep place form {size} {used} {listed} {relisted} same round = record {
     node = round.node;
@@ -154,12 +153,14 @@ bits_passed : (place : ℕ) (flags : List Bool) (more : List Node) → drop (len
 bits_passed place [] more = refl
 bits_passed place (flag ∷ flags) more = bits_passed (next_place place 1) flags more
 
-same_bits : (pool other : List ℕ) (place : ℕ) (flags : List Bool) → SameNodes pool other (listed_bits place flags) (listed_bits place flags)
-same_bits pool other place [] = tt
+same_bits : {alone : Bool} (pool other : List ℕ) (place : ℕ) (flags : List Bool) → AreSame alone pool other (listed_bits place flags) (listed_bits place flags)
+same_bits pool other place [] = none_same pool other
 same_bits pool other place (flag ∷ flags) =
     let label = placed place (flags_form 1) in
-    let alike = alike_itself pool other label (fresh_field place (flags_form 1)) refl in
-    (same_number pool other label label (bit_of flag) alike, same_bits pool other (next_place place 1) flags)
+    let node = numbered label (bit_of flag) in
+    let others = listed_bits (next_place place 1) flags in
+    let is = same_number pool other label label (bit_of flag) (alike_itself pool other label (fresh_field place (flags_form 1)) refl) in
+    both_same pool other (node ∷ []) (node ∷ []) others others (one_same pool other node node is.0 is.1) (same_bits pool other (next_place place 1) flags)
 
 -- ---- fields that are kept, and reserved ones
 
@@ -175,7 +176,7 @@ module _ (pool : List ℕ) (fits : IsBytes pool) (deep : Bool) where
     pub made_size : length made ≤ used
     pub bound : used ≤ size
     pub again : (other rest : List ℕ) (end : ℕ) → Stands other end (made ++ rest)
-        → IsTwin pool other nodes (listed_slot deep end place slot (made ++ rest)) (length made)
+        → IsTwin (not deep) pool other nodes (listed_slot deep end place slot (made ++ rest)) (length made)
 
   one_round : (form : Form) → IsOne form → ((end place : ℕ) (nodes : List Node) → made_kept pool end place form nodes ≡ made_field pool end place form nodes)
       → ((nodes : List Node) → node_count (kept_slot form) nodes ≡ group_size nodes)
@@ -250,7 +251,7 @@ module _ (pool : List ℕ) (fits : IsBytes pool) (deep : Bool) where
         passed = λ more. refl;
         made_size = omega (arith, shortest, length-take-le n bytes read.1);
         bound = read.1;
-        again = λ other rest e st. record { nodes = []; is = ap (λ j. j >>= λ x. took [] x.1) (law.exact.taken made rest constant spelled); same = tt };
+        again = λ other rest e st. record { nodes = []; is = ap (λ j. j >>= λ x. took [] x.1) (law.exact.taken made rest constant spelled); same = none_same pool other };
       }
 
   -- a field, where flags are at most eight and the constant of a reserved one is least
@@ -284,7 +285,7 @@ module _ (pool : List ℕ) (fits : IsBytes pool) (deep : Bool) where
     pub made_size : length made ≤ used
     pub bound : used ≤ size
     pub again : (other rest : List ℕ) (end : ℕ) → Stands other end (made ++ rest)
-        → IsTwin pool other nodes (listed_slots deep end place slots (made ++ rest)) (length made)
+        → IsTwin (not deep) pool other nodes (listed_slots deep end place slots (made ++ rest)) (length made)
 
   slot_then : (slot : Slot) (slots : List Slot) (end place a b : ℕ) (bytes : List ℕ) → IsSlot place slot (listed_slot deep end place slot bytes) (length bytes) a
       → AreSlots (next_place place (kept_count slot)) slots
@@ -308,7 +309,7 @@ module _ (pool : List ℕ) (fits : IsBytes pool) (deep : Bool) where
         made_size = omega (arith, size, one.made_size, others.made_size);
         bound = omega (arith, one.bound, others.bound, length-drop a bytes);
         again = λ other rest e st.
-            both_again pool other (listed_slot deep e place slot) (listed_slots deep e next slots) one.nodes others.nodes one.made others.made rest e
+            both_again (not deep) pool other (listed_slot deep e place slot) (listed_slots deep e next slots) one.nodes others.nodes one.made others.made rest e
             (λ tail here. one.again other tail e here) (λ here. others.again other rest e here) st;
       }
 
@@ -333,7 +334,7 @@ module _ (pool : List ℕ) (fits : IsBytes pool) (deep : Bool) where
         made_is = λ e. refl;
         made_size = omega arith;
         bound = omega (arith, used);
-        again = λ other rest e st. record { nodes = []; is = refl; same = tt };
+        again = λ other rest e st. record { nodes = []; is = refl; same = none_same pool other };
       }
   slots_round (slot ∷ slots) few least end place bytes items n stands h =
       let one = bind_took (judge_slot slot bytes) _ items n h in

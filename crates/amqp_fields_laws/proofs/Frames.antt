@@ -1,5 +1,5 @@
 -- A head and its nodes that were read are made to a frame.
-use Rattle.std.proofs.Common.{◌≡◌, ℕ, ◌+◌, ◌-◌, ◌≤◌, ◌<◌, ◌==◌, ◌&&◌, nat_lt, nat_le, Bool, true, false, cond, List, [], ◌∷◌, ◌++◌, length, take, drop, Option, Some}
+use Rattle.std.proofs.Common.{◌≡◌, ℕ, ◌+◌, ◌-◌, ◌≤◌, ◌<◌, ◌==◌, ◌&&◌, nat_lt, nat_le, Bool, true, false, not, cond, List, [], ◌∷◌, ◌++◌, length, take, drop, Option, Some}
 use Rattle.std.proofs.Common.{None, Ok, refl, sym, ap, subst, ◌∙◌, arith, if◌then◌else◌}
 use Rattle.std.proofs.lemmas.Bool.Decides.{nat_tests}
 use Rattle.amqp_types.specs.Judging.{IsBytes, took}
@@ -24,10 +24,10 @@ use Rattle.amqp_fields.specs.Made.{after, misfit_head, refuse_head}
 use Rattle.amqp_fields.specs.MadeFields.{made_properties, made_slots}
 use Rattle.amqp_fields.specs.MadeFrames.{has_no_ids, header_front, made_around, made_beat, made_body, made_bytes, made_payload, made_typed, nodes_in}
 use Rattle.amqp_fields.specs.Meaning.{IsSpan}
-use Rattle.amqp_fields.specs.SameNodes.{SameNodes}
 use Rattle.amqp_fields.proofs.Answering.{filled_took}
 use Rattle.amqp_fields.proofs.FramesMade.{frame_parts, header_parts, method_parts, version_parts}
 use Rattle.amqp_fields.proofs.Spans.{Stands}
+use Rattle.amqp_fields_laws.proofs.Twins.{AreSame, none_same}
 use Rattle.amqp_fields_laws.proofs.Payloads.{header_round, method_round, version_round}
 
 -- a span stands where it ends
@@ -57,7 +57,7 @@ module _ (pool : List ℕ) (fits : IsBytes pool) (deep : Bool) (nodes : List Nod
     pub typed_is : (k : ℕ) → length_around kind (length payload) ≤ k + 8 → made_typed pool nodes k head ≡ Ok (bytes_as kind channel made)
     pub made_size : length made ≤ length payload
     pub whole_size : length (bytes_as kind channel made) ≤ length_around kind (length payload)
-    pub again : (other : List ℕ) (end : ℕ) → Stands other end made → SameNodes pool other own (payload_nodes kind deep end made)
+    pub again : (other : List ℕ) (end : ℕ) → Stands other end made → AreSame (not deep) pool other own (payload_nodes kind deep end made)
 
   -- its own nodes are those of the payload
   abbrev OwnNodes : AMQPFrameType → List ℕ → Type 0
@@ -84,7 +84,7 @@ module _ (pool : List ℕ) (fits : IsBytes pool) (deep : Bool) (nodes : List Nod
             ∙ around_made k head round.made (omega (arith, round.made_size, within));
         made_size = round.made_size;
         whole_size = omega (arith, framed_length 1 channel round.made, round.made_size);
-        again = λ other e st. subst (λ ns. SameNodes pool other ns (payload_nodes kinds.Method deep e round.made)) (sym same) (round.again other e st);
+        again = λ other e st. subst (λ ns. AreSame (not deep) pool other ns (payload_nodes kinds.Method deep e round.made)) (sym same) (round.again other e st);
       }
 
   header_frame : (payload : List ℕ) (n : ℕ) (header : ContentHeader) → IsSpan pool start (length payload) payload → judge_content_header payload ≡ took header n
@@ -106,7 +106,7 @@ module _ (pool : List ℕ) (fits : IsBytes pool) (deep : Bool) (nodes : List Nod
             ∙ around_made k head round.made (omega (arith, round.made_size, within));
         made_size = round.made_size;
         whole_size = omega (arith, framed_length 2 channel round.made, round.made_size);
-        again = λ other e st. subst (λ ns. SameNodes pool other ns (payload_nodes kinds.Header deep e round.made)) (sym same) (round.again other e st);
+        again = λ other e st. subst (λ ns. AreSame (not deep) pool other ns (payload_nodes kinds.Header deep e round.made)) (sym same) (round.again other e st);
       }
 
   version_frame : (a b c : ℕ) → channel ≡ 0 → IsSpan pool start 3 (a ∷ b ∷ c ∷ []) → OwnNodes kinds.ProtocolHeader (a ∷ b ∷ c ∷ [])
@@ -127,11 +127,11 @@ module _ (pool : List ℕ) (fits : IsBytes pool) (deep : Bool) (nodes : List Nod
             ∙ ap (after (Ok (protocol_byte ∷ protocol_mark))) (round.made_is end);
         made_size = round.made_size;
         whole_size = omega (arith, round.made_size);
-        again = λ other e st. subst (λ ns. SameNodes pool other ns (payload_nodes kinds.ProtocolHeader deep e round.made)) (sym same) (round.again other e st);
+        again = λ other e st. subst (λ ns. AreSame (not deep) pool other ns (payload_nodes kinds.ProtocolHeader deep e round.made)) (sym same) (round.again other e st);
       }
 
-  no_nodes : (other : List ℕ) → own ≡ [] → SameNodes pool other own []
-  no_nodes other none = subst (λ ns. SameNodes pool other ns []) (sym none) tt
+  no_nodes : (other : List ℕ) → own ≡ [] → AreSame (not deep) pool other own []
+  no_nodes other none = subst (λ ns. AreSame (not deep) pool other ns []) (sym none) (none_same pool other)
 
   body_frame : (payload : List ℕ) → IsSpan pool start (length payload) payload → OwnNodes kinds.Body payload
       → IsFrame kinds.Body payload (HeadOf kinds.Body payload (Body channel payload))

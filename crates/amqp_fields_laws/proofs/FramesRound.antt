@@ -1,5 +1,5 @@
 -- Frames that were read, one after another, are made, and are read again as the same nodes.
-use Rattle.std.proofs.Common.{◌≡◌, ◌≢◌, ℕ, suc, ◌+◌, ◌-◌, ◌≤◌, ◌<◌, ◌^◌, nat_le, Bool, true, List, [], ◌∷◌, ◌++◌, length, take, drop, Option, Some, None, Result}
+use Rattle.std.proofs.Common.{◌≡◌, ◌≢◌, ℕ, suc, ◌+◌, ◌-◌, ◌≤◌, ◌<◌, ◌^◌, nat_le, Bool, true, not, List, [], ◌∷◌, ◌++◌, length, take, drop, Option, Some, None, Result}
 use Rattle.std.proofs.Common.{Ok, Err, refl, sym, ap, ap₂, subst, ◌∙◌, append_assoc, append-nil, arith, if◌then◌else◌}
 use Rattle.std.proofs.lemmas.Bool.Decides.{nat_tests}
 use Rattle.std.proofs.lemmas.List.{drop-drop, drop_at, length-append, length-drop, length-take-le, take_all, take_at}
@@ -31,16 +31,15 @@ use Rattle.amqp_fields.specs.Made.{Made, after, misfit_head}
 use Rattle.amqp_fields.specs.MadeFrames.{at_head, is_held, made_frame, made_frames, made_typed, nodes_in}
 use Rattle.amqp_fields.specs.Meaning.{IsSpan}
 use Rattle.amqp_fields.specs.Meant.{TellFrames, TellsFrame, TellsTyped}
-use Rattle.amqp_fields.specs.SameNodes.{SameNodes}
 use Rattle.amqp_fields.proofs.FramesGiven.{verdict_whole}
 use Rattle.amqp_fields.proofs.HeadsTold.{heads_told}
 use Rattle.amqp_fields.proofs.MeantFramesMade.{frame_fits}
 use Rattle.amqp_fields.proofs.MeantValuesMade.{Fits}
 use Rattle.amqp_fields.proofs.Ordered.{plain_order}
-use Rattle.amqp_fields.proofs.SameNodes.{same_append}
 use Rattle.amqp_fields.proofs.Spans.{Stands}
 use Rattle.amqp_fields_laws.specs.RoundTrips.{IsReadAgain, ReadAgainHasSameNodes, ReadIsAccepted}
 use Rattle.amqp_fields_laws.proofs.Frames.{HeadOf, IsFrame, frame_round, span_stands}
+use Rattle.amqp_fields_laws.proofs.Twins.{AreSame, both_same, none_same}
 
 -- ---- the bytes of one frame
 
@@ -182,7 +181,7 @@ module _ (m : ℕ) (deep : Bool) (pool : List ℕ) (fits : IsBytes pool) (nodes 
     pub twin : given.Head
     pub others : List Node
     pub says : SaysFrame k deep (before ++ (made ++ rest)) (length before) place twin others (length made)
-    pub same : SameNodes pool (before ++ (made ++ rest)) own others
+    pub same : AreSame (not deep) pool (before ++ (made ++ rest)) own others
 
   -- A head makes a frame at each limit from that of reading on, of no more bytes than were read, and it is read again.
   pub record IsRead (head : given.Head) (own : List Node) (size : ℕ) : Type 0 where
@@ -195,7 +194,7 @@ module _ (m : ℕ) (deep : Bool) (pool : List ℕ) (fits : IsBytes pool) (nodes 
   frame_again : (k : ℕ) (kind : AMQPFrameType) (channel : ℕ) (payload : List ℕ) (frame : Frame) (own : List Node) → channel < 2 ^ 16
       → Spells plain (bytes_as kind channel payload) frame → IsWithin (Some k) (bytes_as kind channel payload) → length (bytes_as kind channel payload) < 2 ^ 32 + 8
       → (kind ≡ kinds.ProtocolHeader → channel ≡ 0)
-      → ((other : List ℕ) (end : ℕ) → Stands other end payload → SameNodes pool other own (payload_nodes kind deep end payload))
+      → ((other : List ℕ) (end : ℕ) → Stands other end payload → AreSame (not deep) pool other own (payload_nodes kind deep end payload))
       → (before rest : List ℕ) (place : ℕ) → IsAgain k own (bytes_as kind channel payload) before rest place
   frame_again k kind channel payload frame own on spelled within few free again before rest place =
       let made = bytes_as kind channel payload in
@@ -288,7 +287,7 @@ module _ (m : ℕ) (deep : Bool) (pool : List ℕ) (fits : IsBytes pool) (nodes 
     pub others : List Node
     pub says : SayFrames k deep (before ++ made) (length before) place heads others (length before + length made)
     pub count_is : length heads ≡ count
-    pub same : SameNodes pool (before ++ made) own others
+    pub same : AreSame (not deep) pool (before ++ made) own others
 
   -- heads make frames that are read again
   pub record AreRead (heads : List given.Head) (own : List Node) (at used : ℕ) : Type 0 where
@@ -335,8 +334,8 @@ module _ (m : ℕ) (deep : Bool) (pool : List ℕ) (fits : IsBytes pool) (nodes 
               };
               count_is = ap suc next.count_is;
               same =
-                  same_append pool (before ++ made) own first.others others next.others first.same
-                  (subst (λ bs. SameNodes pool bs others next.others) parts next.same);
+                  both_same pool (before ++ made) own first.others others next.others first.same
+                  (subst (λ bs. AreSame (not deep) pool bs others next.others) parts next.same);
             };
       }
 
@@ -348,7 +347,7 @@ module _ (m : ℕ) (deep : Bool) (pool : List ℕ) (fits : IsBytes pool) (nodes 
         made = [];
         made_is = λ k index le. refl;
         made_size = omega (arith, says.1);
-        again = λ k le front place. record { heads = []; others = []; says = (refl, omega arith); count_is = refl; same = tt };
+        again = λ k le front place. record { heads = []; others = []; says = (refl, omega arith); count_is = refl; same = none_same pool (front ++ []) };
       } in
       subst (λ ns. AreRead [] ns at used) (sym says.0) none
   heads_read at first used (head ∷ heads) before own more parts there says =
@@ -380,4 +379,4 @@ read_again m k deep bytes heads nodes others used made fits le says is =
     let all : SayFrames k deep read.made 0 0 again.heads again.others (length read.made) =
     subst (λ e. SayFrames k deep read.made 0 0 again.heads again.others e) {x = 0 + length read.made} {y = length read.made} (omega arith) again.says in
     subst (λ bs. IsReadAgain k deep bytes bs (length heads) nodes) same
-    (record { again = again.heads; more = again.others; says = all; count_is = again.count_is; same = again.same })
+    (record { again = again.heads; more = again.others; says = all; count_is = again.count_is; same = again.same.same; spans = λ alone. again.same.spans (ap not alone) })

@@ -1,5 +1,5 @@
 -- What fills a table or an array was read, is made one after another, and is read again.
-use Rattle.std.proofs.Common.{◌≡◌, ℕ, zero, suc, ◌+◌, ◌-◌, ◌<◌, ◌≤◌, ◌^◌, List, [], ◌∷◌, ◌++◌, length, drop, Result, Ok, Err, refl, sym, ap, ap₂, subst, ◌∙◌}
+use Rattle.std.proofs.Common.{◌≡◌, ℕ, zero, suc, ◌+◌, ◌-◌, ◌<◌, ◌≤◌, ◌^◌, false, List, [], ◌∷◌, ◌++◌, length, drop, Result, Ok, Err, refl, sym, ap, ap₂, subst, ◌∙◌}
 use Rattle.std.proofs.Common.{arith}
 use Rattle.std.proofs.lemmas.List.{drop_at, length-append, nil_from_length}
 use Rattle.amqp_types.specs.Judging.{Judged, Judge, Fault, IsBytes, took, past, fault, ◌>>=◌}
@@ -82,7 +82,7 @@ module _ {A : Type 0} (judge : Judge A) (list : ℕ → Judge (List Node)) (make
                     ∙ ap (λ bs. read_map (λ gs. one_twin.nodes ∷ gs) (filled (list e) 0 bs)) past_one
                     ∙ ap (read_map (λ gs. one_twin.nodes ∷ gs)) twins.is;
                 number = ap suc twins.number;
-                same = same_append pool other group one_twin.nodes (joined others.groups) (joined twins.more) one_twin.same twins.same;
+                same = same_append pool other group one_twin.nodes (joined others.groups) (joined twins.more) one_twin.same.same twins.same;
               };
         }
 
@@ -136,7 +136,7 @@ module _ {A : Type 0} (pool : List ℕ) (fits : IsBytes pool) (judge : Judge A) 
     -- a table or an array, whose content some things fill
     pub items_round : (bytes : List ℕ) (end n : ℕ) (label : Node) (content : List ℕ) (xs : List A) → IsFresh label → HasInside label.kind
         → Stands pool end bytes → judge_long_string bytes ≡ took content n → filled judge 0 content ≡ Ok xs
-        → IsRound pool (Keeps label) (made_items judge make pool) label (listed_items list end label bytes)
+        → IsRound false pool (Keeps label) (made_items judge make pool) label (listed_items list end label bytes)
         (λ e twin bs. listed_items list e twin bs) (length bytes) n
     unfolding listed_items
     items_round bytes end n label content xs fresh has_inside stands h fills =
@@ -185,8 +185,9 @@ module _ {A : Type 0} (pool : List ℕ) (fits : IsBytes pool) (judge : Judge A) 
                     (read_map (holding (spanned twin (end_before e (drop c.1 whole)) c.0)) (filled (list (end_before e (drop c.1 whole))) 0 c.0)))
                     read
                     ∙ ap (λ r. took_all (length made) (read_map (holding (spanned twin within items.made)) r)) twins.is;
-                same = (record {
-                  kind_is = alike.kind;
+                same = record {
+                  same = (record {
+                    kind_is = alike.kind;
                   place_is = alike.place;
                   number_is = alike.left.number ∙ sym alike.right.number;
                   scale_is = alike.left.scale ∙ sym alike.right.scale;
@@ -195,5 +196,7 @@ module _ {A : Type 0} (pool : List ℕ) (fits : IsBytes pool) (judge : Judge A) 
                   key_is = alike.key;
                   span_is = λ no. absurd (no has_inside);
                 }, twins.same);
+                  spans = λ alone. absurd cc;
+                };
               };
         }

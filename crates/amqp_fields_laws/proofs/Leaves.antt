@@ -28,7 +28,7 @@ use Rattle.amqp_fields.specs.Made.{Made, Maker, after, faulty, is_signed, made_i
 use Rattle.amqp_fields.specs.Made.{own_index, refuse, span_in}
 use Rattle.amqp_fields.specs.Meaning.{IsSpan}
 use Rattle.amqp_fields.specs.Nodes.{numbered, spanned}
-use Rattle.amqp_fields.specs.SameNodes.{IsSameNode}
+use Rattle.amqp_fields.specs.SameNodes.{IsSameNode, IsSameSpan}
 use Rattle.amqp_fields.proofs.AtLevel.{truth_at}
 use Rattle.amqp_fields.proofs.SignedNumbers.{signed_bits}
 use Rattle.amqp_fields.proofs.Spans.{Stands, long_part, short_part}
@@ -89,8 +89,9 @@ span_made make index pool content start count span =
 -- ---- one node each
 
 -- two nodes that are alike, with one number
-pub same_number : (pool other : List ℕ) (a b : Node) (n : ℕ) → AreAlike pool other a b → IsSameNode pool other (numbered a n) (numbered b n)
-same_number pool other a b n alike = record {
+pub same_number : (pool other : List ℕ) (a b : Node) (n : ℕ) → AreAlike pool other a b
+    → IsSameNode pool other (numbered a n) (numbered b n) × IsSameSpan pool a.start a.length other b.start b.length
+same_number pool other a b n alike = (record {
   kind_is = alike.kind;
   place_is = alike.place;
   number_is = refl;
@@ -99,10 +100,11 @@ same_number pool other a b n alike = record {
   items_are = alike.left.items ∙ sym alike.right.items;
   key_is = alike.key;
   span_is = λ no. no_bytes pool other a b alike;
-}
+}, no_bytes pool other a b alike)
 
-same_scaled : (pool other : List ℕ) (a b : Node) (d : ℕ × ℕ) → AreAlike pool other a b → IsSameNode pool other (scaled a d) (scaled b d)
-same_scaled pool other a b d alike = record {
+same_scaled : (pool other : List ℕ) (a b : Node) (d : ℕ × ℕ) → AreAlike pool other a b
+    → IsSameNode pool other (scaled a d) (scaled b d) × IsSameSpan pool a.start a.length other b.start b.length
+same_scaled pool other a b d alike = (record {
   kind_is = alike.kind;
   place_is = alike.place;
   number_is = refl;
@@ -111,7 +113,7 @@ same_scaled pool other a b d alike = record {
   items_are = alike.left.items ∙ sym alike.right.items;
   key_is = alike.key;
   span_is = λ no. no_bytes pool other a b alike;
-}
+}, no_bytes pool other a b alike)
 
 -- nothing is changed but numbers
 keeps_numbered : (a : Node) (n : ℕ) → Keeps a (numbered a n)
@@ -120,11 +122,11 @@ keeps_numbered a n = record { key_start = refl; key_length = refl; place = refl;
 taken_size : (bytes made : List ℕ) (n : ℕ) → take n bytes ≡ made → n ≤ length bytes → length made ≤ n
 taken_size bytes made n is le = omega (arith, ap length is, length-take-le n bytes le)
 
-module _ (pool bytes : List ℕ) (fits : IsBytes bytes) (make : Maker) (label : Node) (fresh : IsFresh label) (n : ℕ) where
+module _ {alone : Bool} (pool bytes : List ℕ) (fits : IsBytes bytes) (make : Maker) (label : Node) (fresh : IsFresh label) (n : ℕ) where
   -- an unsigned number
   pub number_round : (width : NumberWidth) (x : ℕ) → judge_number width bytes ≡ took x n
       → ((end : ℕ) → make end (numbered label x) [] ≡ made_number width (own_index end []) x)
-      → IsRound pool (Keeps label) make label (listed_number width label bytes) (λ end twin bs. listed_number width twin bs) (length bytes) n
+      → IsRound alone pool (Keeps label) make label (listed_number width label bytes) (λ end twin bs. listed_number width twin bs) (length bytes) n
   number_round width x h makes =
       let read = (number_exact width).spelled bytes x n fits h in
       leaf_round (judge_number width) (SpellsNumber width) (number_exact width) numbered keeps_numbered (λ a k. refl) same_number
@@ -135,7 +137,7 @@ module _ (pool bytes : List ℕ) (fits : IsBytes bytes) (make : Maker) (label : 
   signed_by : (width : NumberWidth) (x : ℤ) → judge_signed width bytes ≡ took x n
       → ((end bits : ℕ) → bits < number_limit width → x ≡ cast_signed (width_of width) bits
       → make end (numbered label (cast_unsigned w64 x)) [] ≡ Ok (number_bytes width bits))
-      → IsRound pool (Keeps label) make label (listed_signed width label bytes) (λ end twin bs. listed_signed width twin bs) (length bytes) n
+      → IsRound alone pool (Keeps label) make label (listed_signed width label bytes) (λ end twin bs. listed_signed width twin bs) (length bytes) n
   signed_by width x h makes =
       let read = (signed_exact width).spelled bytes x n fits h in
       let bits = read.0.bits in
@@ -149,19 +151,19 @@ module _ (pool bytes : List ℕ) (fits : IsBytes bytes) (make : Maker) (label : 
   -- a signed number that is shorter than 8 bytes
   pub signed_round : (width : NumberWidth) (x : ℤ) → judge_signed width bytes ≡ took x n
       → ((end : ℕ) → make end (numbered label (cast_unsigned w64 x)) [] ≡ made_signed width (own_index end []) (cast_unsigned w64 x))
-      → IsRound pool (Keeps label) make label (listed_signed width label bytes) (λ end twin bs. listed_signed width twin bs) (length bytes) n
+      → IsRound alone pool (Keeps label) make label (listed_signed width label bytes) (λ end twin bs. listed_signed width twin bs) (length bytes) n
   signed_round width x h makes = signed_by width x h (λ end bits few means. makes end ∙ signed_made width (own_index end []) x bits few means)
 
   -- a signed number of 8 bytes
   pub eight_round : (x : ℤ) → judge_signed bytes8 bytes ≡ took x n
       → ((end : ℕ) → make end (numbered label (cast_unsigned w64 x)) [] ≡ made_number bytes8 (own_index end []) (cast_unsigned w64 x))
-      → IsRound pool (Keeps label) make label (listed_signed bytes8 label bytes) (λ end twin bs. listed_signed bytes8 twin bs) (length bytes) n
+      → IsRound alone pool (Keeps label) make label (listed_signed bytes8 label bytes) (λ end twin bs. listed_signed bytes8 twin bs) (length bytes) n
   eight_round x h makes = signed_by bytes8 x h (λ end bits few means. makes end ∙ eight_made (own_index end []) x bits few means)
 
   -- a truth value, of which one byte of 0 or 1 is made
   pub truth_round : (b : Bool) → judge_boolean bytes ≡ took b n
       → ((end : ℕ) → make end (numbered label (bit_of b)) [] ≡ made_truth (own_index end []) (bit_of b))
-      → IsRound pool (Keeps label) make label (listed_boolean label bytes) (λ end twin bs. listed_boolean twin bs) (length bytes) n
+      → IsRound alone pool (Keeps label) make label (listed_boolean label bytes) (λ end twin bs. listed_boolean twin bs) (length bytes) n
   truth_round b h makes =
       let read = boolean_laws.exact.spelled bytes b n fits h in
       let some : 1 ≤ n = one_byte bytes h in
@@ -177,7 +179,7 @@ module _ (pool bytes : List ℕ) (fits : IsBytes bytes) (make : Maker) (label : 
   -- a decimal
   pub decimal_round : (d : ℕ × ℕ) → judge_decimal bytes ≡ took d n
       → ((end : ℕ) → make end (scaled label d) [] ≡ after (made_number bytes1 (own_index end []) d.0) (made_number bytes4 (own_index end []) d.1))
-      → IsRound pool (Keeps label) make label (listed_decimal label bytes) (λ end twin bs. listed_decimal twin bs) (length bytes) n
+      → IsRound alone pool (Keeps label) make label (listed_decimal label bytes) (λ end twin bs. listed_decimal twin bs) (length bytes) n
   decimal_round d h makes =
       let read = decimal_exact.spelled bytes d n fits h in
       let s = read.0 in
@@ -205,13 +207,13 @@ module _ (pool bytes : List ℕ) (fits : IsBytes bytes) (make : Maker) (label : 
 
 -- ---- strings
 
-module _ (pool bytes : List ℕ) (fits : IsBytes bytes) (end : ℕ) (stands : Stands pool end bytes) (make : Maker) (label : Node)
+module _ {alone : Bool} (pool bytes : List ℕ) (fits : IsBytes bytes) (end : ℕ) (stands : Stands pool end bytes) (make : Maker) (label : Node)
     (fresh : IsFresh label) (content : List ℕ) (n : ℕ) where
   -- a string or content behind a length of 4 bytes
   pub long_round : judge_long_string bytes ≡ took content n
       → ((at e : ℕ) → length content < 2 ^ 32 → IsSpan pool (at - length content) (length content) content
       → make e (spanned label at content) [] ≡ made_long (own_index e []) content)
-      → IsRound pool (Keeps label) make label (listed_span judge_long_string end label bytes)
+      → IsRound alone pool (Keeps label) make label (listed_span judge_long_string end label bytes)
       (λ e twin bs. listed_span judge_long_string e twin bs) (length bytes) n
   long_round h makes =
       let read = long_string_exact.spelled bytes content n fits h in
@@ -224,7 +226,7 @@ module _ (pool bytes : List ℕ) (fits : IsBytes bytes) (end : ℕ) (stands : St
   pub short_round : judge_short_string bytes ≡ took content n
       → ((at e : ℕ) → make e (spanned label at content) []
       ≡ made_span (made_text (own_index e [])) (own_index e []) (span_in pool (at - length content) (length content)))
-      → IsRound pool (Keeps label) make label (listed_span judge_short_string end label bytes)
+      → IsRound alone pool (Keeps label) make label (listed_span judge_short_string end label bytes)
       (λ e twin bs. listed_span judge_short_string e twin bs) (length bytes) n
   short_round h makes =
       let read = short_string_exact.spelled bytes content n fits h in

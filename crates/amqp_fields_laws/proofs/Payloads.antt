@@ -1,7 +1,7 @@
 -- The payloads of frames that were read are made, and are read again as the same nodes.
 use Rattle.std.proofs.Common.{◌≡◌, ℕ, ◌+◌, ◌≤◌, ◌<◌, ◌^◌, List, [], ◌∷◌, ◌++◌, length, drop, Some, Ok, refl, sym, ap, subst, ◌∙◌, append_assoc, append-nil, arith}
 use Rattle.std.proofs.lemmas.List.{drop_at, length-append, length-drop}
-use Rattle.std.specs.Prelude.{Bool}
+use Rattle.std.specs.Prelude.{Bool, not}
 use Rattle.amqp_types.specs.Judging.{Judged, IsBytes, took, ◌>>=◌, unknown_class, unknown_method}
 use Rattle.amqp_types.specs.Numbers.{bytes2, judge_number, number_bytes}
 use Rattle.amqp_types.specs.Slots.{number_item, Slot}
@@ -19,11 +19,11 @@ use Rattle.amqp_fields.specs.declared.node.Node.{Node}
 use Rattle.amqp_fields.specs.Listed.{listed_header, listed_known, listed_method, listed_payload, listed_properties, listed_slots, nodes_of, payload_nodes, version_slots}
 use Rattle.amqp_fields.specs.Made.{Made, after}
 use Rattle.amqp_fields.specs.MadeFields.{made_properties, made_slots}
-use Rattle.amqp_fields.specs.SameNodes.{SameNodes}
 use Rattle.amqp_fields.proofs.PayloadsFound.{few_spare, front_used, known_took}
 use Rattle.amqp_fields.proofs.Spans.{Stands, number_took, stands_drop}
 use Rattle.amqp_fields_laws.proofs.Fields.{AreSlots, slots_round}
 use Rattle.amqp_fields_laws.proofs.Properties.{properties_round}
+use Rattle.amqp_fields_laws.proofs.Twins.{AreSame}
 
 module _ (pool : List ℕ) (fits : IsBytes pool) (deep : Bool) where
   -- The nodes of a payload make one that is no longer, whose nodes wherever it stands say the same.
@@ -34,7 +34,7 @@ module _ (pool : List ℕ) (fits : IsBytes pool) (deep : Bool) where
     pub made : List ℕ
     pub made_is : (end : ℕ) → make end nodes ≡ Ok made
     pub made_size : length made ≤ size
-    pub again : (other : List ℕ) (end : ℕ) → Stands other end made → SameNodes pool other nodes (payload_nodes kind deep end made)
+    pub again : (other : List ℕ) (end : ℕ) → Stands other end made → AreSame (not deep) pool other nodes (payload_nodes kind deep end made)
 
   -- no bytes after them
   alone : (other made : List ℕ) (end : ℕ) → Stands other end made → Stands other end (made ++ [])
@@ -66,7 +66,7 @@ module _ (pool : List ℕ) (fits : IsBytes pool) (deep : Bool) where
   fields_again : (class id : ℕ) (slots : List Slot) → slots_at class id ≡ Some slots → class < 2 ^ 16 → id < 2 ^ 16
       → {listed : Judged (List Node)} {size used : ℕ} → (made : AreSlots pool fits deep 0 slots listed size used)
       → (other : List ℕ) (end : ℕ) → Stands other end ((number_bytes bytes2 class ++ number_bytes bytes2 id) ++ made.made)
-      → SameNodes pool other made.nodes (payload_nodes kinds.Method deep end ((number_bytes bytes2 class ++ number_bytes bytes2 id) ++ made.made))
+      → AreSame (not deep) pool other made.nodes (payload_nodes kinds.Method deep end ((number_bytes bytes2 class ++ number_bytes bytes2 id) ++ made.made))
   unfolding listed_payload
   fields_again class id slots is class_fits id_fits made other end st =
       let a = number_bytes bytes2 class in
@@ -80,7 +80,7 @@ module _ (pool : List ℕ) (fits : IsBytes pool) (deep : Bool) where
       let read : listed_method deep end bytes ≡ took again.nodes (length made.made) =
       ap (listed_method deep end) (append_assoc a b made.made) ∙ fields_listed class id slots is class_fits id_fits end made.made
       ∙ ap (listed_slots deep end 0 slots) (sym (append-nil made.made)) ∙ again.is in
-      subst (SameNodes pool other made.nodes) (sym (ap nodes_of read)) again.same
+      subst (AreSame (not deep) pool other made.nodes) (sym (ap nodes_of read)) again.same
 
   -- a method of the table
   pub record IsKnown (m : Method) (listed : Judged (List Node)) (size : ℕ) : Type 0 where
@@ -178,7 +178,7 @@ module _ (pool : List ℕ) (fits : IsBytes pool) (deep : Bool) where
             let again = props.again other [] e (alone other props.made e st_behind) in
             let read : listed_header deep e made ≡ took again.nodes (length props.made) =
             ap (listed_properties deep e) (past_front ∙ sym (append-nil props.made)) ∙ again.is in
-            subst (SameNodes pool other props.nodes) (sym (ap nodes_of read)) again.same;
+            subst (AreSame (not deep) pool other props.nodes) (sym (ap nodes_of read)) again.same;
       }
 
   -- ---- protocol headers
@@ -206,5 +206,5 @@ module _ (pool : List ℕ) (fits : IsBytes pool) (deep : Bool) where
             let again = made.again other [] e (alone other made.made e st) in
             let read : listed_slots deep e 0 version_slots made.made ≡ took again.nodes (length made.made) =
             ap (listed_slots deep e 0 version_slots) (sym (append-nil made.made)) ∙ again.is in
-            subst (SameNodes pool other made.nodes) (sym (ap nodes_of read)) again.same;
+            subst (AreSame (not deep) pool other made.nodes) (sym (ap nodes_of read)) again.same;
       }

@@ -1,5 +1,5 @@
 -- Properties that were read are made, with the mask of those that are set, and are read again as the same nodes.
-use Rattle.std.proofs.Common.{◌≡◌, ℕ, ◌+◌, ◌-◌, ◌<◌, ◌≤◌, ◌==◌, Bool, true, false, List, [], ◌∷◌, ◌++◌, length, map, drop, None, Some, Ok, refl, sym, ap, ap₂, subst}
+use Rattle.std.proofs.Common.{◌≡◌, ℕ, ◌+◌, ◌-◌, ◌<◌, ◌≤◌, ◌==◌, Bool, true, false, not, List, [], ◌∷◌, ◌++◌, length, map, drop, None, Some, Ok, refl, sym, ap, ap₂, subst}
 use Rattle.std.proofs.Common.{◌∙◌, append_assoc, arith, if◌then◌else◌}
 use Rattle.std.specs.Prelude.{is_some, Option}
 use Rattle.std.proofs.lemmas.Bool.Decides.{nat_tests}
@@ -26,7 +26,7 @@ use Rattle.amqp_fields.proofs.PayloadsFound.{fourteen}
 use Rattle.amqp_fields.proofs.Spans.{Stands, byte_below, number_took, stands_drop}
 use Rattle.amqp_fields.proofs.ValuesFound.{map_took}
 use Rattle.amqp_fields_laws.proofs.Fields.{IsField, field_made, form_round, fresh_field, group_passed}
-use Rattle.amqp_fields_laws.proofs.Twins.{IsTwin, alike_itself, both_again}
+use Rattle.amqp_fields_laws.proofs.Twins.{IsTwin, alike_itself, both_again, none_same}
 
 module _ (pool : List ℕ) (fits : IsBytes pool) (deep : Bool) where
   -- ---- those that are set in a mask
@@ -42,7 +42,7 @@ module _ (pool : List ℕ) (fits : IsBytes pool) (deep : Bool) where
     pub made_size : length made ≤ used
     pub bound : used ≤ size
     pub again : (other rest : List ℕ) (end twin : ℕ) → set_flags twin ps ≡ set_flags mask ps → Stands other end (made ++ rest)
-        → IsTwin pool other nodes (listed_set twin deep end place ps (made ++ rest)) (length made)
+        → IsTwin (not deep) pool other nodes (listed_set twin deep end place ps (made ++ rest)) (length made)
 
   module _ (mask place : ℕ) (p : Property) (ps : List Property) (end : ℕ) (bytes : List ℕ) (room : place + 1 < 256) where
     next : ℕ
@@ -138,9 +138,9 @@ module _ (pool : List ℕ) (fits : IsBytes pool) (deep : Bool) where
               let same = flags_same twin flags in
               subst
               (λ t.
-              IsTwin pool other nodes (judge_both (listed_option t deep e place p.form) (listed_set twin deep e next ps) (λ x y. x ++ y) (made ++ tail)) (length made))
+              IsTwin (not deep) pool other nodes (judge_both (listed_option t deep e place p.form) (listed_set twin deep e next ps) (λ x y. x ++ y) (made ++ tail)) (length made))
               (sym (same.0 ∙ on))
-              (both_again pool other (listed_form deep e place p.form) (listed_set twin deep e next ps) (node ∷ field.inside) rest.nodes
+              (both_again (not deep) pool other (listed_form deep e place p.form) (listed_set twin deep e next ps) (node ∷ field.inside) rest.nodes
               field.made rest.made tail e (λ more here. field.again other more e (placed place p.form) (alike_itself pool other (placed place p.form) (fresh_field place p.form) refl) here)
               (λ here. rest.again other tail e twin same.1 here) st);
         }
@@ -177,7 +177,7 @@ module _ (pool : List ℕ) (fits : IsBytes pool) (deep : Bool) where
         made_is = λ e. refl;
         made_size = omega arith;
         bound = omega (arith, used);
-        again = λ other rest e twin flags st. record { nodes = []; is = refl; same = tt };
+        again = λ other rest e twin flags st. record { nodes = []; is = refl; same = none_same pool other };
       }
   set_round mask (p ∷ ps) one end place bytes options n room stands h =
       let set = flag_at mask p.bit in
@@ -200,7 +200,7 @@ module _ (pool : List ℕ) (fits : IsBytes pool) (deep : Bool) where
     pub made_size : length made ≤ used
     pub bound : used ≤ size
     pub again : (other rest : List ℕ) (end : ℕ) → Stands other end (made ++ rest)
-        → IsTwin pool other nodes (listed_properties deep end (made ++ rest)) (length made)
+        → IsTwin (not deep) pool other nodes (listed_properties deep end (made ++ rest)) (length made)
 
   -- the properties of a content header that was read
   pub properties_round : (end : ℕ) (bytes : List ℕ) (options : List (Option Item)) (n : ℕ) → Stands pool end bytes → judge_properties bytes ≡ took options n

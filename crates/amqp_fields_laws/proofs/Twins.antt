@@ -1,5 +1,5 @@
 -- Nodes that were read, what they make, and the nodes that are read of it again.
-use Rattle.std.proofs.Common.{◌≡◌, ℕ, suc, ◌+◌, ◌-◌, ◌≤◌, List, [], ◌∷◌, ◌++◌, length, take, drop, Ok, refl, sym, ap, subst, ◌∙◌, append_assoc}
+use Rattle.std.proofs.Common.{◌≡◌, ℕ, suc, ◌+◌, Bool, true, false, ◌-◌, ◌≤◌, List, [], ◌∷◌, ◌++◌, length, take, drop, Ok, refl, sym, ap, subst, ◌∙◌, append_assoc}
 use Rattle.std.proofs.Common.{arith}
 use Rattle.std.proofs.lemmas.List.{drop_at, length-append}
 use Rattle.amqp_types.specs.Judging.{Judged, Judge, IsBytes, IsExact, took, ◌>>=◌}
@@ -14,6 +14,7 @@ use Rattle.amqp_fields.proofs.SameNodes.{same_append}
 use Rattle.amqp_fields.proofs.Spans.{IsPart, Stands, part_stands, span_of, stands_drop}
 use Rattle.amqp_fields.proofs.ValuesFound.{IsFresh, Keeps}
 use Rattle.amqp_fields.proofs.ValuesTold.{span_fits}
+use Rattle.amqp_fields_laws.specs.RoundTrips.{SameSpans}
 
 -- bytes that stand in a pool of bytes are bytes
 pub stands_fit : (pool : List ℕ) → IsBytes pool → (end : ℕ) (bytes : List ℕ) → Stands pool end bytes → IsBytes bytes
@@ -39,15 +40,20 @@ alike_itself pool other label fresh none = record {
   right = fresh;
 }
 
+-- nodes that say the same, and where they stand alone also those of tables have spans of the same bytes
+pub record AreSame (alone : Bool) (pool other : List ℕ) (nodes more : List Node) : Type 0 where
+  pub same : SameNodes pool other nodes more
+  pub spans : alone ≡ true → SameSpans pool other nodes more
+
 -- what was listed again says the same as a group of nodes
-pub record IsTwin (pool other : List ℕ) (group : List Node) (listed : Judged (List Node)) (used : ℕ) : Type 0 where
+pub record IsTwin (alone : Bool) (pool other : List ℕ) (group : List Node) (listed : Judged (List Node)) (used : ℕ) : Type 0 where
   pub nodes : List Node
   pub is : listed ≡ took nodes used
-  pub same : SameNodes pool other group nodes
+  pub same : AreSame alone pool other group nodes
 
 -- What was listed is a node and those inside it. They make no more bytes than were read, which wherever they stand are listed again as
 -- nodes that say the same, where the node in front is alike.
-pub record IsRound (pool : List ℕ) (Kept : Node → Type 0) (make : Maker) (label : Node)
+pub record IsRound (alone : Bool) (pool : List ℕ) (Kept : Node → Type 0) (make : Maker) (label : Node)
     (listed : Judged (List Node)) (relisted : ℕ → Node → Judge (List Node)) (size used : ℕ) : Type 0 where
   pub node : Node
   pub inside : List Node
@@ -59,7 +65,7 @@ pub record IsRound (pool : List ℕ) (Kept : Node → Type 0) (make : Maker) (la
   pub made_size : length made ≤ used
   pub bound : used ≤ size
   pub again : (other rest : List ℕ) (end : ℕ) (twin : Node) → AreAlike pool other label twin → Stands other end (made ++ rest)
-      → IsTwin pool other (node ∷ inside) (relisted end twin (made ++ rest)) (length made)
+      → IsTwin alone pool other (node ∷ inside) (relisted end twin (made ++ rest)) (length made)
 
 -- The same of a thing of at least one byte, whose node in front does not change.
 pub record IsItem (pool : List ℕ) (make : Maker) (listed : Judged (List Node)) (relisted : ℕ → Judge (List Node)) (size used : ℕ) : Type 0 where
@@ -73,11 +79,11 @@ pub record IsItem (pool : List ℕ) (make : Maker) (listed : Judged (List Node))
   pub some : 1 ≤ length made
   pub bound : used ≤ size
   pub again : (other rest : List ℕ) (end : ℕ) → Stands other end (made ++ rest)
-      → IsTwin pool other (node ∷ inside) (relisted end (made ++ rest)) (length made)
+      → IsTwin false pool other (node ∷ inside) (relisted end (made ++ rest)) (length made)
 
 -- a thing behind a node that has no key
 pub as_item : {pool : List ℕ} {Kept : Node → Type 0} {make : Maker} {label : Node} {listed : Judged (List Node)}
-    {relisted : ℕ → Node → Judge (List Node)} {size used : ℕ} → (round : IsRound pool Kept make label listed relisted size used)
+    {relisted : ℕ → Node → Judge (List Node)} {size used : ℕ} → (round : IsRound false pool Kept make label listed relisted size used)
     → IsFresh label → label.key_length ≡ 0 → 1 ≤ length round.made → IsItem pool make listed (λ end. relisted end label) size used
 as_item {pool} {Kept} {make} {label} round fresh none some = record {
   node = round.node;
@@ -108,12 +114,35 @@ module _ (pool other : List ℕ) where
   as_many (a ∷ ns) [] h = absurd h
   as_many (a ∷ ns) (b ∷ ms) h = ap suc (as_many ns ms h.1)
 
+  spans_append : (ns ms more rest : List Node) → SameSpans pool other ns ms → SameSpans pool other more rest → SameSpans pool other (ns ++ more) (ms ++ rest)
+  spans_append [] [] more rest one two = two
+  spans_append [] (b ∷ ms) more rest one two = absurd one
+  spans_append (a ∷ ns) [] more rest one two = absurd one
+  spans_append (a ∷ ns) (b ∷ ms) more rest one two = (one.0, spans_append ns ms more rest one.1 two)
+
+  -- nodes that say the same, and then others that do
+  pub both_same : {alone : Bool} (ns ms more rest : List Node) → AreSame alone pool other ns ms → AreSame alone pool other more rest
+      → AreSame alone pool other (ns ++ more) (ms ++ rest)
+  both_same ns ms more rest one two = record {
+    same = same_append pool other ns ms more rest one.same two.same;
+    spans = λ alone. spans_append ns ms more rest (one.spans alone) (two.spans alone);
+  }
+
+  -- no nodes say the same as none
+  pub none_same : {alone : Bool} → AreSame alone pool other [] []
+  none_same = record { same = tt; spans = λ alone. tt }
+
+  -- one node, with a span of the same bytes
+  pub one_same : {alone : Bool} (a b : Node) → IsSameNode pool other a b → IsSameSpan pool a.start a.length other b.start b.length
+      → AreSame alone pool other (a ∷ []) (b ∷ [])
+  one_same a b is span = record { same = (is, tt); spans = λ alone. (span, tt) }
+
 -- nodes of two parts, one after the other, are read again where those of both parts are
-pub both_again : (pool other : List ℕ) (first second : Judge (List Node)) (a b : List Node) (one two rest : List ℕ) (end : ℕ)
-    → ((tail : List ℕ) → Stands other end (one ++ tail) → IsTwin pool other a (first (one ++ tail)) (length one))
-    → (Stands other end (two ++ rest) → IsTwin pool other b (second (two ++ rest)) (length two)) → Stands other end ((one ++ two) ++ rest)
-    → IsTwin pool other (a ++ b) (judge_both first second (λ x y. x ++ y) ((one ++ two) ++ rest)) (length (one ++ two))
-both_again pool other first second a b one two rest end first_again second_again stands =
+pub both_again : (alone : Bool) (pool other : List ℕ) (first second : Judge (List Node)) (a b : List Node) (one two rest : List ℕ) (end : ℕ)
+    → ((tail : List ℕ) → Stands other end (one ++ tail) → IsTwin alone pool other a (first (one ++ tail)) (length one))
+    → (Stands other end (two ++ rest) → IsTwin alone pool other b (second (two ++ rest)) (length two)) → Stands other end ((one ++ two) ++ rest)
+    → IsTwin alone pool other (a ++ b) (judge_both first second (λ x y. x ++ y) ((one ++ two) ++ rest)) (length (one ++ two))
+both_again alone pool other first second a b one two rest end first_again second_again stands =
     let parts : (one ++ two) ++ rest ≡ one ++ (two ++ rest) = append_assoc one two rest in
     let whole = one ++ (two ++ rest) in
     let st = subst (Stands other end) parts stands in
@@ -126,19 +155,20 @@ both_again pool other first second a b one two rest end first_again second_again
           ap (judge_both first second (λ x y. x ++ y)) parts ∙ ap (λ j. j >>= λ x. second (drop x.1 whole) >>= λ y. took (x.0 ++ y.0) (x.1 + y.1)) front.is
           ∙ ap (λ bs. second bs >>= λ y. took (front.nodes ++ y.0) (length one + y.1)) behind
           ∙ ap (λ j. j >>= λ y. took (front.nodes ++ y.0) (length one + y.1)) left.is ∙ ap (took (front.nodes ++ left.nodes)) (sym (length-append one two));
-      same = same_append pool other a front.nodes b left.nodes front.same left.same;
+      same = both_same pool other a front.nodes b left.nodes front.same left.same;
     }
 
 -- ---- single nodes
 
 module _ {A : Type 0} (judge : Judge A) (Spells : List ℕ → A → Type 0) (exact : IsExact judge Spells) (mark : Node → A → Node)
     (keeps : (a : Node) (x : A) → Keeps a (mark a x)) (none : (a : Node) (x : A) → (mark a x).inside ≡ a.inside)
-    (same : (pool other : List ℕ) (a b : Node) (x : A) → AreAlike pool other a b → IsSameNode pool other (mark a x) (mark b x))
+    (same : (pool other : List ℕ) (a b : Node) (x : A) → AreAlike pool other a b → IsSameNode pool other (mark a x) (mark b x)
+    × IsSameSpan pool (mark a x).start (mark a x).length other (mark b x).start (mark b x).length)
   where
     -- what is read as one node, which makes bytes that are read as the same
-    pub leaf_round : (pool bytes : List ℕ) (make : Maker) (label : Node) (x : A) (n : ℕ) (made : List ℕ) → IsFresh label → n ≤ length bytes
+    pub leaf_round : {alone : Bool} (pool bytes : List ℕ) (make : Maker) (label : Node) (x : A) (n : ℕ) (made : List ℕ) → IsFresh label → n ≤ length bytes
         → judge bytes ≡ took x n → Spells made x → length made ≤ n → ((end : ℕ) → make end (mark label x) [] ≡ Ok made)
-        → IsRound pool (Keeps label) make label (judge_map (λ y. mark label y ∷ []) judge bytes)
+        → IsRound alone pool (Keeps label) make label (judge_map (λ y. mark label y ∷ []) judge bytes)
         (λ end twin bs. judge_map (λ y. mark twin y ∷ []) judge bs) (length bytes) n
     leaf_round pool bytes make label x n made fresh bound h spelled size makes = record {
       node = mark label x;
@@ -153,7 +183,7 @@ module _ {A : Type 0} (judge : Judge A) (Spells : List ℕ → A → Type 0) (ex
       again = λ other rest end twin alike stands. record {
         nodes = mark twin x ∷ [];
         is = ap (λ j. j >>= λ y. took (mark twin y.0 ∷ []) y.1) (exact.taken made rest x spelled);
-        same = (same pool other label twin x alike, tt);
+        same = let is = same pool other label twin x alike in one_same pool other (mark label x) (mark twin x) is.0 is.1;
       };
     }
 
@@ -168,10 +198,10 @@ module _ (judge : Judge (List ℕ)) (Spells : List ℕ → List ℕ → Type 0) 
     (parts : (bytes content : List ℕ) (n : ℕ) → judge bytes ≡ took content n → IsPart bytes content front n)
   where
     -- what is read as a span, of which bytes are made that are read as the same
-    pub span_round : (pool bytes : List ℕ) (end : ℕ) (make : Maker) (label : Node) (content : List ℕ) (n : ℕ) (made : List ℕ)
+    pub span_round : {alone : Bool} (pool bytes : List ℕ) (end : ℕ) (make : Maker) (label : Node) (content : List ℕ) (n : ℕ) (made : List ℕ)
         → IsFresh label → Stands pool end bytes → judge bytes ≡ took content n → Spells made content → length made ≤ n
         → ((at : ℕ) → IsSpan pool (at - length content) (length content) content → (e : ℕ) → make e (spanned label at content) [] ≡ Ok made)
-        → IsRound pool (Keeps label) make label (listed_span judge end label bytes) (λ e twin bs. listed_span judge e twin bs) (length bytes) n
+        → IsRound alone pool (Keeps label) make label (listed_span judge end label bytes) (λ e twin bs. listed_span judge e twin bs) (length bytes) n
     unfolding listed_span
     span_round pool bytes end make label content n made fresh stands h spelled size makes =
         let part = parts bytes content n h in
@@ -191,12 +221,13 @@ module _ (judge : Judge (List ℕ)) (Spells : List ℕ → List ℕ → Type 0) 
               let whole = made ++ rest in
               let read = exact.taken made rest content spelled in
               let there = e - length (drop (length made) whole) in
-              let twin_span =
+              let content_span =
               span_of other content there (part_stands other whole content e front (length made) stands (parts whole content (length made) read)) in
+              let both = same_span pool other content (at - length content) (there - length content) span content_span in
               record {
                 nodes = spanned twin there content ∷ [];
                 is = ap (λ j. j >>= λ x. took (spanned twin (end_before e (drop x.1 whole)) x.0 ∷ []) x.1) read;
-                same = (record {
+                same = one_same pool other (spanned label at content) (spanned twin there content) (record {
                   kind_is = alike.kind;
                   place_is = alike.place;
                   number_is = alike.left.number ∙ sym alike.right.number;
@@ -204,7 +235,7 @@ module _ (judge : Judge (List ℕ)) (Spells : List ℕ → List ℕ → Type 0) 
                   inside_is = alike.left.inside ∙ sym alike.right.inside;
                   items_are = alike.left.items ∙ sym alike.right.items;
                   key_is = alike.key;
-                  span_is = λ no. same_span pool other content (at - length content) (there - length content) span twin_span;
-                }, tt);
+                  span_is = λ no. both;
+                }) both;
               };
         }

@@ -1,5 +1,5 @@
 -- Values that were read are made, and are read again as the same nodes.
-use Rattle.std.proofs.Common.{◌≡◌, ℕ, zero, suc, ◌+◌, ◌-◌, ◌<◌, ◌≤◌, ◌^◌, List, [], ◌∷◌, ◌++◌, length, drop, Option, Some, None, Ok, inl, inr, refl, sym, ap, ap₂}
+use Rattle.std.proofs.Common.{◌≡◌, ℕ, zero, suc, ◌+◌, ◌-◌, ◌<◌, ◌≤◌, ◌^◌, false, List, [], ◌∷◌, ◌++◌, length, drop, Option, Some, None, Ok, inl, inr, refl, sym, ap, ap₂}
 use Rattle.std.proofs.Common.{subst, ◌∙◌, append_assoc, arith}
 use Rattle.std.proofs.lemmas.List.{drop_at, length-append, length-drop}
 use Rattle.amqp_types.specs.Judging.{Judge, Judged, IsBytes, took, ◌>>=◌}
@@ -29,7 +29,7 @@ use Rattle.amqp_fields.proofs.ValuesFound.{IsFresh, Keeps, all_took, keeps_itsel
 use Rattle.amqp_fields.proofs.ValuesMade.{value_parts}
 use Rattle.amqp_fields_laws.proofs.Items.{items_round}
 use Rattle.amqp_fields_laws.proofs.Leaves.{decimal_round, eight_round, long_round, number_round, signed_round, span_made, text_made, truth_round}
-use Rattle.amqp_fields_laws.proofs.Twins.{AreAlike, IsItem, IsRound, IsTwin, as_item, no_bytes, same_span, stands_fit}
+use Rattle.amqp_fields_laws.proofs.Twins.{AreAlike, IsItem, IsRound, IsTwin, as_item, no_bytes, one_same, same_span, stands_fit}
 
 -- the key of a node stays
 abbrev pub KeepsKey : Node → Node → Type 0
@@ -67,7 +67,7 @@ module _ (pool : List ℕ) (fits : IsBytes pool) where
 
   -- a value with its tag is made, and is read again
   pub record IsValue (depth_left : ℕ) (label : Node) (listed : Judged (List Node)) (size used : ℕ) : Type 0 where
-    pub round : IsRound pool (KeepsKey label) (made_value pool depth_left) label listed (λ e twin bs. listed_value depth_left e twin bs) size used
+    pub round : IsRound false pool (KeepsKey label) (made_value pool depth_left) label listed (λ e twin bs. listed_value depth_left e twin bs) size used
     pub some : 1 ≤ length round.made
 
   -- each value that was read
@@ -119,7 +119,7 @@ module _ (pool : List ℕ) (fits : IsBytes pool) where
       let made = front ++ v.made in
       let size = length-append front v.made in
       let again_at : (other rest : List ℕ) (e : ℕ) → Stands other e (front ++ (v.made ++ rest))
-      → IsTwin pool other (node ∷ v.inside) (listed_entry (listed_value depth_left) e (front ++ (v.made ++ rest))) (length made) =
+      → IsTwin false pool other (node ∷ v.inside) (listed_entry (listed_value depth_left) e (front ++ (v.made ++ rest))) (length made) =
       λ other rest e st.
       let whole = front ++ (v.made ++ rest) in
       let read : judge_short_string whole ≡ took key (length front) =
@@ -163,7 +163,7 @@ module _ (pool : List ℕ) (fits : IsBytes pool) where
         bound = omega (arith, count, v.bound, part.within, length-drop one.1 bytes);
         again = λ other rest e st.
             let parts : (front ++ v.made) ++ rest ≡ front ++ (v.made ++ rest) = append_assoc front v.made rest in
-            subst (λ bs. IsTwin pool other (node ∷ v.inside) (listed_entry (listed_value depth_left) e bs) (length made)) (sym parts)
+            subst (λ bs. IsTwin false pool other (node ∷ v.inside) (listed_entry (listed_value depth_left) e bs) (length made)) (sym parts)
             (again_at other rest e (subst (Stands other e) parts st));
       }
 
@@ -173,7 +173,7 @@ module _ (pool : List ℕ) (fits : IsBytes pool) where
     -- it is made and read again behind its tag
     abbrev Behind : ℕ → FieldTag → Type 0
     Behind depth_left t =
-        IsRound pool (Keeps label) (made_behind pool (made_nested pool depth_left) t) label (listed_behind (listed_nested depth_left) end label t bytes)
+        IsRound false pool (Keeps label) (made_behind pool (made_nested pool depth_left) t) label (listed_behind (listed_nested depth_left) end label t bytes)
         (λ e twin bs. listed_behind (listed_nested depth_left) e twin t bs) (length bytes) n
 
     bytes_fit : IsBytes bytes
@@ -241,7 +241,7 @@ module _ (pool : List ℕ) (fits : IsBytes pool) where
           again = λ other rest e twin alike st. record {
             nodes = twin ∷ [];
             is = refl;
-            same = (record {
+            same = one_same pool other label twin (record {
               kind_is = alike.kind;
               place_is = alike.place;
               number_is = alike.left.number ∙ sym alike.right.number;
@@ -250,7 +250,7 @@ module _ (pool : List ℕ) (fits : IsBytes pool) where
               items_are = alike.left.items ∙ sym alike.right.items;
               key_is = alike.key;
               span_is = λ no. no_bytes pool other label twin alike;
-            }, tt);
+            }) (no_bytes pool other label twin alike);
           };
         }
     behind_round zero below tag.FieldArray kind h = absurd cc

@@ -1,11 +1,11 @@
 -- What was read is accepted by writing, and what was written is read again as the same nodes.
-use Rattle.std.specs.Prelude.{◌≡◌, ◌≤◌, ◌++◌, ℕ, Bool, List, length, Ok}
+use Rattle.std.specs.Prelude.{◌≡◌, ◌≤◌, ◌++◌, ℕ, Bool, false, List, [], ◌∷◌, length, Ok}
 use Rattle.amqp_types.specs.Judging.{IsBytes}
 use Rattle.amqp_fields.specs.declared.head.Head.{Head}
 use Rattle.amqp_fields.specs.declared.node.Node.{Node}
 use Rattle.amqp_fields.specs.Heads.{SayFrames}
 use Rattle.amqp_fields.specs.MadeFrames.{made_frames}
-use Rattle.amqp_fields.specs.SameNodes.{SameNodes}
+use Rattle.amqp_fields.specs.SameNodes.{IsSameSpan, SameNodes}
 
 -- Heads and nodes are written at a limit, to no more than so many bytes.
 pub record IsAccepted (k : ℕ) (pool : List ℕ) (nodes : List Node)
@@ -23,8 +23,16 @@ ReadIsAccepted =
     → IsBytes bytes → m ≤ k → SayFrames m deep bytes 0 0 heads nodes used
     → IsAccepted k bytes (nodes ++ others) heads used
 
+-- the spans of some nodes are of the same bytes, one by one
+abbrev pub SameSpans : List ℕ → List ℕ → List Node → List Node → Type 0
+SameSpans bytes others [] [] = Unit {0}
+SameSpans bytes others [] (b ∷ more) = ⊥
+SameSpans bytes others (a ∷ nodes) [] = ⊥
+SameSpans bytes others (a ∷ nodes) (b ∷ more) =
+    IsSameSpan bytes a.start a.length others b.start b.length × SameSpans bytes others nodes more
+
 -- What was made is read whole, as so many heads and as nodes that say the same as those from which
--- it was made.
+-- it was made. Where tables were read alone, the content of each has the same bytes too.
 pub record IsReadAgain (k : ℕ) (deep : Bool) (bytes made : List ℕ)
     (count : ℕ) (nodes : List Node) : Type 0 where
   pub again : List Head
@@ -32,6 +40,7 @@ pub record IsReadAgain (k : ℕ) (deep : Bool) (bytes made : List ℕ)
   pub says : SayFrames k deep made 0 0 again more (length made)
   pub count_is : length again ≡ count
   pub same : SameNodes bytes made nodes more
+  pub spans : deep ≡ false → SameSpans bytes made nodes more
 
 -- Heads and nodes that were read are written, and read again as many heads and as the same nodes
 -- but for their places: no order is asked of the keys of tables.
