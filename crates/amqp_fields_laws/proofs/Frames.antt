@@ -56,6 +56,7 @@ module _ (pool : List ℕ) (fits : IsBytes pool) (deep : Bool) (nodes : List Nod
     pub made : List ℕ
     pub typed_is : (k : ℕ) → length_around kind (length payload) ≤ k + 8 → made_typed pool nodes k head ≡ Ok (bytes_as kind channel made)
     pub made_size : length made ≤ length payload
+    pub body : kind ≡ kinds.Body → made ≡ payload
     pub whole_size : length (bytes_as kind channel made) ≤ length_around kind (length payload)
     pub again : (other : List ℕ) (end : ℕ) → Stands other end made → AreSame (not deep) pool other own (payload_nodes kind deep end made)
 
@@ -83,6 +84,7 @@ module _ (pool : List ℕ) (fits : IsBytes pool) (deep : Bool) (nodes : List Nod
             ∙ ap (λ ns. after (Ok ids) (made_slots pool end 0 known.slots ns)) same ∙ round.made_is end)
             ∙ around_made k head round.made (omega (arith, round.made_size, within));
         made_size = round.made_size;
+        body = λ is. absurd cc;
         whole_size = omega (arith, framed_length 1 channel round.made, round.made_size);
         again = λ other e st. subst (λ ns. AreSame (not deep) pool other ns (payload_nodes kinds.Method deep e round.made)) (sym same) (round.again other e st);
       }
@@ -105,6 +107,7 @@ module _ (pool : List ℕ) (fits : IsBytes pool) (deep : Bool) (nodes : List Nod
             (header_parts pool nodes own head end there refl refl ∙ ap (λ ns. after (Ok front) (made_properties pool end ns)) same ∙ round.made_is end)
             ∙ around_made k head round.made (omega (arith, round.made_size, within));
         made_size = round.made_size;
+        body = λ is. absurd cc;
         whole_size = omega (arith, framed_length 2 channel round.made, round.made_size);
         again = λ other e st. subst (λ ns. AreSame (not deep) pool other ns (payload_nodes kinds.Header deep e round.made)) (sym same) (round.again other e st);
       }
@@ -126,6 +129,7 @@ module _ (pool : List ℕ) (fits : IsBytes pool) (deep : Bool) (nodes : List Nod
             ∙ ap (λ ns. after (Ok (protocol_byte ∷ protocol_mark)) (made_slots pool end 0 version_slots ns)) same
             ∙ ap (after (Ok (protocol_byte ∷ protocol_mark))) (round.made_is end);
         made_size = round.made_size;
+        body = λ is. absurd cc;
         whole_size = omega (arith, round.made_size);
         again = λ other e st. subst (λ ns. AreSame (not deep) pool other ns (payload_nodes kinds.ProtocolHeader deep e round.made)) (sym same) (round.again other e st);
       }
@@ -152,6 +156,7 @@ module _ (pool : List ℕ) (fits : IsBytes pool) (deep : Bool) (nodes : List Nod
             ∙ ap (λ test. made_bytes (if test then Some (take (length payload) (drop start pool)) else None)) within_pool ∙ ap Ok span.bytes_are)
             ∙ around_made k head payload (omega (arith, within));
         made_size = omega arith;
+        body = λ is. refl;
         whole_size = omega (arith, framed_length 3 channel payload);
         again = λ other e st. no_nodes other none;
       }
@@ -169,6 +174,7 @@ module _ (pool : List ℕ) (fits : IsBytes pool) (deep : Bool) (nodes : List Nod
             frame_parts pool nodes k head (λ e. absurd (omega (arith, e)))
             ∙ ap (made_around k head) (ap (λ test. if test then Ok [] else misfit_head) free) ∙ around_made k head [] (omega arith);
         made_size = omega arith;
+        body = λ is. absurd cc;
         whole_size = omega arith;
         again = λ other e st. no_nodes other none;
       }

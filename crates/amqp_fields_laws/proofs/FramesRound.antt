@@ -5,7 +5,7 @@ use Rattle.std.proofs.lemmas.Bool.Decides.{nat_tests}
 use Rattle.std.proofs.lemmas.List.{drop-drop, drop_at, length-append, length-drop, length-take-le, take_all, take_at}
 use Rattle.amqp_types.specs.Judging.{Judged, IsBytes, took}
 use Rattle.amqp_types.specs.Levels.{plain}
-use Rattle.amqp_types.specs.Constants.{protocol_byte, protocol_mark}
+use Rattle.amqp_types.specs.Constants.{body_byte, protocol_byte, protocol_mark}
 use Rattle.amqp_types.proofs.Bytes.{IsBytes-drop}
 use Rattle.amqp_wire.specs.declared.frame_type.AMQPFrameType.{AMQPFrameType}
 use Rattle.amqp_wire.specs.declared.frame_type.AMQPFrameType.TheVariants as kinds
@@ -37,9 +37,9 @@ use Rattle.amqp_fields.proofs.MeantFramesMade.{frame_fits}
 use Rattle.amqp_fields.proofs.MeantValuesMade.{Fits}
 use Rattle.amqp_fields.proofs.Ordered.{plain_order}
 use Rattle.amqp_fields.proofs.Spans.{Stands}
-use Rattle.amqp_fields_laws.specs.RoundTrips.{IsReadAgain, ReadAgainHasSameNodes, ReadIsAccepted}
+use Rattle.amqp_fields_laws.specs.RoundTrips.{IsReadAgain, IsSameHead, SameHeads, ReadAgainHasSameNodes, ReadIsAccepted}
 use Rattle.amqp_fields_laws.proofs.Frames.{HeadOf, IsFrame, frame_round, span_stands}
-use Rattle.amqp_fields_laws.proofs.Twins.{AreSame, both_same, none_same}
+use Rattle.amqp_fields_laws.proofs.Twins.{AreSame, as_many, both_same, none_same}
 
 -- ---- the bytes of one frame
 
@@ -144,6 +144,14 @@ version_channel pool nodes head (Body channel content) is told = absurd (omega (
 version_channel pool nodes head Beat is told = absurd (omega (arith, is, told.0))
 version_channel pool nodes head (BadBeat channel) is told = absurd (omega (arith, is, told.0))
 
+-- the type of a body
+body_kind : (kind : AMQPFrameType) → byte_of kind ≡ body_byte → kind ≡ kinds.Body
+body_kind kinds.ProtocolHeader is = absurd (omega (arith, is))
+body_kind kinds.Method is = absurd (omega (arith, is))
+body_kind kinds.Header is = absurd (omega (arith, is))
+body_kind kinds.Body is = refl
+body_kind kinds.Heartbeat is = absurd (omega (arith, is))
+
 -- where the header scan finds a frame, its payload is decoded as the verdict has it
 whole_is : (k : ℕ) (bytes : List ℕ) (raw : Raw) (n : ℕ) (frame : Frame) → outer (Some k) bytes ≡ took raw n
     → verdict plain (Some k) bytes ≡ took frame n → whole raw ≡ Ok frame
@@ -177,10 +185,11 @@ module _ (m : ℕ) (deep : Bool) (pool : List ℕ) (fits : IsBytes pool) (nodes 
       told.told (sym told.sequence ∙ goes.sequence)
 
   -- bytes that were made are read as a frame, behind other bytes and in front of others, with the same nodes
-  pub record IsAgain (k : ℕ) (own : List Node) (made before rest : List ℕ) (place : ℕ) : Type 0 where
+  pub record IsAgain (k : ℕ) (head : given.Head) (own : List Node) (made before rest : List ℕ) (place : ℕ) : Type 0 where
     pub twin : given.Head
     pub others : List Node
     pub says : SaysFrame k deep (before ++ (made ++ rest)) (length before) place twin others (length made)
+    pub head_same : IsSameHead pool (before ++ (made ++ rest)) head twin
     pub same : AreSame (not deep) pool (before ++ (made ++ rest)) own others
 
   -- A head makes a frame at each limit from that of reading on, of no more bytes than were read, and it is read again.
@@ -188,15 +197,17 @@ module _ (m : ℕ) (deep : Bool) (pool : List ℕ) (fits : IsBytes pool) (nodes 
     pub made : List ℕ
     pub made_is : (k : ℕ) → m ≤ k → made_frame pool nodes k head ≡ Ok made
     pub made_size : length made ≤ size
-    pub again : (k : ℕ) → m ≤ k → (before rest : List ℕ) (place : ℕ) → IsAgain k own made before rest place
+    pub again : (k : ℕ) → m ≤ k → (before rest : List ℕ) (place : ℕ) → IsAgain k head own made before rest place
 
   -- a frame that was made is read again, wherever it stands
-  frame_again : (k : ℕ) (kind : AMQPFrameType) (channel : ℕ) (payload : List ℕ) (frame : Frame) (own : List Node) → channel < 2 ^ 16
+  frame_again : (k : ℕ) (kind : AMQPFrameType) (channel : ℕ) (payload : List ℕ) (frame : Frame) (own : List Node)
+      → (read : List ℕ) (begin first : ℕ) → IsSpan pool begin (length read) read → (kind ≡ kinds.Body → payload ≡ read) → channel < 2 ^ 16
       → Spells plain (bytes_as kind channel payload) frame → IsWithin (Some k) (bytes_as kind channel payload) → length (bytes_as kind channel payload) < 2 ^ 32 + 8
       → (kind ≡ kinds.ProtocolHeader → channel ≡ 0)
       → ((other : List ℕ) (end : ℕ) → Stands other end payload → AreSame (not deep) pool other own (payload_nodes kind deep end payload))
-      → (before rest : List ℕ) (place : ℕ) → IsAgain k own (bytes_as kind channel payload) before rest place
-  frame_again k kind channel payload frame own on spelled within few free again before rest place =
+      → (before rest : List ℕ) (place : ℕ)
+      → IsAgain k (head_of (raw_as kind channel read) (outline_of frame) begin first (length own)) own (bytes_as kind channel payload) before rest place
+  frame_again k kind channel payload frame own read begin first read_span body on spelled within few free again before rest place =
       let made = bytes_as kind channel payload in
       let whole_bytes = before ++ (made ++ rest) in
       let at = length before in
@@ -214,6 +225,7 @@ module _ (m : ℕ) (deep : Bool) (pool : List ℕ) (fits : IsBytes pool) (nodes 
             ∙ ap (λ bs. take (length payload) (drop (payload_place kind) bs)) behind ∙ payload_at kind channel payload rest;
       } in
       let others = nodes_at raw deep start in
+      let same = again whole_bytes (start + length payload) (span_stands whole_bytes payload start span) in
       record {
         twin = head_of raw (outline_of frame) start place (length others);
         others = others;
@@ -226,7 +238,18 @@ module _ (m : ℕ) (deep : Bool) (pool : List ℕ) (fits : IsBytes pool) (nodes 
           head_is = refl;
           nodes_are = refl;
         };
-        same = again whole_bytes (start + length payload) (span_stands whole_bytes payload start span);
+        head_same = record {
+          type_is = refl;
+          channel_is = refl;
+          class_is = refl;
+          method_is = refl;
+          body_size_is = refl;
+          nodes_are = as_many pool whole_bytes own others same.same;
+          body_is = λ is.
+              let content : payload ≡ read = body (body_kind kind is) in
+              (sym (ap length content), read_span.bytes_are ∙ sym content ∙ sym span.bytes_are);
+        };
+        same = same;
       }
 
   read_frame : (at first size : ℕ) (head : given.Head) (before own more : List Node) → nodes ≡ before ++ (own ++ more)
@@ -274,7 +297,7 @@ module _ (m : ℕ) (deep : Bool) (pool : List ℕ) (fits : IsBytes pool) (nodes 
         made_is = λ k le. own_made k (omega (arith, limit, le));
         made_size = made_size;
         again = λ k le front rest place.
-            frame_again k kind channel round.made frame own on encoded.0 (omega (arith, made_size, limit, le)) (omega (arith, made_size, few)) free round.again
+            frame_again k kind channel round.made frame own payload start first span round.body on encoded.0 (omega (arith, made_size, limit, le)) (omega (arith, made_size, few)) free round.again
             front rest place;
       } in
       subst (λ h. IsRead h own size) (sym says.head_is) own_read
@@ -282,11 +305,12 @@ module _ (m : ℕ) (deep : Bool) (pool : List ℕ) (fits : IsBytes pool) (nodes 
   -- ---- frames one after another
 
   -- heads and nodes that were read again
-  pub record AreAgain (k : ℕ) (count : ℕ) (own : List Node) (made before : List ℕ) (place : ℕ) : Type 0 where
-    pub heads : List given.Head
+  pub record AreAgain (k : ℕ) (heads : List given.Head) (own : List Node) (made before : List ℕ) (place : ℕ) : Type 0 where
+    pub twins : List given.Head
     pub others : List Node
-    pub says : SayFrames k deep (before ++ made) (length before) place heads others (length before + length made)
-    pub count_is : length heads ≡ count
+    pub says : SayFrames k deep (before ++ made) (length before) place twins others (length before + length made)
+    pub count_is : length twins ≡ length heads
+    pub heads_same : SameHeads pool (before ++ made) heads twins
     pub same : AreSame (not deep) pool (before ++ made) own others
 
   -- heads make frames that are read again
@@ -294,10 +318,7 @@ module _ (m : ℕ) (deep : Bool) (pool : List ℕ) (fits : IsBytes pool) (nodes 
     pub made : List ℕ
     pub made_is : (k index : ℕ) → m ≤ k → made_frames pool nodes k index heads ≡ Ok made
     pub made_size : at + length made ≤ used
-    pub again : (k : ℕ) → m ≤ k → (before : List ℕ) (place : ℕ) → AreAgain k (length heads) own made before place
-
-  both_parts : (front made others : List ℕ) → front ++ (made ++ others) ≡ (front ++ made) ++ others
-  both_parts front made others = sym (append_assoc front made others)
+    pub again : (k : ℕ) → m ≤ k → (before : List ℕ) (place : ℕ) → AreAgain k heads own made before place
 
   one_more : (head : given.Head) (heads : List given.Head) (own others : List Node) (at size used : ℕ) → IsRead head own size
       → AreRead heads others (at + size) used → AreRead (head ∷ heads) (own ++ others) at used
@@ -316,13 +337,13 @@ module _ (m : ℕ) (deep : Bool) (pool : List ℕ) (fits : IsBytes pool) (nodes 
             let there : length (before ++ one.made) ≡ length before + length one.made = length-append before one.made in
             let end : length (before ++ one.made) + length rest.made ≡ length before + length made = omega (arith, there, sizes) in
             let P : List ℕ → Type 0 = λ bs.
-            SayFrames k deep bs (length before + length one.made) (place + length first.others) next.heads next.others (length before + length made) in
+            SayFrames k deep bs (length before + length one.made) (place + length first.others) next.twins next.others (length before + length made) in
             let Q : ℕ → Type 0 = λ a.
-            SayFrames k deep ((before ++ one.made) ++ rest.made) a (place + length first.others) next.heads next.others (length before + length made) in
+            SayFrames k deep ((before ++ one.made) ++ rest.made) a (place + length first.others) next.twins next.others (length before + length made) in
             let R : ℕ → Type 0 = λ e.
-            SayFrames k deep ((before ++ one.made) ++ rest.made) (length (before ++ one.made)) (place + length first.others) next.heads next.others e in
+            SayFrames k deep ((before ++ one.made) ++ rest.made) (length (before ++ one.made)) (place + length first.others) next.twins next.others e in
             record {
-              heads = first.twin ∷ next.heads;
+              twins = first.twin ∷ next.twins;
               others = first.others ++ next.others;
               says = record {
                 own = first.others;
@@ -333,6 +354,7 @@ module _ (m : ℕ) (deep : Bool) (pool : List ℕ) (fits : IsBytes pool) (nodes 
                 rest = subst P parts (subst Q there (subst R end next.says));
               };
               count_is = ap suc next.count_is;
+              heads_same = (first.head_same, subst (λ bs. SameHeads pool bs heads next.twins) parts next.heads_same);
               same =
                   both_same pool (before ++ made) own first.others others next.others first.same
                   (subst (λ bs. AreSame (not deep) pool bs others next.others) parts next.same);
@@ -347,7 +369,7 @@ module _ (m : ℕ) (deep : Bool) (pool : List ℕ) (fits : IsBytes pool) (nodes 
         made = [];
         made_is = λ k index le. refl;
         made_size = omega (arith, says.1);
-        again = λ k le front place. record { heads = []; others = []; says = (refl, omega arith); count_is = refl; same = none_same pool (front ++ []) };
+        again = λ k le front place. record { twins = []; others = []; says = (refl, omega arith); count_is = refl; heads_same = tt; same = none_same pool (front ++ []) };
       } in
       subst (λ ns. AreRead [] ns at used) (sym says.0) none
   heads_read at first used (head ∷ heads) before own more parts there says =
@@ -376,7 +398,7 @@ read_again m k deep bytes heads nodes others used made fits le says is =
     let read = heads_read m deep bytes fits (nodes ++ others) 0 0 used heads [] nodes others refl refl says in
     let same = same_made read.made made (made_frames bytes (nodes ++ others) k 0 heads) (read.made_is k 0 le) is in
     let again = read.again k le [] 0 in
-    let all : SayFrames k deep read.made 0 0 again.heads again.others (length read.made) =
-    subst (λ e. SayFrames k deep read.made 0 0 again.heads again.others e) {x = 0 + length read.made} {y = length read.made} (omega arith) again.says in
-    subst (λ bs. IsReadAgain k deep bytes bs (length heads) nodes) same
-    (record { again = again.heads; more = again.others; says = all; count_is = again.count_is; same = again.same.same; spans = λ alone. again.same.spans (ap not alone) })
+    let all : SayFrames k deep read.made 0 0 again.twins again.others (length read.made) =
+    subst (λ e. SayFrames k deep read.made 0 0 again.twins again.others e) {x = 0 + length read.made} {y = length read.made} (omega arith) again.says in
+    subst (λ bs. IsReadAgain k deep bytes bs heads nodes) same
+    (record { again = again.twins; more = again.others; says = all; count_is = again.count_is; heads_same = again.heads_same; same = again.same.same; spans = λ alone. again.same.spans (ap not alone) })
