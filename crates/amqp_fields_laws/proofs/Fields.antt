@@ -1,6 +1,6 @@
 -- Fields that were read are made, those that are reserved as their constants, and are read again as the same nodes.
-use Rattle.std.proofs.Common.{◌≡◌, ℕ, zero, suc, ◌+◌, ◌-◌, ◌<◌, ◌≤◌, ◌^◌, ◌==◌, ◌&&◌, nat_lt, nat_le, Bool, true, false, not, List, [], ◌∷◌, ◌++◌, length, map, take}
-use Rattle.std.proofs.Common.{drop, Ok, inl, refl, sym, ap, ap₂, subst, ◌∙◌, append_assoc, append-nil, arith, if◌then◌else◌}
+use Rattle.std.proofs.Common.{◌≡◌, ℕ, suc, ◌+◌, ◌-◌, ◌<◌, ◌≤◌, ◌==◌, nat_lt, nat_le, Bool, true, false, not, List, [], ◌∷◌, ◌++◌, length, map, take}
+use Rattle.std.proofs.Common.{drop, Ok, inl, refl, sym, ap, ap₂, subst, ◌∙◌, arith, if◌then◌else◌}
 use Rattle.std.proofs.lemmas.Bool.Decides.{nat_tests}
 use Rattle.std.proofs.lemmas.List.{drop_at, length-append, length-drop, length-take-le, take_at}
 use Rattle.amqp_types.specs.Levels.{plain, strict}
@@ -8,7 +8,7 @@ use Rattle.amqp_types.specs.Judging.{Judge, Judged, IsBytes, took, ◌>>=◌}
 use Rattle.amqp_types.specs.FormLaws.{IsLawful}
 use Rattle.amqp_types.specs.Numbers.{judge_number}
 use Rattle.amqp_types.specs.Flags.{bit_of, flags_bytes, judge_flags, SpellsFlags}
-use Rattle.amqp_types.specs.Strings.{judge_long_string, judge_short_string, with_length}
+use Rattle.amqp_types.specs.Strings.{judge_long_string, judge_short_string}
 use Rattle.amqp_types.specs.ValueJudging.{filled, judge_entry, judge_field_table, judge_value}
 use Rattle.amqp_types.specs.Constants.{inner_depth}
 use Rattle.amqp_types.specs.Slots.{Item, number_item, flag_item, text_item, bytes_item, entries_item, Form, number_form, flags_form, short_string_form}
@@ -18,20 +18,18 @@ use Rattle.amqp_types.specs.SlotJudging.{judge_dropped, judge_form, judge_slot, 
 use Rattle.amqp_types.specs.SlotLaws.{are_least, is_least}
 use Rattle.amqp_types.specs.SlotSpelling.{SpellsForm}
 use Rattle.amqp_types.proofs.FormLaws.{flags_lawful}
-use Rattle.amqp_types.proofs.Took.{bind_took, value_took, count_took}
+use Rattle.amqp_types.proofs.Took.{bind_took, count_took}
 use Rattle.amqp_laws.proofs.SlotForms.{forms_lawful}
 use Rattle.amqp_laws.proofs.SlotLaws.{both_true, constant_strict, form_is_plain, reserved_lawful}
 use Rattle.amqp_fields.specs.declared.node.Node.{Node}
-use Rattle.amqp_fields.specs.Kinds.{kind_of}
-use Rattle.amqp_fields.specs.Nodes.{numbered, spanned}
+use Rattle.amqp_fields.specs.Nodes.{numbered}
 use Rattle.amqp_fields.specs.Listed.{kept_count, listed_bits, listed_entry, listed_form, listed_slot, listed_slots, listed_value, next_place, placed}
-use Rattle.amqp_fields.specs.Made.{after, made_entry, made_given, made_items, made_long, made_span, made_value, misfit, own_index}
-use Rattle.amqp_fields.specs.MadeFields.{flag_before, flags_in, flags_made, group_size, is_field, is_flag, made_field, made_flags, made_form, made_kept}
-use Rattle.amqp_fields.specs.MadeFields.{made_none, made_plain, made_slot, made_slots, node_count}
+use Rattle.amqp_fields.specs.Made.{after, made_entry, made_given, made_items, made_long, made_value, misfit, own_index}
+use Rattle.amqp_fields.specs.MadeFields.{flag_before, flags_in, flags_made, group_size, is_field, is_flag, made_field, made_form, made_kept}
+use Rattle.amqp_fields.specs.MadeFields.{made_plain, made_slot, made_slots, node_count}
 use Rattle.amqp_fields.proofs.FieldsFound.{flags_length, spare}
 use Rattle.amqp_fields.proofs.MeantFieldsMade.{IsOne}
-use Rattle.amqp_fields.proofs.SameNodes.{same_append}
-use Rattle.amqp_fields.proofs.Spans.{Stands, number_took, stands_drop}
+use Rattle.amqp_fields.proofs.Spans.{Stands, stands_drop}
 use Rattle.amqp_fields.proofs.ValuesFound.{IsFresh, Keeps, map_took}
 use Rattle.amqp_fields_laws.proofs.Items.{items_round}
 use Rattle.amqp_fields_laws.proofs.Leaves.{long_round, number_round, same_number, short_round, span_made}
@@ -45,7 +43,8 @@ fresh_field place form = record { inside = refl; items = refl; start = refl; cou
 -- ---- one field
 
 -- what a field that is no flags makes, which is the first of some nodes
-pub field_made : (pool : List ℕ) (end place : ℕ) (form : Form) (node : Node) (inside more : List Node) → node.inside ≡ length inside → Keeps (placed place form) node
+pub field_made : (pool : List ℕ) (end place : ℕ) (form : Form) (node : Node) (inside more : List Node)
+    → node.inside ≡ length inside → Keeps (placed place form) node
     → made_field pool end place form (node ∷ (inside ++ more)) ≡ made_form pool form (end - length more) node inside
 unfolding made_field
 field_made pool end place form node inside more inside_is keeps =
@@ -53,9 +52,11 @@ field_made pool end place form node inside more inside_is keeps =
     let within : nat_lt (length others) node.inside ≡ false = grind (arith, nat_tests, inside_is, length-append inside more) in
     let is : is_field place form node ≡ true = grind (arith, nat_tests, keeps.kind, keeps.place) in
     let made = made_form pool form (end - length (drop node.inside others)) node (take node.inside others) in
-    ap (λ test. if test then misfit (end - length (node ∷ others)) else (if is_field place form node then made else misfit (end - length (node ∷ others)))) within
+    ap
+    (λ test. if test then misfit (end - length (node ∷ others)) else (if is_field place form node then made else misfit (end - length (node ∷ others)))) within
     ∙ ap (λ test. if test then made else misfit (end - length (node ∷ others))) is
-    ∙ ap₂ (λ bs cs. made_form pool form (end - length bs) node cs) (drop_at inside more node.inside (sym inside_is)) (take_at inside more node.inside (sym inside_is))
+    ∙ ap₂ (λ bs cs. made_form pool form (end - length bs) node cs)
+    (drop_at inside more node.inside (sym inside_is)) (take_at inside more node.inside (sym inside_is))
 
 -- a field with those inside it is passed
 pub group_passed : (node : Node) (inside more : List Node) → node.inside ≡ length inside
@@ -67,7 +68,8 @@ module _ (pool : List ℕ) (fits : IsBytes pool) where
   -- a field of a form that was read is made, and is read again
   abbrev pub IsField : Bool → ℕ → Form → Judged (List Node) → ℕ → ℕ → Type 0
   IsField deep place form listed size used =
-      IsRound (not deep) pool (Keeps (placed place form)) (made_form pool form) (placed place form) listed (λ e twin bs. listed_form deep e place form bs) size used
+      IsRound (not deep) pool (Keeps (placed place form)) (made_form pool form)
+      (placed place form) listed (λ e twin bs. listed_form deep e place form bs) size used
 
   -- what is listed again behind the node of a field
   fixed : (deep : Bool) (place : ℕ) (form : Form) {size used : ℕ} {listed : Judged (List Node)} {relisted : ℕ → Node → Judge (List Node)}
@@ -114,7 +116,8 @@ module _ (pool : List ℕ) (fits : IsBytes pool) where
   form_round true table_form one end place bytes items n stands h =
       let read = map_took judge_field_table (λ es. entries_item es ∷ []) bytes items n h in
       let has = table_content (judge_value inner_depth) bytes read.0 n read.1 in
-      fixed true place table_form (λ e bs. refl) (items_round pool fits (judge_entry (judge_value inner_depth)) (λ e bs. listed_entry (listed_value inner_depth) e bs)
+      fixed true place table_form (λ e bs. refl)
+      (items_round pool fits (judge_entry (judge_value inner_depth)) (λ e bs. listed_entry (listed_value inner_depth) e bs)
       (made_entry pool (made_value pool inner_depth)) (entry_round pool fits inner_depth (value_round pool fits inner_depth))
       bytes end n (placed place table_form) has.content has.things (fresh_field place table_form) (inl (inl refl)) stands has.is has.fills)
   form_round false table_form one end place bytes items n stands h =
@@ -198,7 +201,7 @@ module _ (pool : List ℕ) (fits : IsBytes pool) (deep : Bool) where
             ∙ group_passed field.node field.inside more field.inside_is;
         made_size = field.made_size;
         bound = field.bound;
-        again = λ other rest e st. field.again other rest e label (alike_itself pool other label (fresh_field place form) refl) st;
+        again = λ other rest e standing. field.again other rest e label (alike_itself pool other label (fresh_field place form) refl) standing;
       }
 
   flags_round : (count : ℕ) → count ≤ 8 → (end place : ℕ) (bytes : List ℕ) (items : List Item) (n : ℕ) → Stands pool end bytes
@@ -225,7 +228,7 @@ module _ (pool : List ℕ) (fits : IsBytes pool) (deep : Bool) where
         passed = λ more. ap (λ k. drop k (nodes ++ more)) (sym number) ∙ bits_passed place flags more;
         made_size = omega (arith, ap length read.0.bytes_are, length-take-le n bytes read.1);
         bound = read.1;
-        again = λ other rest e st. record {
+        again = λ other rest e standing. record {
           nodes = nodes;
           is = ap (λ j. j >>= λ x. took (listed_bits place x.0) x.1) (law.exact.taken (flags_bytes flags) rest flags spelled);
           same = same_bits pool other place flags;
@@ -251,11 +254,12 @@ module _ (pool : List ℕ) (fits : IsBytes pool) (deep : Bool) where
         passed = λ more. refl;
         made_size = omega (arith, shortest, length-take-le n bytes read.1);
         bound = read.1;
-        again = λ other rest e st. record { nodes = []; is = ap (λ j. j >>= λ x. took [] x.1) (law.exact.taken made rest constant spelled); same = none_same pool other };
+        again = λ other rest e standing.
+            record { nodes = []; is = ap (λ j. j >>= λ x. took [] x.1) (law.exact.taken made rest constant spelled); same = none_same pool other };
       }
 
   -- a field, where flags are at most eight and the constant of a reserved one is least
-  pub slot_round : (slot : Slot) (slots : List Slot) → spare (slot ∷ slots) ≤ 4 → are_least (slot ∷ slots) ≡ true → (end place : ℕ) (bytes : List ℕ)
+  slot_round : (slot : Slot) (slots : List Slot) → spare (slot ∷ slots) ≤ 4 → are_least (slot ∷ slots) ≡ true → (end place : ℕ) (bytes : List ℕ)
       (items : List Item) (n : ℕ) → Stands pool end bytes → judge_slot slot bytes ≡ took items n
       → IsSlot place slot (listed_slot deep end place slot bytes) (length bytes) n
   unfolding made_kept judge_dropped
@@ -287,7 +291,8 @@ module _ (pool : List ℕ) (fits : IsBytes pool) (deep : Bool) where
     pub again : (other rest : List ℕ) (end : ℕ) → Stands other end (made ++ rest)
         → IsTwin (not deep) pool other nodes (listed_slots deep end place slots (made ++ rest)) (length made)
 
-  slot_then : (slot : Slot) (slots : List Slot) (end place a b : ℕ) (bytes : List ℕ) → IsSlot place slot (listed_slot deep end place slot bytes) (length bytes) a
+  slot_then : (slot : Slot) (slots : List Slot) (end place a b : ℕ) (bytes : List ℕ)
+      → IsSlot place slot (listed_slot deep end place slot bytes) (length bytes) a
       → AreSlots (next_place place (kept_count slot)) slots
       (listed_slots deep end (next_place place (kept_count slot)) slots (drop a bytes)) (length (drop a bytes)) b
       → AreSlots place (slot ∷ slots) (listed_slots deep end place (slot ∷ slots) bytes) (length bytes) (a + b)
@@ -308,9 +313,9 @@ module _ (pool : List ℕ) (fits : IsBytes pool) (deep : Bool) where
             ∙ ap (after (Ok one.made)) (others.made_is e);
         made_size = omega (arith, size, one.made_size, others.made_size);
         bound = omega (arith, one.bound, others.bound, length-drop a bytes);
-        again = λ other rest e st.
+        again = λ other rest e standing.
             both_again (not deep) pool other (listed_slot deep e place slot) (listed_slots deep e next slots) one.nodes others.nodes one.made others.made rest e
-            (λ tail here. one.again other tail e here) (λ here. others.again other rest e here) st;
+            (λ tail here. one.again other tail e here) (λ here. others.again other rest e here) standing;
       }
 
   spare_less : (slot : Slot) (slots : List Slot) → spare (slot ∷ slots) ≤ 4 → spare slots ≤ 4
@@ -334,7 +339,7 @@ module _ (pool : List ℕ) (fits : IsBytes pool) (deep : Bool) where
         made_is = λ e. refl;
         made_size = omega arith;
         bound = omega (arith, used);
-        again = λ other rest e st. record { nodes = []; is = refl; same = none_same pool other };
+        again = λ other rest e standing. record { nodes = []; is = refl; same = none_same pool other };
       }
   slots_round (slot ∷ slots) few least end place bytes items n stands h =
       let one = bind_took (judge_slot slot bytes) _ items n h in

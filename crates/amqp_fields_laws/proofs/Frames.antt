@@ -1,5 +1,5 @@
 -- A head and its nodes that were read are made to a frame.
-use Rattle.std.proofs.Common.{◌≡◌, ℕ, ◌+◌, ◌-◌, ◌≤◌, ◌<◌, ◌==◌, ◌&&◌, nat_lt, nat_le, Bool, true, false, not, cond, List, [], ◌∷◌, ◌++◌, length, take, drop, Option, Some}
+use Rattle.std.proofs.Common.{◌≡◌, ℕ, ◌+◌, ◌-◌, ◌≤◌, ◌==◌, ◌&&◌, nat_lt, nat_le, Bool, true, false, not, cond, List, [], ◌∷◌, ◌++◌, length, take, drop, Some}
 use Rattle.std.proofs.Common.{None, Ok, refl, sym, ap, subst, ◌∙◌, arith, if◌then◌else◌}
 use Rattle.std.proofs.lemmas.Bool.Decides.{nat_tests}
 use Rattle.amqp_types.specs.Judging.{IsBytes, took}
@@ -9,7 +9,7 @@ use Rattle.amqp_types.specs.Methods.{Method, judge_payload}
 use Rattle.amqp_types.specs.ContentHeaders.{ContentHeader, judge_content_header}
 use Rattle.amqp_wire.specs.declared.frame_type.AMQPFrameType.{AMQPFrameType}
 use Rattle.amqp_wire.specs.declared.frame_type.AMQPFrameType.TheVariants as kinds
-use Rattle.amqp_wire.specs.Frames.{Frame, Proto, Meth, Head, Body, Beat, BadBeat, Raw, beat_on, length_around, raw_as}
+use Rattle.amqp_wire.specs.Frames.{Frame, Proto, Meth, Head, Body, Beat, BadBeat, beat_on, length_around, raw_as}
 use Rattle.amqp_wire.specs.Outlines.{outline_of}
 use Rattle.amqp_wire.specs.Spelling.{bytes_as, framed}
 use Rattle.amqp_wire.specs.Verdicts.{all_of, whole_as}
@@ -86,7 +86,8 @@ module _ (pool : List ℕ) (fits : IsBytes pool) (deep : Bool) (nodes : List Nod
         made_size = round.made_size;
         body = λ is. absurd cc;
         whole_size = omega (arith, framed_length 1 channel round.made, round.made_size);
-        again = λ other e st. subst (λ ns. AreSame (not deep) pool other ns (payload_nodes kinds.Method deep e round.made)) (sym same) (round.again other e st);
+        again = λ other e standing.
+            subst (λ ns. AreSame (not deep) pool other ns (payload_nodes kinds.Method deep e round.made)) (sym same) (round.again other e standing);
       }
 
   header_frame : (payload : List ℕ) (n : ℕ) (header : ContentHeader) → IsSpan pool start (length payload) payload → judge_content_header payload ≡ took header n
@@ -109,7 +110,8 @@ module _ (pool : List ℕ) (fits : IsBytes pool) (deep : Bool) (nodes : List Nod
         made_size = round.made_size;
         body = λ is. absurd cc;
         whole_size = omega (arith, framed_length 2 channel round.made, round.made_size);
-        again = λ other e st. subst (λ ns. AreSame (not deep) pool other ns (payload_nodes kinds.Header deep e round.made)) (sym same) (round.again other e st);
+        again = λ other e standing.
+            subst (λ ns. AreSame (not deep) pool other ns (payload_nodes kinds.Header deep e round.made)) (sym same) (round.again other e standing);
       }
 
   version_frame : (a b c : ℕ) → channel ≡ 0 → IsSpan pool start 3 (a ∷ b ∷ c ∷ []) → OwnNodes kinds.ProtocolHeader (a ∷ b ∷ c ∷ [])
@@ -131,7 +133,8 @@ module _ (pool : List ℕ) (fits : IsBytes pool) (deep : Bool) (nodes : List Nod
         made_size = round.made_size;
         body = λ is. absurd cc;
         whole_size = omega (arith, round.made_size);
-        again = λ other e st. subst (λ ns. AreSame (not deep) pool other ns (payload_nodes kinds.ProtocolHeader deep e round.made)) (sym same) (round.again other e st);
+        again = λ other e standing.
+            subst (λ ns. AreSame (not deep) pool other ns (payload_nodes kinds.ProtocolHeader deep e round.made)) (sym same) (round.again other e standing);
       }
 
   no_nodes : (other : List ℕ) → own ≡ [] → AreSame (not deep) pool other own []
@@ -158,7 +161,7 @@ module _ (pool : List ℕ) (fits : IsBytes pool) (deep : Bool) (nodes : List Nod
         made_size = omega arith;
         body = λ is. refl;
         whole_size = omega (arith, framed_length 3 channel payload);
-        again = λ other e st. no_nodes other none;
+        again = λ other e standing. no_nodes other none;
       }
 
   -- a heartbeat has no payload, whatever was read
@@ -176,10 +179,11 @@ module _ (pool : List ℕ) (fits : IsBytes pool) (deep : Bool) (nodes : List Nod
         made_size = omega arith;
         body = λ is. absurd cc;
         whole_size = omega arith;
-        again = λ other e st. no_nodes other none;
+        again = λ other e standing. no_nodes other none;
       }
     where
-      no_ids : (t : Bool) → own ≡ [] → (let head = HeadOf kinds.Heartbeat payload (cond t Beat (BadBeat channel)) in has_no_ids head && (head.nodes == 0)) ≡ true
+      no_ids : (t : Bool) → own ≡ []
+          → (let head = HeadOf kinds.Heartbeat payload (cond t Beat (BadBeat channel)) in has_no_ids head && (head.nodes == 0)) ≡ true
       no_ids true empty = grind (arith, nat_tests, ap length empty)
       no_ids false empty = grind (arith, nat_tests, ap length empty)
 

@@ -1,5 +1,5 @@
 -- What fills a table or an array was read, is made one after another, and is read again.
-use Rattle.std.proofs.Common.{◌≡◌, ℕ, zero, suc, ◌+◌, ◌-◌, ◌<◌, ◌≤◌, ◌^◌, false, List, [], ◌∷◌, ◌++◌, length, drop, Result, Ok, Err, refl, sym, ap, ap₂, subst, ◌∙◌}
+use Rattle.std.proofs.Common.{◌≡◌, ℕ, zero, suc, ◌-◌, ◌<◌, ◌≤◌, ◌^◌, false, List, [], ◌∷◌, ◌++◌, length, drop, Result, Ok, refl, sym, ap, ap₂, subst, ◌∙◌}
 use Rattle.std.proofs.Common.{arith}
 use Rattle.std.proofs.lemmas.List.{drop_at, length-append, nil_from_length}
 use Rattle.amqp_types.specs.Judging.{Judged, Judge, Fault, IsBytes, took, past, fault, ◌>>=◌}
@@ -73,7 +73,8 @@ module _ {A : Type 0} (judge : Judge A) (list : ℕ → Judge (List Node)) (make
           again = λ other e stands.
               let one_twin = one.again other others.made e stands in
               let past_one : drop (length one.made) whole ≡ others.made = drop_at one.made others.made (length one.made) refl in
-              let behind : Stands other e others.made = subst (Stands other e) past_one (stands_drop other whole e (length one.made) stands (omega (arith, size))) in
+              let behind : Stands other e others.made =
+              subst (Stands other e) past_one (stands_drop other whole e (length one.made) stands (omega (arith, size))) in
               let twins = others.again other e behind in
               record {
                 more = one_twin.nodes ∷ twins.more;
@@ -98,7 +99,7 @@ module _ {A : Type 0} (judge : Judge A) (list : ℕ → Judge (List Node)) (make
         one_more byte bytes n (each (byte ∷ bytes) x n stands is) (rest (n - 1) next.0 next.1)
 
     -- the things that fill some bytes are made, and listed again
-    pub filled_round : (k : ℕ) (bytes : List ℕ) (xs : List A) → Stands pool end bytes
+    filled_round : (k : ℕ) (bytes : List ℕ) (xs : List A) → Stands pool end bytes
         → filled judge k bytes ≡ Ok xs → AreItems pool make (filled (list end) k bytes) list (length bytes - k)
     unfolding filled
     filled_round k [] xs stands h = subst (AreItems pool make (Ok []) list) {x = 0} {y = 0 - k} (omega arith) (none_left (Ok []) refl)
@@ -114,7 +115,7 @@ module _ {A : Type 0} (judge : Judge A) (list : ℕ → Judge (List Node)) (make
 -- ---- arrays and tables
 
 -- content that was read is made again with its length: as it stands in the pool where nothing lies inside
-pub items_made : {A : Type 0} (judge : Judge A) (make : Maker) (pool : List ℕ) (end : ℕ) (node : Node) (inside : List Node) (content made : List ℕ)
+items_made : {A : Type 0} (judge : Judge A) (make : Maker) (pool : List ℕ) (end : ℕ) (node : Node) (inside : List Node) (content made : List ℕ)
     (xs : List A) → IsSpan pool node.start node.length content → filled judge 0 content ≡ Ok xs → length content < 2 ^ 32
     → made_each make end 0 inside ≡ Ok made → length made ≤ length content → (inside ≡ [] → length content ≡ 0)
     → made_items judge make pool end node inside ≡ Ok (with_length made)
@@ -168,12 +169,12 @@ module _ {A : Type 0} (pool : List ℕ) (fits : IsBytes pool) (judge : Judge A) 
               (omega (arith, items.made_size)) (λ empty. let zero_is = items.none empty in omega (arith, zero_is));
           made_size = omega (arith, items.made_size, part.used_is);
           bound = part.within;
-          again = λ other rest e twin alike st.
+          again = λ other rest e twin alike standing.
               let whole = made ++ rest in
               let read : judge_long_string whole ≡ took items.made (length made) =
               long_string_exact.taken made rest items.made (record { fits = long; bytes_are = refl }) in
               let within = e - length (drop (length made) whole) in
-              let begins = part_stands other whole items.made e 4 (length made) st (long_part whole items.made (length made) read) in
+              let begins = part_stands other whole items.made e 4 (length made) standing (long_part whole items.made (length made) read) in
               let twins = items.again other within begins in
               record {
                 nodes = holding (spanned twin within items.made) twins.more;
@@ -186,16 +187,19 @@ module _ {A : Type 0} (pool : List ℕ) (fits : IsBytes pool) (judge : Judge A) 
                     read
                     ∙ ap (λ r. took_all (length made) (read_map (holding (spanned twin within items.made)) r)) twins.is;
                 same = record {
-                  same = (record {
-                    kind_is = alike.kind;
-                  place_is = alike.place;
-                  number_is = alike.left.number ∙ sym alike.right.number;
-                  scale_is = alike.left.scale ∙ sym alike.right.scale;
-                  inside_is = as_many pool other group (joined twins.more) twins.same;
-                  items_are = sym twins.number;
-                  key_is = alike.key;
-                  span_is = λ no. absurd (no has_inside);
-                }, twins.same);
+                  same = (
+                    record {
+                      kind_is = alike.kind;
+                      place_is = alike.place;
+                      number_is = alike.left.number ∙ sym alike.right.number;
+                      scale_is = alike.left.scale ∙ sym alike.right.scale;
+                      inside_is = as_many pool other group (joined twins.more) twins.same;
+                      items_are = sym twins.number;
+                      key_is = alike.key;
+                      span_is = λ no. absurd (no has_inside);
+                    },
+                    twins.same,
+                  );
                   spans = λ alone. absurd cc;
                 };
               };

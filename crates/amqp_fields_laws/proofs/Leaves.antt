@@ -3,12 +3,12 @@ use Rattle.std.proofs.Common.{◌≡◌, ℕ, ℤ, ◌+◌, ◌-◌, ◌<◌, �
 use Rattle.std.proofs.Common.{ap, ap₂, subst, ◌∙◌, arith, nat_lt, nat_le, if◌then◌else◌}
 use Rattle.std.proofs.lemmas.Bool.Decides.{nat_tests}
 use Rattle.std.proofs.lemmas.Int.{of_z-to_z}
-use Rattle.std.proofs.lemmas.List.{length-append, length-take-le}
+use Rattle.std.proofs.lemmas.List.{length-take-le}
 use Rattle.std.proofs.lemmas.Str.{is_utf8-from_IsUtf8}
 use Rattle.std.specs.Int.{w64, cast_signed, cast_unsigned}
 use Rattle.std.specs.Str.{IsUtf8, is_utf8}
 use Rattle.amqp_types.specs.Levels.{plain}
-use Rattle.amqp_types.specs.Judging.{Judge, IsBytes, IsExact, took}
+use Rattle.amqp_types.specs.Judging.{IsBytes, took}
 use Rattle.amqp_types.specs.Numbers.{NumberWidth, bytes1, bytes2, bytes4, bytes8, judge_number, number_bytes, number_limit, width_of, SpellsNumber}
 use Rattle.amqp_types.specs.Signed.{judge_signed, SpellsSigned}
 use Rattle.amqp_types.specs.Booleans.{judge_boolean, SpellsBoolean}
@@ -24,7 +24,7 @@ use Rattle.amqp_laws.proofs.Exactly.{decimal_exact}
 use Rattle.amqp_fields.specs.declared.node.Node.{Node}
 use Rattle.amqp_fields.specs.declared.refusals.WriteRefusal.TheVariants as whys
 use Rattle.amqp_fields.specs.Listed.{listed_boolean, listed_decimal, listed_number, listed_signed, listed_span, scaled}
-use Rattle.amqp_fields.specs.Made.{Made, Maker, after, faulty, is_signed, made_if, made_long, made_number, made_signed, made_span, made_text, made_truth}
+use Rattle.amqp_fields.specs.Made.{Made, Maker, after, faulty, made_if, made_long, made_number, made_signed, made_span, made_text, made_truth}
 use Rattle.amqp_fields.specs.Made.{own_index, refuse, span_in}
 use Rattle.amqp_fields.specs.Meaning.{IsSpan}
 use Rattle.amqp_fields.specs.Nodes.{numbered, spanned}
@@ -44,7 +44,7 @@ mod_small bytes4 n few = omega (arith, few)
 mod_small bytes8 n few = omega (arith, few)
 
 -- a number within its width makes its bytes
-pub number_made : (width : NumberWidth) (index n : ℕ) → n < number_limit width → made_number width index n ≡ Ok (number_bytes width n)
+number_made : (width : NumberWidth) (index n : ℕ) → n < number_limit width → made_number width index n ≡ Ok (number_bytes width n)
 number_made width index n few =
     let less : nat_lt n (number_limit width) ≡ true = grind (arith, nat_tests, few) in
     ap (λ test. made_if test index (number_bytes width (n % number_limit width))) less ∙ ap (λ k. Ok (number_bytes width k)) (mod_small width n few)
@@ -91,29 +91,35 @@ span_made make index pool content start count span =
 -- two nodes that are alike, with one number
 pub same_number : (pool other : List ℕ) (a b : Node) (n : ℕ) → AreAlike pool other a b
     → IsSameNode pool other (numbered a n) (numbered b n) × IsSameSpan pool a.start a.length other b.start b.length
-same_number pool other a b n alike = (record {
-  kind_is = alike.kind;
-  place_is = alike.place;
-  number_is = refl;
-  scale_is = alike.left.scale ∙ sym alike.right.scale;
-  inside_is = alike.left.inside ∙ sym alike.right.inside;
-  items_are = alike.left.items ∙ sym alike.right.items;
-  key_is = alike.key;
-  span_is = λ no. no_bytes pool other a b alike;
-}, no_bytes pool other a b alike)
+same_number pool other a b n alike = (
+  record {
+    kind_is = alike.kind;
+    place_is = alike.place;
+    number_is = refl;
+    scale_is = alike.left.scale ∙ sym alike.right.scale;
+    inside_is = alike.left.inside ∙ sym alike.right.inside;
+    items_are = alike.left.items ∙ sym alike.right.items;
+    key_is = alike.key;
+    span_is = λ no. no_bytes pool other a b alike;
+  },
+  no_bytes pool other a b alike,
+)
 
 same_scaled : (pool other : List ℕ) (a b : Node) (d : ℕ × ℕ) → AreAlike pool other a b
     → IsSameNode pool other (scaled a d) (scaled b d) × IsSameSpan pool a.start a.length other b.start b.length
-same_scaled pool other a b d alike = (record {
-  kind_is = alike.kind;
-  place_is = alike.place;
-  number_is = refl;
-  scale_is = refl;
-  inside_is = alike.left.inside ∙ sym alike.right.inside;
-  items_are = alike.left.items ∙ sym alike.right.items;
-  key_is = alike.key;
-  span_is = λ no. no_bytes pool other a b alike;
-}, no_bytes pool other a b alike)
+same_scaled pool other a b d alike = (
+  record {
+    kind_is = alike.kind;
+    place_is = alike.place;
+    number_is = refl;
+    scale_is = refl;
+    inside_is = alike.left.inside ∙ sym alike.right.inside;
+    items_are = alike.left.items ∙ sym alike.right.items;
+    key_is = alike.key;
+    span_is = λ no. no_bytes pool other a b alike;
+  },
+  no_bytes pool other a b alike,
+)
 
 -- nothing is changed but numbers
 keeps_numbered : (a : Node) (n : ℕ) → Keeps a (numbered a n)
@@ -189,7 +195,8 @@ module _ {alone : Bool} (pool bytes : List ℕ) (fits : IsBytes bytes) (make : M
       let number_fits : d.1 < number_limit bytes4 = subst (λ k. k < number_limit bytes4) (sym number) s.second_is.fits in
       let made = number_bytes bytes1 d.0 ++ number_bytes bytes4 d.1 in
       let is : take n bytes ≡ made =
-      s.bytes_are ∙ ap₂ (λ x y. x ++ y) (s.first_is.bytes_are ∙ ap (number_bytes bytes1) (sym scale)) (s.second_is.bytes_are ∙ ap (number_bytes bytes4) (sym number)) in
+      s.bytes_are
+      ∙ ap₂ (λ x y. x ++ y) (s.first_is.bytes_are ∙ ap (number_bytes bytes1) (sym scale)) (s.second_is.bytes_are ∙ ap (number_bytes bytes4) (sym number)) in
       leaf_round judge_decimal SpellsDecimal decimal_exact scaled (λ a k. record { key_start = refl; key_length = refl; place = refl; kind = refl })
       (λ a k. refl) same_scaled pool bytes make label d n made fresh read.1 h
       (record {

@@ -7,4 +7,5 @@ mod Fields
 mod Properties
 mod Payloads
 mod Frames
-mod FramesRound
+mod FrameBytes
+mod FramesAgain

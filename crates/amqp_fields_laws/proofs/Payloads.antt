@@ -1,5 +1,6 @@
 -- The payloads of frames that were read are made, and are read again as the same nodes.
-use Rattle.std.proofs.Common.{◌≡◌, ℕ, ◌+◌, ◌≤◌, ◌<◌, ◌^◌, List, [], ◌∷◌, ◌++◌, length, drop, Some, Ok, refl, sym, ap, subst, ◌∙◌, append_assoc, append-nil, arith}
+use Rattle.std.proofs.Common.{◌≡◌, ℕ, ◌+◌, ◌≤◌, ◌<◌, ◌^◌, List, [], ◌∷◌, ◌++◌, length, drop, Some, Ok, refl, sym, ap, subst, ◌∙◌}
+use Rattle.std.proofs.Common.{append_assoc, append-nil, arith}
 use Rattle.std.proofs.lemmas.List.{drop_at, length-append, length-drop}
 use Rattle.std.specs.Prelude.{Bool, not}
 use Rattle.amqp_types.specs.Judging.{Judged, IsBytes, took, ◌>>=◌, unknown_class, unknown_method}
@@ -8,15 +9,16 @@ use Rattle.amqp_types.specs.Slots.{number_item, Slot}
 use Rattle.amqp_types.specs.SlotJudging.{judge_form, judge_slots}
 use Rattle.amqp_types.specs.Rows.{rows_of, slots_at}
 use Rattle.amqp_types.specs.Methods.{Method, method, known, judge_in_class, judge_method, judge_payload}
-use Rattle.amqp_types.specs.ContentHeaders.{ContentHeader, header_of_parts, header_slots, judge_content_header}
+use Rattle.amqp_types.specs.ContentHeaders.{ContentHeader, header_slots, judge_content_header}
 use Rattle.amqp_types.specs.PropertyJudging.{judge_properties}
 use Rattle.amqp_types.proofs.Numbers.{number_exact}
-use Rattle.amqp_types.proofs.Took.{bind_took, value_took, count_took}
+use Rattle.amqp_types.proofs.Took.{bind_took, value_took}
 use Rattle.amqp_laws.proofs.MethodLaws.{in_table}
 use Rattle.amqp_wire.specs.declared.frame_type.AMQPFrameType.{AMQPFrameType}
 use Rattle.amqp_wire.specs.declared.frame_type.AMQPFrameType.TheVariants as kinds
 use Rattle.amqp_fields.specs.declared.node.Node.{Node}
-use Rattle.amqp_fields.specs.Listed.{listed_header, listed_known, listed_method, listed_payload, listed_properties, listed_slots, nodes_of, payload_nodes, version_slots}
+use Rattle.amqp_fields.specs.Listed.{listed_header, listed_known, listed_method, listed_payload, listed_properties, listed_slots}
+use Rattle.amqp_fields.specs.Listed.{nodes_of, payload_nodes, version_slots}
 use Rattle.amqp_fields.specs.Made.{Made, after}
 use Rattle.amqp_fields.specs.MadeFields.{made_properties, made_slots}
 use Rattle.amqp_fields.proofs.PayloadsFound.{few_spare, front_used, known_took}
@@ -38,7 +40,7 @@ module _ (pool : List ℕ) (fits : IsBytes pool) (deep : Bool) where
 
   -- no bytes after them
   alone : (other made : List ℕ) (end : ℕ) → Stands other end made → Stands other end (made ++ [])
-  alone other made end st = subst (Stands other end) (sym (append-nil made)) st
+  alone other made end standing = subst (Stands other end) (sym (append-nil made)) standing
 
   -- ---- methods
 
@@ -68,15 +70,15 @@ module _ (pool : List ℕ) (fits : IsBytes pool) (deep : Bool) where
       → (other : List ℕ) (end : ℕ) → Stands other end ((number_bytes bytes2 class ++ number_bytes bytes2 id) ++ made.made)
       → AreSame (not deep) pool other made.nodes (payload_nodes kinds.Method deep end ((number_bytes bytes2 class ++ number_bytes bytes2 id) ++ made.made))
   unfolding listed_payload
-  fields_again class id slots is class_fits id_fits made other end st =
+  fields_again class id slots is class_fits id_fits made other end standing =
       let a = number_bytes bytes2 class in
       let b = number_bytes bytes2 id in
       let front = a ++ b in
       let bytes = front ++ made.made in
       let past : drop (length front) bytes ≡ made.made = drop_at front made.made (length front) refl in
-      let st_behind : Stands other end made.made =
-      subst (Stands other end) past (stands_drop other bytes end (length front) st (omega (arith, length-append front made.made))) in
-      let again = made.again other [] end (alone other made.made end st_behind) in
+      let behind_standing : Stands other end made.made =
+      subst (Stands other end) past (stands_drop other bytes end (length front) standing (omega (arith, length-append front made.made))) in
+      let again = made.again other [] end (alone other made.made end behind_standing) in
       let read : listed_method deep end bytes ≡ took again.nodes (length made.made) =
       ap (listed_method deep end) (append_assoc a b made.made) ∙ fields_listed class id slots is class_fits id_fits end made.made
       ∙ ap (listed_slots deep end 0 slots) (sym (append-nil made.made)) ∙ again.is in
@@ -123,7 +125,8 @@ module _ (pool : List ℕ) (fits : IsBytes pool) (deep : Bool) where
           nodes = made.nodes;
           used = items.1;
           is =
-              ap (λ j. j >>= λ c. judge_number bytes2 (drop c.1 payload) >>= λ i. listed_known deep end (slots_at c.0 i.0) (drop i.1 (drop c.1 payload))) class.2
+              ap
+              (λ j. j >>= λ c. judge_number bytes2 (drop c.1 payload) >>= λ i. listed_known deep end (slots_at c.0 i.0) (drop i.1 (drop c.1 payload))) class.2
               ∙ ap (λ j. j >>= λ i. listed_known deep end (slots_at class.0 i.0) (drop i.1 behind)) id.2
               ∙ ap (λ o. listed_known deep end o fields) at ∙ made.is;
           made = bytes;
@@ -141,7 +144,7 @@ module _ (pool : List ℕ) (fits : IsBytes pool) (deep : Bool) where
             length-drop class.1 payload,
             length-drop id.1 behind,
           );
-          again = λ other e st. fields_again class.0 id.0 slots.0 at table.class_fits table.id_fits made other e st;
+          again = λ other e standing. fields_again class.0 id.0 slots.0 at table.class_fits table.id_fits made other e standing;
         };
       } in
       subst (λ x. IsKnown x (listed_method deep end payload) (length payload)) is said
@@ -161,24 +164,24 @@ module _ (pool : List ℕ) (fits : IsBytes pool) (deep : Bool) where
       let parts = front_used payload first.0 first.1 first.2 in
       let behind = drop first.1 payload in
       let set = bind_took (judge_properties behind) _ header n first.3 in
-      let props = properties_round pool fits deep end behind set.0 set.1 (stands_drop pool payload end first.1 stands parts.1) set.2 in
-      let made = front ++ props.made in
-      let size = length-append front props.made in
+      let set_made = properties_round pool fits deep end behind set.0 set.1 (stands_drop pool payload end first.1 stands parts.1) set.2 in
+      let made = front ++ set_made.made in
+      let size = length-append front set_made.made in
       record {
-        nodes = props.nodes;
+        nodes = set_made.nodes;
         used = set.1;
-        is = ap (λ k. listed_properties deep end (drop k payload)) (sym parts.0) ∙ props.is;
+        is = ap (λ k. listed_properties deep end (drop k payload)) (sym parts.0) ∙ set_made.is;
         made = made;
-        made_is = λ e. ap (after (Ok front)) (props.made_is e);
-        made_size = omega (arith, size, twelve, parts.0, parts.1, props.made_size, props.bound, length-drop first.1 payload);
-        again = λ other e st.
-            let past_front : drop 12 made ≡ props.made = drop_at front props.made 12 twelve in
-            let st_behind : Stands other e props.made =
-            subst (Stands other e) past_front (stands_drop other made e 12 st (omega (arith, size, twelve))) in
-            let again = props.again other [] e (alone other props.made e st_behind) in
-            let read : listed_header deep e made ≡ took again.nodes (length props.made) =
-            ap (listed_properties deep e) (past_front ∙ sym (append-nil props.made)) ∙ again.is in
-            subst (AreSame (not deep) pool other props.nodes) (sym (ap nodes_of read)) again.same;
+        made_is = λ e. ap (after (Ok front)) (set_made.made_is e);
+        made_size = omega (arith, size, twelve, parts.0, parts.1, set_made.made_size, set_made.bound, length-drop first.1 payload);
+        again = λ other e standing.
+            let past_front : drop 12 made ≡ set_made.made = drop_at front set_made.made 12 twelve in
+            let behind_standing : Stands other e set_made.made =
+            subst (Stands other e) past_front (stands_drop other made e 12 standing (omega (arith, size, twelve))) in
+            let again = set_made.again other [] e (alone other set_made.made e behind_standing) in
+            let read : listed_header deep e made ≡ took again.nodes (length set_made.made) =
+            ap (listed_properties deep e) (past_front ∙ sym (append-nil set_made.made)) ∙ again.is in
+            subst (AreSame (not deep) pool other set_made.nodes) (sym (ap nodes_of read)) again.same;
       }
 
   -- ---- protocol headers
@@ -202,8 +205,8 @@ module _ (pool : List ℕ) (fits : IsBytes pool) (deep : Bool) where
         made = made.made;
         made_is = made.made_is;
         made_size = made.made_size;
-        again = λ other e st.
-            let again = made.again other [] e (alone other made.made e st) in
+        again = λ other e standing.
+            let again = made.again other [] e (alone other made.made e standing) in
             let read : listed_slots deep e 0 version_slots made.made ≡ took again.nodes (length made.made) =
             ap (listed_slots deep e 0 version_slots) (sym (append-nil made.made)) ∙ again.is in
             subst (AreSame (not deep) pool other made.nodes) (sym (ap nodes_of read)) again.same;

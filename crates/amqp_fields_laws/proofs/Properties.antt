@@ -1,5 +1,6 @@
 -- Properties that were read are made, with the mask of those that are set, and are read again as the same nodes.
-use Rattle.std.proofs.Common.{◌≡◌, ℕ, ◌+◌, ◌-◌, ◌<◌, ◌≤◌, ◌==◌, Bool, true, false, not, List, [], ◌∷◌, ◌++◌, length, map, drop, None, Some, Ok, refl, sym, ap, ap₂, subst}
+use Rattle.std.proofs.Common.{◌≡◌, ℕ, ◌+◌, ◌-◌, ◌<◌, ◌≤◌, Bool, true, false, not, List, [], ◌∷◌, ◌++◌, length, map, drop, None, Some}
+use Rattle.std.proofs.Common.{Ok, refl, sym, ap, ap₂, subst}
 use Rattle.std.proofs.Common.{◌∙◌, append_assoc, arith, if◌then◌else◌}
 use Rattle.std.specs.Prelude.{is_some, Option}
 use Rattle.std.proofs.lemmas.Bool.Decides.{nat_tests}
@@ -8,7 +9,7 @@ use Rattle.amqp_types.specs.Judging.{Judged, IsBytes, took, ◌>>=◌}
 use Rattle.amqp_types.specs.Sequences.{judge_both}
 use Rattle.amqp_types.specs.Numbers.{bytes2, judge_number, number_bytes}
 use Rattle.amqp_types.specs.Flags.{flag_at}
-use Rattle.amqp_types.specs.Slots.{Item, number_item, Form}
+use Rattle.amqp_types.specs.Slots.{Item, number_item}
 use Rattle.amqp_types.specs.SlotJudging.{judge_form}
 use Rattle.amqp_types.specs.Properties.{Property, properties}
 use Rattle.amqp_types.specs.PropertyBytes.{mask_of}
@@ -19,12 +20,11 @@ use Rattle.amqp_laws.proofs.Masks.{IsMaskOf, flags_mask, flags_mask_is, mask_of-
 use Rattle.amqp_fields.specs.declared.node.Node.{Node}
 use Rattle.amqp_fields.specs.Listed.{listed_form, listed_option, listed_properties, listed_set, next_place, placed}
 use Rattle.amqp_fields.specs.Made.{after}
-use Rattle.amqp_fields.specs.MadeFields.{group_size, is_next, made_field, made_none, made_properties, made_set, set_at}
+use Rattle.amqp_fields.specs.MadeFields.{group_size, is_next, made_field, made_properties, made_set, set_at}
 use Rattle.amqp_fields.proofs.MeantFieldsMade.{IsOne}
 use Rattle.amqp_fields.proofs.MeantFramesMade.{AreOne, all_one}
 use Rattle.amqp_fields.proofs.PayloadsFound.{fourteen}
 use Rattle.amqp_fields.proofs.Spans.{Stands, byte_below, number_took, stands_drop}
-use Rattle.amqp_fields.proofs.ValuesFound.{map_took}
 use Rattle.amqp_fields_laws.proofs.Fields.{IsField, field_made, form_round, fresh_field, group_passed}
 use Rattle.amqp_fields_laws.proofs.Twins.{IsTwin, alike_itself, both_again, none_same}
 
@@ -53,11 +53,13 @@ module _ (pool : List ℕ) (fits : IsBytes pool) (deep : Bool) where
     next_is = byte_below (place + 1) room
 
     -- a list of flags, by its first one
-    flags_same : (twin : ℕ) → set_flags twin (p ∷ ps) ≡ set_flags mask (p ∷ ps) → (flag_at twin p.bit ≡ flag_at mask p.bit) × (set_flags twin ps ≡ set_flags mask ps)
+    flags_same : (twin : ℕ) → set_flags twin (p ∷ ps) ≡ set_flags mask (p ∷ ps)
+        → (flag_at twin p.bit ≡ flag_at mask p.bit) × (set_flags twin ps ≡ set_flags mask ps)
     flags_same twin h = (cc, cc)
 
     -- the first one is not set
-    past_one : (n : ℕ) → flag_at mask p.bit ≡ false → AreSet mask (next_place place 1) ps (listed_set mask deep end (next_place place 1) ps bytes) (length bytes) n
+    past_one : (n : ℕ) → flag_at mask p.bit ≡ false
+        → AreSet mask (next_place place 1) ps (listed_set mask deep end (next_place place 1) ps bytes) (length bytes) n
         → AreSet mask place (p ∷ ps) (listed_set mask deep end place (p ∷ ps) bytes) (length bytes) n
     unfolding listed_set listed_option made_set set_at next
     past_one n off rest =
@@ -66,7 +68,10 @@ module _ (pool : List ℕ) (fits : IsBytes pool) (deep : Bool) where
         record {
           nodes = nodes;
           is =
-              ap (λ b. listed_option b deep end place p.form bytes >>= λ x. listed_set mask deep end next ps (drop x.1 bytes) >>= λ y. took (x.0 ++ y.0) (x.1 + y.1)) off
+              ap
+              (λ b. listed_option b deep end place p.form bytes
+              >>= λ x. listed_set mask deep end next ps (drop x.1 bytes) >>= λ y. took (x.0 ++ y.0) (x.1 + y.1))
+              off
               ∙ ap (λ j. j >>= λ y. took y.0 (0 + y.1)) rest.is ∙ ap (took nodes) {x = 0 + n} {y = n} (omega arith);
           later = λ before less. rest.later before (omega (arith, less, next_is));
           chosen =
@@ -83,9 +88,9 @@ module _ (pool : List ℕ) (fits : IsBytes pool) (deep : Bool) where
               ∙ rest.made_is e;
           made_size = rest.made_size;
           bound = rest.bound;
-          again = λ other tail e twin flags st.
+          again = λ other tail e twin flags standing.
               let same = flags_same twin flags in
-              let again = rest.again other tail e twin same.1 st in
+              let again = rest.again other tail e twin same.1 standing in
               record {
                 nodes = again.nodes;
                 is =
@@ -114,7 +119,10 @@ module _ (pool : List ℕ) (fits : IsBytes pool) (deep : Bool) where
         record {
           nodes = nodes;
           is =
-              ap (λ t. listed_option t deep end place p.form bytes >>= λ x. listed_set mask deep end next ps (drop x.1 bytes) >>= λ y. took (x.0 ++ y.0) (x.1 + y.1)) on
+              ap
+              (λ t. listed_option t deep end place p.form bytes
+              >>= λ x. listed_set mask deep end next ps (drop x.1 bytes) >>= λ y. took (x.0 ++ y.0) (x.1 + y.1))
+              on
               ∙ ap (λ j. j >>= λ x. listed_set mask deep end next ps (drop x.1 bytes) >>= λ y. took (x.0 ++ y.0) (x.1 + y.1)) field.is
               ∙ ap (λ j. j >>= λ y. took ((node ∷ field.inside) ++ y.0) (a + y.1)) rest.is;
           later = λ before less. grind (arith, nat_tests, field.keeps.place, less);
@@ -134,20 +142,23 @@ module _ (pool : List ℕ) (fits : IsBytes pool) (deep : Bool) where
               ∙ ap (after (Ok field.made)) (rest.made_is e);
           made_size = omega (arith, size, field.made_size, rest.made_size);
           bound = omega (arith, field.bound, rest.bound, length-drop a bytes);
-          again = λ other tail e twin flags st.
+          again = λ other tail e twin flags standing.
               let same = flags_same twin flags in
               subst
               (λ t.
-              IsTwin (not deep) pool other nodes (judge_both (listed_option t deep e place p.form) (listed_set twin deep e next ps) (λ x y. x ++ y) (made ++ tail)) (length made))
+              IsTwin (not deep) pool other nodes
+              (judge_both (listed_option t deep e place p.form) (listed_set twin deep e next ps) (λ x y. x ++ y) (made ++ tail)) (length made))
               (sym (same.0 ∙ on))
               (both_again (not deep) pool other (listed_form deep e place p.form) (listed_set twin deep e next ps) (node ∷ field.inside) rest.nodes
-              field.made rest.made tail e (λ more here. field.again other more e (placed place p.form) (alike_itself pool other (placed place p.form) (fresh_field place p.form) refl) here)
-              (λ here. rest.again other tail e twin same.1 here) st);
+              field.made rest.made tail e
+              (λ more here. field.again other more e (placed place p.form) (alike_itself pool other (placed place p.form) (fresh_field place p.form) refl) here)
+              (λ here. rest.again other tail e twin same.1 here) standing);
         }
 
   by_flag : (mask place : ℕ) (p : Property) (ps : List Property) (end : ℕ) (bytes : List ℕ) (option : Option Item) (a b : ℕ) → IsOne p.form → place + 1 < 256
       → Stands pool end bytes → (set : Bool) → flag_at mask p.bit ≡ set → judge_optional set p.form bytes ≡ took option a
-      → (Stands pool end (drop a bytes) → AreSet mask (next_place place 1) ps (listed_set mask deep end (next_place place 1) ps (drop a bytes)) (length (drop a bytes)) b)
+      → (Stands pool end (drop a bytes)
+      → AreSet mask (next_place place 1) ps (listed_set mask deep end (next_place place 1) ps (drop a bytes)) (length (drop a bytes)) b)
       → AreSet mask place (p ∷ ps) (listed_set mask deep end place (p ∷ ps) bytes) (length bytes) (a + b)
   unfolding judge_optional
   by_flag mask place p ps end bytes option a b one room stands false off h others =
@@ -177,7 +188,7 @@ module _ (pool : List ℕ) (fits : IsBytes pool) (deep : Bool) where
         made_is = λ e. refl;
         made_size = omega arith;
         bound = omega (arith, used);
-        again = λ other rest e twin flags st. record { nodes = []; is = refl; same = none_same pool other };
+        again = λ other rest e twin flags standing. record { nodes = []; is = refl; same = none_same pool other };
       }
   set_round mask (p ∷ ps) one end place bytes options n room stands h =
       let set = flag_at mask p.bit in
@@ -231,15 +242,16 @@ module _ (pool : List ℕ) (fits : IsBytes pool) (deep : Bool) where
         made_is = λ e. ap (after (Ok number)) (set.made_is e);
         made_size = omega (arith, size, set.made_size, used, front.0);
         bound = omega (arith, used, front.1, set.bound, length-drop mask.1 bytes);
-        again = λ other rest e st.
+        again = λ other rest e standing.
             let parts : (number ++ set.made) ++ rest ≡ number ++ (set.made ++ rest) = append_assoc number set.made rest in
             let whole = number ++ (set.made ++ rest) in
-            let stw = subst (Stands other e) parts st in
+            let whole_standing = subst (Stands other e) parts standing in
             let behind : drop (length number) whole ≡ set.made ++ rest = drop_at number (set.made ++ rest) (length number) refl in
             let got = (number_exact bytes2).taken number (set.made ++ rest) twin (record { fits = is.fits; bytes_are = refl }) in
             let again =
             set.again other rest e twin is.set
-            (subst (Stands other e) behind (stands_drop other whole e (length number) stw (omega (arith, length-append number (set.made ++ rest))))) in
+            (subst (Stands other e) behind
+            (stands_drop other whole e (length number) whole_standing (omega (arith, length-append number (set.made ++ rest))))) in
             record {
               nodes = again.nodes;
               is =

@@ -1,6 +1,6 @@
 -- Nodes that were read, what they make, and the nodes that are read of it again.
-use Rattle.std.proofs.Common.{◌≡◌, ℕ, suc, ◌+◌, Bool, true, false, ◌-◌, ◌≤◌, List, [], ◌∷◌, ◌++◌, length, take, drop, Ok, refl, sym, ap, subst, ◌∙◌, append_assoc}
-use Rattle.std.proofs.Common.{arith}
+use Rattle.std.proofs.Common.{◌≡◌, ℕ, suc, ◌+◌, ◌-◌, ◌≤◌, Bool, true, false, List, [], ◌∷◌, ◌++◌, length, take, drop, Ok, refl, sym, ap, subst}
+use Rattle.std.proofs.Common.{◌∙◌, append_assoc, arith}
 use Rattle.std.proofs.lemmas.List.{drop_at, length-append}
 use Rattle.amqp_types.specs.Judging.{Judged, Judge, IsBytes, IsExact, took, ◌>>=◌}
 use Rattle.amqp_types.specs.Sequences.{judge_both, judge_map}
@@ -40,7 +40,7 @@ alike_itself pool other label fresh none = record {
   right = fresh;
 }
 
--- nodes that say the same, and where they stand alone also those of tables have spans of the same bytes
+-- Nodes say the same. Where tables stand alone, without their entries, the spans of all nodes are of the same bytes too.
 pub record AreSame (alone : Bool) (pool other : List ℕ) (nodes more : List Node) : Type 0 where
   pub same : SameNodes pool other nodes more
   pub spans : alone ≡ true → SameSpans pool other nodes more
@@ -51,8 +51,8 @@ pub record IsTwin (alone : Bool) (pool other : List ℕ) (group : List Node) (li
   pub is : listed ≡ took nodes used
   pub same : AreSame alone pool other group nodes
 
--- What was listed is a node and those inside it. They make no more bytes than were read, which wherever they stand are listed again as
--- nodes that say the same, where the node in front is alike.
+-- What was listed is a node and those inside it. They make no more bytes than were read, and these are listed again, wherever they stand
+-- and behind any node that is alike, as nodes that say the same.
 pub record IsRound (alone : Bool) (pool : List ℕ) (Kept : Node → Type 0) (make : Maker) (label : Node)
     (listed : Judged (List Node)) (relisted : ℕ → Node → Judge (List Node)) (size used : ℕ) : Type 0 where
   pub node : Node
@@ -67,7 +67,7 @@ pub record IsRound (alone : Bool) (pool : List ℕ) (Kept : Node → Type 0) (ma
   pub again : (other rest : List ℕ) (end : ℕ) (twin : Node) → AreAlike pool other label twin → Stands other end (made ++ rest)
       → IsTwin alone pool other (node ∷ inside) (relisted end twin (made ++ rest)) (length made)
 
--- The same of a thing of at least one byte, whose node in front does not change.
+-- The same of a thing of at least one byte, where the bytes alone decide what is listed.
 pub record IsItem (pool : List ℕ) (make : Maker) (listed : Judged (List Node)) (relisted : ℕ → Judge (List Node)) (size used : ℕ) : Type 0 where
   pub node : Node
   pub inside : List Node
@@ -98,11 +98,12 @@ as_item {pool} {Kept} {make} {label} round fresh none some = record {
   again = λ other rest end stands. round.again other rest end label (alike_itself pool other label fresh none) stands;
 }
 
--- nodes that nothing was read for have no bytes
+-- nodes for which nothing was read yet have no bytes
 pub no_bytes : (pool other : List ℕ) (a b : Node) → AreAlike pool other a b → IsSameSpan pool a.start a.length other b.start b.length
-no_bytes pool other a b alike =
-    (alike.left.count ∙ sym alike.right.count,
-    ap (λ n. take n (drop a.start pool)) alike.left.count ∙ sym (ap (λ n. take n (drop b.start other)) alike.right.count))
+no_bytes pool other a b alike = (
+  alike.left.count ∙ sym alike.right.count,
+  ap (λ n. take n (drop a.start pool)) alike.left.count ∙ sym (ap (λ n. take n (drop b.start other)) alike.right.count),
+)
 
 -- ---- lists
 
@@ -114,6 +115,7 @@ module _ (pool other : List ℕ) where
   as_many (a ∷ ns) [] h = absurd h
   as_many (a ∷ ns) (b ∷ ms) h = ap suc (as_many ns ms h.1)
 
+  -- spans of the same bytes, and then others
   spans_append : (ns ms more rest : List Node) → SameSpans pool other ns ms → SameSpans pool other more rest → SameSpans pool other (ns ++ more) (ms ++ rest)
   spans_append [] [] more rest one two = two
   spans_append [] (b ∷ ms) more rest one two = absurd one
@@ -145,10 +147,11 @@ pub both_again : (alone : Bool) (pool other : List ℕ) (first second : Judge (L
 both_again alone pool other first second a b one two rest end first_again second_again stands =
     let parts : (one ++ two) ++ rest ≡ one ++ (two ++ rest) = append_assoc one two rest in
     let whole = one ++ (two ++ rest) in
-    let st = subst (Stands other end) parts stands in
-    let front = first_again (two ++ rest) st in
+    let standing = subst (Stands other end) parts stands in
+    let front = first_again (two ++ rest) standing in
     let behind : drop (length one) whole ≡ two ++ rest = drop_at one (two ++ rest) (length one) refl in
-    let left = second_again (subst (Stands other end) behind (stands_drop other whole end (length one) st (omega (arith, length-append one (two ++ rest))))) in
+    let left =
+    second_again (subst (Stands other end) behind (stands_drop other whole end (length one) standing (omega (arith, length-append one (two ++ rest))))) in
     record {
       nodes = front.nodes ++ left.nodes;
       is =

@@ -1,9 +1,9 @@
 -- Values that were read are made, and are read again as the same nodes.
-use Rattle.std.proofs.Common.{◌≡◌, ℕ, zero, suc, ◌+◌, ◌-◌, ◌<◌, ◌≤◌, ◌^◌, false, List, [], ◌∷◌, ◌++◌, length, drop, Option, Some, None, Ok, inl, inr, refl, sym, ap, ap₂}
+use Rattle.std.proofs.Common.{◌≡◌, ℕ, zero, suc, ◌+◌, ◌-◌, ◌≤◌, false, List, [], ◌∷◌, ◌++◌, length, drop, Option, Some, None, Ok, inl, inr, refl, sym, ap, ap₂}
 use Rattle.std.proofs.Common.{subst, ◌∙◌, append_assoc, arith}
 use Rattle.std.proofs.lemmas.List.{drop_at, length-append, length-drop}
 use Rattle.amqp_types.specs.Judging.{Judge, Judged, IsBytes, took, ◌>>=◌}
-use Rattle.amqp_types.specs.Numbers.{NumberWidth, bytes1, bytes2, bytes4, bytes8, judge_number}
+use Rattle.amqp_types.specs.Numbers.{bytes1, bytes2, bytes4, bytes8, judge_number}
 use Rattle.amqp_types.specs.Signed.{judge_signed}
 use Rattle.amqp_types.specs.Booleans.{judge_boolean}
 use Rattle.amqp_types.specs.Strings.{judge_long_string, judge_short_string, short_string_bytes}
@@ -17,12 +17,12 @@ use Rattle.amqp_types.specs.Tags.{tag_at, tag_byte}
 use Rattle.amqp_types.specs.declared.tag.FieldTag.{FieldTag}
 use Rattle.amqp_types.specs.declared.tag.FieldTag.TheVariants as tag
 use Rattle.amqp_types.proofs.Texts.{short_string_exact}
-use Rattle.amqp_types.proofs.Took.{bind_took, value_took, count_took}
+use Rattle.amqp_types.proofs.Took.{bind_took, count_took}
 use Rattle.amqp_laws.proofs.Tags.{tag_read}
 use Rattle.amqp_fields.specs.declared.node.Node.{Node}
 use Rattle.amqp_fields.specs.Nodes.{blank, keyed}
 use Rattle.amqp_fields.specs.Listed.{end_before, listed_after, listed_behind, listed_entry, listed_nested, listed_value, listed_tagged, of_kind}
-use Rattle.amqp_fields.specs.Made.{Maker, after, made_behind, made_entry, made_leaf, made_long, made_nested, made_span, made_text, made_value, own_index}
+use Rattle.amqp_fields.specs.Made.{after, made_behind, made_entry, made_leaf, made_long, made_nested, made_text, made_value, own_index}
 use Rattle.amqp_fields.specs.Meaning.{IsSpan}
 use Rattle.amqp_fields.proofs.Spans.{Stands, part_stands, short_part, span_of, stands_drop}
 use Rattle.amqp_fields.proofs.ValuesFound.{IsFresh, Keeps, all_took, keeps_itself, map_read, map_took}
@@ -45,7 +45,7 @@ pub record HasContent {A : Type 0} (judge : Judge A) (bytes : List ℕ) (n : ℕ
   pub fills : filled judge 0 content ≡ Ok things
 
 -- the content of an array
-pub array_content : (value : Judge FieldValue) (bytes : List ℕ) (vs : List FieldValue) (n : ℕ) → judge_array value bytes ≡ took vs n → HasContent value bytes n
+array_content : (value : Judge FieldValue) (bytes : List ℕ) (vs : List FieldValue) (n : ℕ) → judge_array value bytes ≡ took vs n → HasContent value bytes n
 unfolding judge_array
 array_content value bytes vs n h =
     let one = bind_took (judge_long_string bytes) _ vs n h in
@@ -82,7 +82,7 @@ module _ (pool : List ℕ) (fits : IsBytes pool) where
   AreBelow (suc depth_left) = AreValues depth_left
 
   -- a value that stands in an array
-  pub element_round : (depth_left : ℕ) → AreValues depth_left → (end : ℕ) (bytes : List ℕ) (v : FieldValue) (n : ℕ) → Stands pool end bytes
+  element_round : (depth_left : ℕ) → AreValues depth_left → (end : ℕ) (bytes : List ℕ) (v : FieldValue) (n : ℕ) → Stands pool end bytes
       → judge_value depth_left bytes ≡ took v n
       → IsItem pool (made_value pool depth_left) (listed_value depth_left end blank bytes) (λ e bs. listed_value depth_left e blank bs) (length bytes) n
   element_round depth_left values end bytes v n stands h =
@@ -114,21 +114,21 @@ module _ (pool : List ℕ) (fits : IsBytes pool) where
       let P : ℕ → Type 0 = λ s. IsSpan pool s node.key_length key in
       let Q : ℕ → Type 0 = λ l. IsSpan pool label.key_start l key in
       let key_span : IsSpan pool node.key_start node.key_length key = subst P (sym v.keeps.0) (subst Q (sym v.keeps.1) span) in
-      let text = ((short_string_exact).spelled bytes key one.1 (stands_fit pool fits end bytes stands) one.2).0 in
+      let text = (short_string_exact.spelled bytes key one.1 (stands_fit pool fits end bytes stands) one.2).0 in
       let front = short_string_bytes key in
       let made = front ++ v.made in
       let size = length-append front v.made in
       let again_at : (other rest : List ℕ) (e : ℕ) → Stands other e (front ++ (v.made ++ rest))
       → IsTwin false pool other (node ∷ v.inside) (listed_entry (listed_value depth_left) e (front ++ (v.made ++ rest))) (length made) =
-      λ other rest e st.
+      λ other rest e standing.
       let whole = front ++ (v.made ++ rest) in
       let read : judge_short_string whole ≡ took key (length front) =
-      (short_string_exact).taken front (v.made ++ rest) key (record { fits = text.fits; utf8 = text.utf8; bytes_are = refl }) in
+      short_string_exact.taken front (v.made ++ rest) key (record { fits = text.fits; utf8 = text.utf8; bytes_are = refl }) in
       let begins = short_part whole key (length front) read in
       let behind : drop (length front) whole ≡ v.made ++ rest = drop_at front (v.made ++ rest) (length front) refl in
       let there = e - length (drop (length front) whole) in
       let twin = keyed there key in
-      let twin_span = span_of other key there (part_stands other whole key e 1 (length front) st begins) in
+      let twin_span = span_of other key there (part_stands other whole key e 1 (length front) standing begins) in
       let alike : AreAlike pool other label twin = record {
         kind = refl;
         place = refl;
@@ -136,7 +136,7 @@ module _ (pool : List ℕ) (fits : IsBytes pool) where
         left = fresh_key at key;
         right = fresh_key there key;
       } in
-      let again = v.again other rest e twin alike (subst (Stands other e) behind (stands_drop other whole e (length front) st begins.within)) in
+      let again = v.again other rest e twin alike (subst (Stands other e) behind (stands_drop other whole e (length front) standing begins.within)) in
       record {
         nodes = again.nodes;
         is =
@@ -161,10 +161,10 @@ module _ (pool : List ℕ) (fits : IsBytes pool) where
         made_size = omega (arith, size, v.made_size, part.used_is, count);
         some = omega (arith, size);
         bound = omega (arith, count, v.bound, part.within, length-drop one.1 bytes);
-        again = λ other rest e st.
+        again = λ other rest e standing.
             let parts : (front ++ v.made) ++ rest ≡ front ++ (v.made ++ rest) = append_assoc front v.made rest in
             subst (λ bs. IsTwin false pool other (node ∷ v.inside) (listed_entry (listed_value depth_left) e bs) (length made)) (sym parts)
-            (again_at other rest e (subst (Stands other e) parts st));
+            (again_at other rest e (subst (Stands other e) parts standing));
       }
 
   -- ---- the value after a tag
@@ -238,7 +238,7 @@ module _ (pool : List ℕ) (fits : IsBytes pool) where
           made_is = λ e. refl;
           made_size = omega arith;
           bound = omega (arith, count);
-          again = λ other rest e twin alike st. record {
+          again = λ other rest e twin alike standing. record {
             nodes = twin ∷ [];
             is = refl;
             same = one_same pool other label twin (record {
@@ -257,7 +257,8 @@ module _ (pool : List ℕ) (fits : IsBytes pool) where
     behind_round (suc depth_left) below tag.FieldArray kind h =
         let one = map_took (judge_array (judge_value depth_left)) (λ vs. array_value (values_of vs)) bytes v n h in
         let has = array_content (judge_value depth_left) bytes one.0 n one.1 in
-        items_round pool fits (judge_value depth_left) (λ e bs. listed_value depth_left e blank bs) (made_value pool depth_left) (element_round depth_left below)
+        items_round pool fits (judge_value depth_left) (λ e bs. listed_value depth_left e blank bs)
+        (made_value pool depth_left) (element_round depth_left below)
         bytes end n label has.content has.things fresh (inr kind) stands has.is has.fills
     behind_round zero below tag.FieldTable kind h = absurd cc
     behind_round (suc depth_left) below tag.FieldTable kind h =
@@ -297,7 +298,7 @@ module _ (pool : List ℕ) (fits : IsBytes pool) where
               ∙ ap₂ (λ k made. after (Ok (k ∷ [])) made) b.keeps.kind (b.made_is e);
           made_size = omega (arith, count, b.made_size);
           bound = omega (arith, count, b.bound);
-          again = λ other rest e twin alike st.
+          again = λ other rest e twin alike standing.
               let alike_marked : AreAlike pool other marked (of_kind twin kind) = record {
                 kind = refl;
                 place = alike.place;
@@ -312,7 +313,7 @@ module _ (pool : List ℕ) (fits : IsBytes pool) where
                   scale = alike.right.scale;
                 };
               } in
-              let again = b.again other rest e (of_kind twin kind) alike_marked (stands_drop other (kind ∷ (b.made ++ rest)) e 1 st (omega arith)) in
+              let again = b.again other rest e (of_kind twin kind) alike_marked (stands_drop other (kind ∷ (b.made ++ rest)) e 1 standing (omega arith)) in
               record {
                 nodes = again.nodes;
                 is =

@@ -51,8 +51,9 @@ SameHeads bytes others (a ∷ heads) [] = ⊥
 SameHeads bytes others (a ∷ heads) (b ∷ more) =
     IsSameHead bytes others a b × SameHeads bytes others heads more
 
--- What was made is read whole, as as many heads and nodes, which say the same as those from which
--- it was made. Where tables were read alone, the content of each has the same bytes too.
+-- What was made is read whole: the heads and nodes that reading gives say the same as those from
+-- which it was made, and are as many. Where tables were read alone, without their entries, the
+-- content of each has the same bytes too.
 pub record IsReadAgain (k : ℕ) (deep : Bool) (bytes made : List ℕ)
     (heads : List Head) (nodes : List Node) : Type 0 where
   pub again : List Head
