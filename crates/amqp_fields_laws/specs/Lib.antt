@@ -1,0 +1,2 @@
+-- The definitions of amqp_fields_laws.
+pub mod RoundTrips
