@@ -1,5 +1,5 @@
 -- Laws of writing.
-use Rattle.std.specs.Prelude.{◌≡◌, ◌<◌, ◌^◌, ◌++◌, ℕ, Bool, true, List, [], length, Some, Ok}
+use Rattle.std.specs.Prelude.{◌≡◌, ◌<◌, ◌^◌, ◌++◌, ℕ, Bool, List, [], length, Some, Ok}
 use Rattle.amqp_types.specs.Levels.{plain}
 use Rattle.amqp_types.specs.Judging.{IsBytes}
 use Rattle.amqp_wire.specs.Canonical.{canon_frames}
@@ -14,7 +14,6 @@ use Rattle.amqp_fields.specs.Laws.{AreInFront}
 use Rattle.amqp_fields.specs.MadeFrames.{made_frames}
 use Rattle.amqp_fields.specs.Meaning.{AreNodes, AreNodesOf, fields_of}
 use Rattle.amqp_fields.specs.Meant.{TellFrames, TellsField}
-use Rattle.amqp_fields.specs.SameNodes.{SameNodes}
 
 -- Heads and nodes that are written mean one sequence of frames.
 abbrev pub HeadsMeanOne : Type 0
@@ -59,14 +58,3 @@ ReadIsWrittenAgain =
     → IsBytes bytes → k < 2 ^ 32 → SayFrames m deep bytes 0 0 heads nodes used
     → made_frames bytes (nodes ++ others) k 0 heads ≡ Ok made
     → IsWrittenAgain m k bytes used (length heads) made
-
--- What was read with all that lies inside it, is written, and is so read again has the same nodes,
--- with spans of what was made, where the keys of each table ascend and as many frames are read.
-abbrev pub ReadAgainIsSame : Type 0
-ReadAgainIsSame =
-    (m k : ℕ) (bytes made : List ℕ) (heads again : List Head)
-    (nodes others more : List Node) (used end : ℕ)
-    → IsBytes bytes → IsBytes made → k < 2 ^ 32 → SayFrames m true bytes 0 0 heads nodes used
-    → made_frames bytes (nodes ++ others) k 0 heads ≡ Ok made
-    → SayFrames k true made 0 0 again more end → length again ≡ length heads
-    → KeysAscend bytes nodes → KeysAscend made more → SameNodes bytes made nodes more

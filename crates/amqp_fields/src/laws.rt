@@ -4,8 +4,8 @@ ghost use Rattle.amqp_fields.specs.Laws.{HeadsSayTheFront, LastEntriesWin};
 ghost use Rattle.amqp_fields.specs.Laws.{ListedNodesMean, SpansLieWithin};
 ghost use Rattle.amqp_fields.specs.SameNodes.{OneFrameHasSameNodes};
 ghost use Rattle.amqp_fields.specs.WritingLaws.{CanonicalWhereKeysAscend};
-ghost use Rattle.amqp_fields.specs.WritingLaws.{HeadsMeanOne, ReadAgainIsSame};
-ghost use Rattle.amqp_fields.specs.WritingLaws.{ReadIsWrittenAgain, ReadNodesAreMeant};
+ghost use Rattle.amqp_fields.specs.WritingLaws.{HeadsMeanOne, ReadIsWrittenAgain};
+ghost use Rattle.amqp_fields.specs.WritingLaws.{ReadNodesAreMeant};
 
 /// The nodes that are listed are those of what the bytes encode: a node for each field of the frame, in the order of the wire, and
 /// for each entry or value the nodes of all that lies inside it.
@@ -65,11 +65,4 @@ pub fn read_is_written_again()
 #[tactic(auto, using(crate::proofs::SameNodes::same_nodes))]
 pub fn one_frame_has_same_nodes()
     ensures { OneFrameHasSameNodes }
-{}
-
-/// What was read with all that lies inside tables, and is written and so read again, has the same nodes where the keys of each
-/// table ascend: the same kinds, places and numbers, the same nodes inside, and keys and spans of the same bytes.
-#[tactic(auto, using(crate::proofs::WrittenAgain::read_again))]
-pub fn read_again_is_same()
-    ensures { ReadAgainIsSame }
 {}

@@ -33,8 +33,8 @@ pub use frames::{FramesEnd, FramesRead, least_length, read_frames};
 pub use head::{CANONICAL, Head, TIDY};
 pub use laws::{
     canonical_where_keys_ascend, heads_mean_one, heads_say_the_front, last_entries_win,
-    listed_nodes_mean, one_frame_has_same_nodes, read_again_is_same, read_is_written_again,
-    read_nodes_are_meant, spans_lie_within,
+    listed_nodes_mean, one_frame_has_same_nodes, read_is_written_again, read_nodes_are_meant,
+    spans_lie_within,
 };
 pub use making::{write_entries, write_frames, write_values};
 pub use node::{FLAG, LONG, LONG_LONG, LONG_STRING, Node, OCTET, SHORT, SHORT_STRING, TABLE};
