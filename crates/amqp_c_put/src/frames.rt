@@ -26,8 +26,8 @@ const HEADERS_BIT: u16 = 13;
 /// A mask has a bit that is no property's.
 const BAD_ARGUMENT: u32 = 41;
 
-/// Puts the frame of a content header with headers among its properties. Apart, since most have none.
-#[inline(never)]
+/// Puts the frame of a content header with headers among its properties.
+#[inline(always)]
 fn put_with_headers(
     channel: u16,
     body_size: u64,

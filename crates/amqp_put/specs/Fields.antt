@@ -1,12 +1,11 @@
 -- The laws of single fields: their bytes stand in front of those of the fields that follow.
 use Rattle.std.specs.Prelude.{◌≡◌, ℕ, Bool, false, List, [], ◌∷◌, ◌++◌, refl}
-use Rattle.amqp_types.specs.Numbers.{NumberWidth, bytes4, number_bytes}
+use Rattle.amqp_types.specs.Numbers.{NumberWidth, number_bytes}
 use Rattle.amqp_types.specs.Flags.{flags_bytes}
 use Rattle.amqp_types.specs.Strings.{short_string_bytes, with_length}
-use Rattle.amqp_types.specs.ValueBytes.{table_bytes}
 use Rattle.amqp_types.specs.Slots.{Item, number_item, flag_item, text_item, bytes_item}
-use Rattle.amqp_types.specs.Slots.{entries_item, number_form, flags_form, short_string_form}
-use Rattle.amqp_types.specs.Slots.{long_string_form, table_form, Slot, kept_slot, reserved_slot}
+use Rattle.amqp_types.specs.Slots.{number_form, flags_form, short_string_form}
+use Rattle.amqp_types.specs.Slots.{long_string_form, Slot, kept_slot, reserved_slot}
 use Rattle.amqp_types.specs.SlotBytes.{form_bytes, slots_bytes}
 
 -- the canonical bytes of a field that gives these items, whatever fields follow it

@@ -18,6 +18,12 @@ use Rattle.amqp_put.specs.declared.headers.MaskedProperties.{MaskedProperties}
 abbrev pub HasNoUnusedBit : ℕ → Type 0
 HasNoUnusedBit mask = (flag_at mask 1 ≡ false) × (flag_at mask 0 ≡ false)
 
+-- bits 14, 8, 5, 4, 3 and 2, which are of texts that few messages have, are 0
+abbrev pub HasNoRareBit : ℕ → Type 0
+HasNoRareBit mask =
+    (flag_at mask 14 ≡ false) × (flag_at mask 8 ≡ false) × (flag_at mask 5 ≡ false)
+    × (flag_at mask 4 ≡ false) × (flag_at mask 3 ≡ false) × (flag_at mask 2 ≡ false)
+
 -- a text where it is set, and why it is not written
 abbrev pub set_text : Option Text → Option Item
 set_text = option_map (λ text. text_item text.bytes.now)

@@ -8,3 +8,4 @@ pub mod Headers
 pub mod MadeFrames
 pub mod MadeLaws
 pub mod Refusals
+pub mod Sizes

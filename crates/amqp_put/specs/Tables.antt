@@ -1,5 +1,5 @@
 -- Tables as fields.
-use Rattle.std.specs.Prelude.{◌≡◌, ℕ, List, [], ◌∷◌, ◌++◌, refl}
+use Rattle.std.specs.Prelude.{◌≡◌, List, [], ◌∷◌, ◌++◌, refl}
 use Rattle.amqp_types.specs.Values.{Entry}
 use Rattle.amqp_types.specs.ValueBytes.{table_bytes}
 use Rattle.amqp_types.specs.Slots.{Item, entries_item, table_form, Slot, kept_slot}

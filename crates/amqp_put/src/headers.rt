@@ -9,7 +9,7 @@ ghost use Rattle.amqp_wire.specs.Frames.{Head};
 ghost use Rattle.amqp_put.specs.MadeFrames.{MakesFrame};
 ghost use Rattle.amqp_put.specs.Refusals.{refusal_of};
 ghost use Rattle.amqp_put.specs.Properties.{from_bit};
-ghost use Rattle.amqp_put.specs.Headers.{HasNoUnusedBit, options_of, flaw_of};
+ghost use Rattle.amqp_put.specs.Headers.{HasNoRareBit, HasNoUnusedBit, options_of, flaw_of};
 ghost use Rattle.amqp_put.specs.Headers.{header_with, masked_options, masked_flaw};
 
 use crate::properties::{Masked, MaskedText, ToItem, ToProperties};
@@ -217,7 +217,7 @@ fn put_header<P: ToSizes + Copy>(
         (Head channel (header_with class body_size (P.options fields.now)))
         (P.flaw fields.now) result }
 {
-    let size = 14 + fields.size();
+    let size = fields.size(14);
     if !fits(size, max_payload, out.len()) {
         // A copy, so that the fields themselves need no place in memory.
         let refused = *fields;
@@ -302,11 +302,37 @@ fn text<'a>(mask: u16, bit: u16, text: &'a &'a [u8]) -> MaskedText<'a>
     }
 }
 
-/// Puts the frame of a content header as `put_content_header` does, of which a mask says which properties are set. The
-/// table of headers is given by itself.
+/// The same of a text that few messages have: where it is not `RARE`, none of these is set, and no bit is tested.
+#[inline(always)]
+fn rare_text<'a, const RARE: bool>(mask: u16, bit: u16, text: &'a &'a [u8]) -> MaskedText<'a>
+    requires { RARE ≡ false → flag_at mask bit ≡ false }
+    ensures set { result.set ≡ flag_at mask bit }
+    ensures field { result.text.now.now ≡ text.entry.now.now }
+{
+    MaskedText {
+        set: RARE && has_bit(mask, bit),
+        text,
+    }
+}
+
+/// Whether a text is set that few messages have.
+#[inline(always)]
+fn has_rare(mask: u16) -> bool
+    ensures { result ≡ false → HasNoRareBit mask }
+{
+    has_bit(mask, 14)
+        || has_bit(mask, 8)
+        || has_bit(mask, 5)
+        || has_bit(mask, 4)
+        || has_bit(mask, 3)
+        || has_bit(mask, 2)
+}
+
+/// Puts the frame of a content header by a mask, in which bits of texts that few messages have are set only where they are
+/// `RARE`.
 #[inline(always)]
 #[tactic(auto, unfolding(amqp_types::specs::Properties::properties, amqp_types::specs::Properties::later_properties))]
-pub fn put_masked_header<'a, T: ToItem + Copy>(
+fn put_by_mask<'a, T: ToItem + Copy, const RARE: bool>(
     channel: ChannelId,
     class: Identifier,
     body_size: PayloadSize,
@@ -319,6 +345,7 @@ pub fn put_masked_header<'a, T: ToItem + Copy>(
     requires few { T.most < 2 ^ 38 }
     requires second { flag_at properties.now.mask 1 ≡ false }
     requires lowest { flag_at properties.now.mask 0 ≡ false }
+    requires rare { RARE ≡ false → HasNoRareBit properties.now.mask }
     ensures { MakesFrame out.old out.new max_payload
         (Head channel (header_with class body_size
         (masked_options properties.now (T.item headers))))
@@ -326,7 +353,7 @@ pub fn put_masked_header<'a, T: ToItem + Copy>(
 {
     let mask = properties.mask;
     let later = (
-        text(mask, 8, &properties.expiration),
+        rare_text::<RARE>(mask, 8, &properties.expiration),
         (
             text(mask, 7, &properties.message_id),
             (
@@ -335,12 +362,12 @@ pub fn put_masked_header<'a, T: ToItem + Copy>(
                     field: properties.timestamp,
                 },
                 (
-                    text(mask, 5, &properties.kind),
+                    rare_text::<RARE>(mask, 5, &properties.kind),
                     (
-                        text(mask, 4, &properties.user_id),
+                        rare_text::<RARE>(mask, 4, &properties.user_id),
                         (
-                            text(mask, 3, &properties.app_id),
-                            (text(mask, 2, &properties.cluster_id), ()),
+                            rare_text::<RARE>(mask, 3, &properties.app_id),
+                            (rare_text::<RARE>(mask, 2, &properties.cluster_id), ()),
                         ),
                     ),
                 ),
@@ -350,7 +377,7 @@ pub fn put_masked_header<'a, T: ToItem + Copy>(
     let fields = (
         text(mask, 15, &properties.content_type),
         (
-            text(mask, 14, &properties.content_encoding),
+            rare_text::<RARE>(mask, 14, &properties.content_encoding),
             (
                 Masked {
                     set: has_bit(mask, 13),
@@ -376,4 +403,78 @@ pub fn put_masked_header<'a, T: ToItem + Copy>(
         ),
     );
     put_header(channel, class, body_size, mask, &fields, max_payload, out)
+}
+
+/// The same with all texts. Apart, since most messages have few.
+#[inline(never)]
+fn put_rare<'a, T: ToItem + Copy>(
+    channel: ChannelId,
+    class: Identifier,
+    body_size: PayloadSize,
+    properties: &'a MaskedProperties<'a>,
+    headers: T,
+    max_payload: u32,
+    out: &mut [u8],
+) -> Result<usize, PutError>
+    requires table { T.form ≡ table_form }
+    requires few { T.most < 2 ^ 38 }
+    requires second { flag_at properties.now.mask 1 ≡ false }
+    requires lowest { flag_at properties.now.mask 0 ≡ false }
+    ensures { MakesFrame out.old out.new max_payload
+        (Head channel (header_with class body_size
+        (masked_options properties.now (T.item headers))))
+        (masked_flaw properties.now (T.flaw headers)) result }
+{
+    put_by_mask::<T, true>(
+        channel,
+        class,
+        body_size,
+        properties,
+        headers,
+        max_payload,
+        out,
+    )
+}
+
+/// Puts the frame of a content header as `put_content_header` does, of which a mask says which properties are set. The
+/// table of headers is given by itself.
+#[inline(always)]
+pub fn put_masked_header<'a, T: ToItem + Copy>(
+    channel: ChannelId,
+    class: Identifier,
+    body_size: PayloadSize,
+    properties: &'a MaskedProperties<'a>,
+    headers: T,
+    max_payload: u32,
+    out: &mut [u8],
+) -> Result<usize, PutError>
+    requires table { T.form ≡ table_form }
+    requires few { T.most < 2 ^ 38 }
+    requires second { flag_at properties.now.mask 1 ≡ false }
+    requires lowest { flag_at properties.now.mask 0 ≡ false }
+    ensures { MakesFrame out.old out.new max_payload
+        (Head channel (header_with class body_size
+        (masked_options properties.now (T.item headers))))
+        (masked_flaw properties.now (T.flaw headers)) result }
+{
+    if has_rare(properties.mask) {
+        return put_rare(
+            channel,
+            class,
+            body_size,
+            properties,
+            headers,
+            max_payload,
+            out,
+        );
+    }
+    put_by_mask::<T, false>(
+        channel,
+        class,
+        body_size,
+        properties,
+        headers,
+        max_payload,
+        out,
+    )
 }

@@ -3,6 +3,7 @@
 
 ghost use Rattle.std.specs.Prelude.{◌≤◌, ◌<◌, ◌+◌, ◌*◌, ◌^◌, length};
 ghost use Rattle.amqp_entries.specs.Sizes.{IsSize};
+ghost use Rattle.amqp_put.specs.Sizes.{IsSizeAfter};
 
 use crate::properties::{Masked, MaskedText, ToItem, ToProperties, ToProperty};
 use crate::slots::ToSlot;
@@ -13,21 +14,20 @@ const TOO_MANY: usize = 4294967296;
 
 /// A property whose size is a plain number.
 pub(crate) trait ToSize: ToProperty {
-    /// How many bytes it has; 2^32 or more where it is not written.
-    fn size(&self) -> usize
-        requires { Self.most < 2 ^ 40 }
-        ensures size { IsSize (Self.flaw self.now) (Self.bytes self.now) result }
-        ensures bound { result ≤ Self.most + 2 ^ 32 };
+    /// How many bytes it has with those before it; 2^32 or more where it is not written.
+    fn size(&self, before: usize) -> usize
+        requires { before + Self.most + 2 ^ 32 < 2 ^ 60 }
+        ensures size { IsSizeAfter before (Self.flaw self.now) (Self.bytes self.now) result }
+        ensures bound { result ≤ before + Self.most + 2 ^ 32 };
 }
 
 /// Properties whose sizes are added.
 pub(crate) trait ToSizes: ToProperties {
-    /// How many bytes they have; 2^32 or more where one is not written.
-    fn size(&self) -> usize
-        requires most { Self.most < 2 ^ 40 }
-        requires few { length Self.forms ≤ 2 ^ 10 }
-        ensures size { IsSize (Self.flaw self.now) (Self.bytes self.now) result }
-        ensures bound { result ≤ Self.most + 2 ^ 32 * length Self.forms };
+    /// How many bytes they have with those before them; 2^32 or more where one is not written.
+    fn size(&self, before: usize) -> usize
+        requires { before + Self.most + 2 ^ 32 * length Self.forms < 2 ^ 60 }
+        ensures size { IsSizeAfter before (Self.flaw self.now) (Self.bytes self.now) result }
+        ensures bound { result ≤ before + Self.most + 2 ^ 32 * length Self.forms };
 }
 
 /// How many bytes a field has; 2^32 where it is not written.
@@ -44,42 +44,47 @@ fn size_of<F: ToSlot>(field: &F) -> usize
 
 impl<F: ToItem> ToSize for Option<F> {
     #[inline(always)]
-    fn size(&self) -> usize {
+    fn size(&self, before: usize) -> usize {
         match self {
-            Some(field) => size_of(field),
-            None => 0,
+            Some(field) => before + size_of(field),
+            None => before,
         }
     }
 }
 
 impl<F: ToItem> ToSize for Masked<F> {
     #[inline(always)]
-    fn size(&self) -> usize {
-        if self.set { size_of(&self.field) } else { 0 }
+    fn size(&self, before: usize) -> usize {
+        if self.set {
+            before + size_of(&self.field)
+        } else {
+            before
+        }
     }
 }
 
 impl<'a> ToSize for MaskedText<'a> {
     #[inline(always)]
-    fn size(&self) -> usize {
+    fn size(&self, before: usize) -> usize {
         if self.set {
-            called_text_size(*self.text)
+            before + called_text_size(*self.text)
         } else {
-            0
+            before
         }
     }
 }
 
 impl ToSizes for () {
     #[inline(always)]
-    fn size(&self) -> usize {
-        0
+    fn size(&self, before: usize) -> usize {
+        before
     }
 }
 
 impl<A: ToSize, R: ToSizes> ToSizes for (A, R) {
     #[inline(always)]
-    fn size(&self) -> usize {
-        self.0.size() + self.1.size()
+    fn size(&self, before: usize) -> usize {
+        let place = self.0.size(before);
+        self.1.size(place)
     }
 }

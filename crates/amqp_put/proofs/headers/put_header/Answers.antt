@@ -1,16 +1,11 @@
 -- `put_header`: what it returns once the properties are measured.
-use Rattle.std.proofs.Common.{ap, arith, rules, length, refl, sym, Some, true≢false, ◌∙◌, ◌<◌, ◌^◌}
+use Rattle.std.proofs.Common.{ap, arith, length, refl, sym, Some, true≢false, ◌∙◌}
 use Rattle.amqp_put.proofs.HeadersMade.{forms_count, header_length, header_made}
 use Rattle.amqp_put.proofs.SizesAdded.{refused_is, sized}
 use Rattle.amqp_put.proofs.headers.put_header.Goals as goal
 
-pub size-size-requires-clause-few : goal.size-size-requires-clause-few
-size-size-requires-clause-few g c = omega (arith, forms_count g.P.ToProperties.forms c.requires.all)
-
-pub overflow_add-size : goal.overflow_add-size
-overflow_add-size g c =
-    let few : c.size-size.result < 2 ^ 40 = omega (arith, forms_count g.P.ToProperties.forms c.requires.all, c.requires.few, c.size-size.ensures.bound) in
-    search rules
+pub size-size-requires : goal.size-size-requires
+size-size-requires g c = omega (arith, forms_count g.P.ToProperties.forms c.requires.all, c.requires.few)
 
 pub returns-then-not-fits : goal.returns-then-not-fits
 returns-then-not-fits g c = (
