@@ -8,7 +8,7 @@ use Rattle.amqp_turns.specs.declared.mark.Mark.TheVariants as marks
 use Rattle.amqp_turns.specs.Stands.{kept_at}
 use Rattle.amqp_frame.specs.declared.frame.AMQPFrame.{AMQPFrame}
 use Rattle.amqp_frame.specs.Frames.{frame_of}
-use Rattle.amqp_turns.specs.Outcomes.{Kept, message, fault, Assembling, PushesIn, mark_kept}
+use Rattle.amqp_turns.specs.Outcomes.{Kept, message, fault, Assembling, TakesMarked, mark_kept}
 use Rattle.amqp_turns.specs.Units.{is_content}
 use Rattle.amqp_wire.specs.Outlines.{outline_of}
 use Rattle.amqp_content.specs.Outcomes.{outcome_of}
@@ -71,8 +71,7 @@ pub record IsPushed (bound : ℕ) (old new : Assembling)
   pub within : Passes bound old (frame_of frame) → ⊥
   pub outside : is_content (outline_of (frame_of frame)) ≡ false
       → (outcome ≡ outcomes.Passed frame) × (new ≡ old)
-  pub pushes : is_content (outline_of (frame_of frame)) ≡ true
-      → PushesIn old new (frame_of frame) (outcome_of outcome)
+  pub takes : TakesMarked old new (frame_of frame) (outcome_of outcome)
 
 -- a frame that passes the bound: it comes back, and all stays
 pub record IsFull (bound : ℕ) (old new : Assembling) (frame back : AMQPFrame) : Type 0 where

@@ -1,16 +1,25 @@
--- The laws of split messages. Laws that speak of no typed message are passed on.
-use Rattle.std.specs.Prelude.{◌≡◌, ℕ, ◌≤◌, List, [], map, length}
+-- The laws of messages. Laws that speak of no typed message are passed on.
+use Rattle.std.specs.Prelude.{◌≡◌, ℕ, ◌≤◌, true, List, [], map, length}
 use Rattle.std.specs.List.{AllByRecursion, flat_map}
 use Rattle.amqp_wire.specs.Frames.{Frame}
 use Rattle.amqp_wire.specs.Outlines.{outline_of}
 use Rattle.amqp_turns.specs.Answers.{Answer, Answers}
 pub use Rattle.amqp_turns.specs.Laws.{AnswersAreSteps, done_in, IsNoFault}
 pub use Rattle.amqp_turns.specs.Laws.{ChannelsAreApart, ChannelsAreAnswered}
-use Rattle.amqp_turns.specs.Units.{of_channel}
-use Rattle.amqp_turns.specs.Outcomes.{OutcomeView, answer_outcome}
+use Rattle.amqp_turns.specs.Units.{is_content, of_channel}
+use Rattle.amqp_turns.specs.Outcomes.{OutcomeView, Assembling, PushesIn, TakesMarked}
+use Rattle.amqp_turns.specs.Outcomes.{answer_outcome}
 use Rattle.amqp_turns.specs.Sequences.{AreGiven, given_of}
 use Rattle.amqp_content.specs.Messages.{Parts, content_of}
 use Rattle.amqp_content.specs.Splits.{Sent, sent_frames}
+
+-- What is given for a frame of content, and kept after it, by its mark is what the frames of its
+-- channel so far give and leave, of which it is the last.
+abbrev pub TakenIsAnswered : Type 0
+TakenIsAnswered =
+    (old new : Assembling) (frame : Frame) (outcome : OutcomeView)
+    → is_content (outline_of frame) ≡ true
+    → TakesMarked old new frame outcome → PushesIn old new frame outcome
 
 -- The frames of messages of one channel, one message after another, give just these messages in
 -- order, and no fault.

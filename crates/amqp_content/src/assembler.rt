@@ -7,7 +7,7 @@ ghost use Rattle.amqp_frame.specs.Frames.{Meth, Head, Body, frame_of, header_of,
 ghost use Rattle.amqp_wire.specs.Outlines.{outline_of};
 ghost use Rattle.amqp_turns.specs.Units.{is_content, is_opening_id};
 ghost use Rattle.amqp_turns.specs.Stands.{kept_at, OthersStay};
-ghost use Rattle.amqp_content.specs.Outcomes.{AssemblerStands, PushesIn, TakesIn, TakesMarked};
+ghost use Rattle.amqp_content.specs.Outcomes.{AssemblerStands, TakesIn, TakesMarked};
 ghost use Rattle.amqp_content.specs.Outcomes.{IsHeadedThere, IsMessage, outcome_of, wrong, fault};
 ghost use Rattle.amqp_content.specs.Outcomes.{pending_kept, kept_progress, with_header};
 ghost use Rattle.amqp_content.specs.Outcomes.{with_bytes, whole_kept};
@@ -339,9 +339,6 @@ impl Assembler {
             → (result ≡ Ok (Outcome.Passed frame)) × (self.new ≡ self.old) }
         ensures takes { IfOk result
             (λ outcome. TakesMarked self.old self.new (frame_of frame) (outcome_of outcome)) }
-        ensures pushes { IsTrue (is_content (outline_of (frame_of frame)))
-            → IfOk result
-            (λ outcome. PushesIn self.old self.new (frame_of frame) (outcome_of outcome)) }
         ensures others { OthersStay
             (channel_id_of (frame_of frame)) self.old.channels self.new.channels }
         ensures max_body { self.new.max_body ≡ self.old.max_body }

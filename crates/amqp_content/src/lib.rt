@@ -23,7 +23,7 @@ pub use assembler::Assembler;
 pub use assembling::assemble;
 pub use bounded::{BoundedAssembler, Taken};
 pub use equality::{equal_messages, equal_openings, equal_outcomes};
-pub use laws::{interleaved_are_whole, splits_are_whole};
+pub use laws::{interleaved_are_whole, splits_are_whole, taken_is_answered};
 pub use message::Message;
 pub use opening::Opening;
 pub use outcome::Outcome;

@@ -6,6 +6,7 @@ use Rattle.amqp_content.specs.Outcomes.{outcome_of}
 use Rattle.amqp_turns.specs.Sequences.{AreGiven}
 use Rattle.amqp_turns.proofs.Apart.{none_stand}
 use Rattle.amqp_content.proofs.Apart.{none_given, assembled_step}
+use Rattle.amqp_content.proofs.Telling.{taken}
 use Rattle.amqp_content.proofs.assembling.assemble.Goals as goal
 
 pub loop-frame-init : goal.loop-frame-init
@@ -21,7 +22,8 @@ loop-frame-preserved c =
     let e = c.in_ok-push.ensures in
     let next =
     assembled_step c.args.max_body c.loop-frame.assembler c.push.new.self c.loop-frame.yielded
-    c.loop-frame.outcomes.items c.in-Some.frame c.in_ok-push.field-0 h.max h.stand h.given e.outside e.pushes e.others in
+    c.loop-frame.outcomes.items c.in-Some.frame c.in_ok-push.field-0 h.max h.stand h.given e.outside
+    (λ content. taken c.loop-frame.assembler c.push.new.self (frame_of c.in-Some.frame) (outcome_of c.in_ok-push.field-0) content e.takes) e.others in
     record {
       max = e.max_body ∙ h.max;
       stand = next.stand;
