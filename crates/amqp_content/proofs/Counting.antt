@@ -1,5 +1,5 @@
 -- Counting the bytes of the messages that are not complete.
-use Rattle.std.proofs.Common.{◌≡◌, ◌≢◌, ℕ, ◌+◌, ◌-◌, ◌≤◌, ◌<◌, cond, zero, suc, Bool, true, false, eqb, List, [], ◌++◌, length, refl, sym, ap, ap₂, ◌∙◌, arith}
+use Rattle.std.proofs.Common.{◌≡◌, ◌≢◌, ℕ, ◌+◌, ◌-◌, ◌≤◌, ◌<◌, cond, zero, suc, Bool, true, false, eqb, List, [], length, refl, sym, ap, ap₂, ◌∙◌, arith}
 use Rattle.std.proofs.Common.{inl, inr, ◌⊎◌, Option, Some, None}
 use Rattle.std.proofs.lemmas.List.{length-append}
 use Rattle.std.proofs.lemmas.Bool.Decides.{eqb_tells}
@@ -11,7 +11,7 @@ use Rattle.amqp_turns.specs.declared.mark.Mark.TheVariants as marks
 use Rattle.amqp_turns.specs.Units.{is_content}
 use Rattle.amqp_turns.specs.Messages.{header_in, bytes_of}
 use Rattle.amqp_turns.specs.Stands.{kept_at, OthersStay}
-use Rattle.amqp_turns.specs.Outcomes.{Kept, message, fault, OutcomeView, passed, Assembling, TakesFrame, TakesMarked, kept_marked}
+use Rattle.amqp_turns.specs.Outcomes.{Kept, message, fault, OutcomeView, passed, Assembling, TakesMarked, kept_marked}
 use Rattle.amqp_turns.specs.Outcomes.{mark_kept, with_bytes, with_header}
 use Rattle.amqp_content.specs.Bounds.{body_bytes, bytes_below, channel_count, open_bytes, added_by, added_to, adds}
 

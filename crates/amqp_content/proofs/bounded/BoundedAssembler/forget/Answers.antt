@@ -3,7 +3,7 @@ use Rattle.std.proofs.Common.{◌≡◌, ◌+◌, ap, sym, subst, arith}
 use Rattle.amqp_turns.specs.Outcomes.{Assembling}
 use Rattle.amqp_turns.specs.Stands.{kept_at}
 use Rattle.amqp_content.specs.Bounds.{body_bytes, open_bytes}
-use Rattle.amqp_content.proofs.Counting.{MovesIn, moves_in}
+use Rattle.amqp_content.proofs.Counting.{moves_in}
 use Rattle.amqp_content.proofs.bounded.BoundedAssembler.forget.Goals as goal
 
 pub overflow_sub-self : goal.overflow_sub-self

@@ -3,7 +3,6 @@ use Rattle.std.proofs.Common.{◌≡◌, ◌≤◌, ◌+◌, refl, subst, arith,
 use Rattle.std.proofs.lemmas.Bool.Decides.{nat_tests}
 use Rattle.amqp_frame.specs.Frames.{frame_of}
 use Rattle.amqp_turns.specs.Stands.{kept_at}
-use Rattle.amqp_wire.specs.Frames.{channel_id_of}
 use Rattle.amqp_content.specs.Outcomes.{outcome_of}
 use Rattle.amqp_content.specs.Bounds.{adds, body_bytes, open_bytes}
 use Rattle.amqp_content.proofs.Counting.{recounts}
