@@ -1,7 +1,7 @@
 """Whole messages out of frames."""
 
 import threading
-from typing import Any, Dict, Iterable, Iterator, List, Optional, Tuple, Union
+from typing import Any, Dict, Iterable, Iterator, List, Optional, Union
 
 from ._arguments import LONG_LONG_MOST, SHORT_MOST, instance, whole
 from ._buffers import MAX_PAYLOAD, bytes_of, limit_of, view_of
@@ -9,6 +9,7 @@ from ._encode import FRAME_MAX, encode
 from ._errors import AssemblerFull, BadContent, ContentError, OpenContent
 from ._frames import Frame, FrameReader, span_of
 from ._inputs import Input, check_input, frames_of
+from ._library import Head
 from ._turns import BODY, HEADER, NO_PART, OPENING, Turns
 from .methods import Basic, Method, Properties
 
@@ -100,9 +101,9 @@ class Assembler:
         with self._lock:
             return self._push(frame, frame._head)
 
-    def _push(self, frame: Frame, head: Tuple[int, ...]) -> Union[Message, Frame, None]:
+    def _push(self, frame: Frame, head: Head) -> Union[Message, Frame, None]:
         turn = self._turns.look(head)
-        if turn.part != NO_PART and self._max_open is not None and self.held + head[2] > self._max_open:
+        if turn.part != NO_PART and self._max_open is not None and self.held + head.length > self._max_open:
             raise AssemblerFull(self._used, frame)
         self._turns.keep(frame.channel, turn)
         start, end = span_of(head, 0)
@@ -117,7 +118,7 @@ class Assembler:
 
     def _add(self, frame: Frame, part: int) -> None:
         """Adds a frame to the message that is open on its channel."""
-        length = frame._head[2]
+        length = frame._head.length
         self.held += length
         if part == OPENING and frame.method is not None:
             self._messages[frame.channel] = _Open(frame.method, length)

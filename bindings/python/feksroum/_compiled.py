@@ -30,7 +30,7 @@ def bind() -> None:
     rows = tuple(_row(method, ids) for ids, method in methods.METHODS.items())
     called = tuple(_address(getattr(_library.SMALL, name)) for name in _CALLED)
     names = (
-        _frames.Frame, _frames._TYPES, values.NUMBERS, _reading.rare_value, _plain.plain, values.time_of, values.seconds_of)
+        _frames.Frame, _library.Head, _frames._TYPES, values.NUMBERS, _reading.rare_value, _plain.plain, values.time_of, values.seconds_of)
     try:
         _native.bind(called, rows, _row(methods.Properties, (0, 0)), names)
     except RuntimeError:

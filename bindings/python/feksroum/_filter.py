@@ -1,10 +1,11 @@
 """Filtering: whole messages are kept or dropped by rules."""
 
-from typing import Any, Set, Tuple
+from typing import Any, Set
 
 from ._arguments import instance
 from ._buffers import MAX_PAYLOAD
 from ._inputs import Input
+from ._library import Head
 from ._rules import Rules
 from ._streams import MessageStream, Written, is_canonical, written_over
 from ._turns import BODY, HEADER, OPENING
@@ -25,12 +26,12 @@ class Filter(MessageStream):
         #: The channels whose message is dropped.
         self._dropped: Set[int] = set()
 
-    def _take(self, head: Tuple[int, ...], turn: Any, start: int, end: int, written: Written) -> None:
+    def _take(self, head: Head, turn: Any, start: int, end: int, written: Written) -> None:
         if self._keeps(head, turn.part):
             written.frame(start, end, is_canonical(head))
 
-    def _keeps(self, head: Tuple[int, ...], part: int) -> bool:
-        channel = head[5]
+    def _keeps(self, head: Head, part: int) -> bool:
+        channel = head.channel
         if part in (HEADER, BODY):
             return channel not in self._dropped
         is_kept = self._rules.decide_head(head)

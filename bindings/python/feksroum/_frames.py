@@ -4,13 +4,13 @@ import ctypes
 import enum
 import struct
 import threading
-from typing import Any, Iterator, List, Optional, Tuple, cast
+from typing import Any, Dict, Iterator, List, Optional, Tuple, cast
 
 from . import _compiled
 from ._arguments import OCTET_MOST, whole
 from ._buffers import MAX_PAYLOAD, SHORTEST, Room, address_of, bytes_of, limit_of, view_of
 from ._errors import BUFFER_TOO_SMALL, CutShort, error_of
-from ._library import HEAD, LARGE, NODE, SMALL, SMALL_INPUT, Batch, library_for
+from ._library import HEAD, LARGE, NODE, SMALL, SMALL_INPUT, Batch, Head, library_for, new_head
 from ._reading import METHOD_READERS, properties_of
 from .methods import Method, Properties
 
@@ -32,11 +32,11 @@ _AROUND = {int(FrameType.PROTOCOL_HEADER): (5, 0)}
 _AROUND_OTHERS = (7, 1)
 
 
-def span_of(head: Tuple[int, ...], base: int) -> Tuple[int, int]:
+def span_of(head: Head, base: int) -> Tuple[int, int]:
     """Where the bytes of a frame begin and end, whose head counts from `base`."""
-    before, after = _AROUND.get(head[8], _AROUND_OTHERS)
-    start = base + head[1]
-    return start - before, start + head[2] + after
+    before, after = _AROUND.get(head.type, _AROUND_OTHERS)
+    start = base + head.start
+    return start - before, start + head.length + after
 
 
 class Frame:
@@ -51,50 +51,50 @@ class Frame:
     #: The properties of a content header, else None.
     properties: Optional[Properties]
 
-    def __init__(self, head: Tuple[int, ...], source: bytes, base: int) -> None:
-        """From a head, as `feksroum.h` has its numbers, whose spans count from `base` in the source."""
-        self.type = _TYPES[head[8]]
-        self.channel = head[5]
+    def __init__(self, head: Head, source: bytes, base: int) -> None:
+        """From a head whose spans count from `base` in the source."""
+        self.type = _TYPES[head.type]
+        self.channel = head.channel
         self.method = None
         self.properties = None
         self._head = head
         self._source = source
-        self._start = base + head[1]
+        self._start = base + head.start
 
     @property
     def class_id(self) -> int:
         """Of a method or content header, else 0."""
-        return self._head[6]
+        return self._head.class_id
 
     @property
     def method_id(self) -> int:
         """Of a method, else 0."""
-        return self._head[7]
+        return self._head.method_id
 
     @property
     def body_size(self) -> int:
         """How many bytes of body a content header announces, else 0."""
-        return self._head[0]
+        return self._head.body_size
 
     @property
     def canonical(self) -> bool:
         """Whether its bytes are the canonical ones."""
-        return self._head[9] & CANONICAL != 0
+        return self._head.form & CANONICAL != 0
 
     @property
     def tidy(self) -> bool:
         """Whether all that reading drops is canonical."""
-        return self._head[9] & _TIDY != 0
+        return self._head.form & _TIDY != 0
 
     @property
     def payload(self) -> memoryview:
         """The payload; of a protocol header its three version bytes. It is a part of what the frame was read from."""
-        return memoryview(self._source)[self._start : self._start + self._head[2]]
+        return memoryview(self._source)[self._start : self._start + self._head.length]
 
     @property
     def bytes(self) -> memoryview:
         """All bytes of the frame, as they came."""
-        start, end = span_of(self._head, self._start - self._head[1])
+        start, end = span_of(self._head, self._start - self._head.start)
         return memoryview(self._source)[start:end]
 
     @property
@@ -104,6 +104,15 @@ class Frame:
             return None
         major, minor, revision = self.payload
         return major, minor, revision
+
+    def __getstate__(self) -> Tuple[None, Dict[str, Any]]:
+        """What a pickle has of it, in which the head is a plain tuple."""
+        return None, {**{name: getattr(self, name) for name in Frame.__slots__}, "_head": tuple(self._head)}
+
+    def __setstate__(self, state: Tuple[None, Dict[str, Any]]) -> None:
+        _, slots = state
+        for name, value in slots.items():
+            setattr(self, name, Head._make(value) if name == "_head" else value)
 
     def __eq__(self, other: object) -> bool:
         return isinstance(other, Frame) and self.bytes == other.bytes
@@ -129,7 +138,8 @@ _SIZES = tuple(map(ctypes.c_size_t, range(1024)))
 _direct = SMALL["feksroum_frames"]
 _direct.restype = Batch
 _unpack_batch = struct.Struct("=QQ3I4x").unpack
-_unpack_head, _HEAD_SIZE = HEAD.unpack_from, HEAD.size
+_unpack_heads, _HEAD_SIZE = HEAD.iter_unpack, HEAD.size
+_new = object.__new__
 SHALLOW, DEEP = 0, 1
 _METHOD, _HEADER = int(FrameType.METHOD), int(FrameType.HEADER)
 
@@ -185,7 +195,8 @@ class BatchReader:
 
     def read(self, data: bytes, at: int, size: int, found: List[Frame]) -> End:
         """The same in Python."""
-        size = min(size, len(data) - at)
+        if size > len(data) - at:
+            size = len(data) - at
         status, count = BUFFER_TOO_SMALL, 0
         if size < len(_SIZES) and not at:
             # The usual frames of a client, by a call whose arguments are made already.
@@ -196,13 +207,17 @@ class BatchReader:
         heads, nodes = self._heads.octets, self._nodes.octets
         # The spans of heads and nodes count from `at`: from there on the window has the same bytes.
         window = data[at : at + used] if at and listed else data
-        for start in range(0, count * _HEAD_SIZE, _HEAD_SIZE):
-            head = _unpack_head(heads, start)
-            frame = Frame(head, data, at)
-            if head[8] == _METHOD:
-                frame.method = METHOD_READERS[head[6], head[7]](window, nodes, head[3])
-            elif head[8] == _HEADER:
-                frame.properties = properties_of(window, nodes, head[3], head[3] + head[4])
+        for numbers in _unpack_heads(heads[: count * _HEAD_SIZE]):
+            _, start, _, first, inside, channel, class_id, method_id, type, _ = numbers
+            # As Frame makes itself of a head, without what its call takes.
+            frame = _new(Frame)
+            frame.type = _TYPES[type]
+            frame.channel = channel
+            frame.method = METHOD_READERS[class_id, method_id](window, nodes, first) if type == _METHOD else None
+            frame.properties = properties_of(window, nodes, first, first + inside) if type == _HEADER else None
+            frame._head = new_head(Head, numbers)
+            frame._source = data
+            frame._start = at + start
             found.append(frame)
         return used, needed, status
 

@@ -10,7 +10,7 @@ from . import _kinds as kinds
 from ._arguments import LONG_MOST
 from ._buffers import Room
 from ._errors import UnknownStatus
-from ._library import HEAD, NODE, SMALL
+from ._library import HEAD, NODE, SMALL, Head
 from .methods import Method, Properties
 
 #: Where the payload of a frame begins, and how many bytes come after it.
@@ -57,8 +57,11 @@ def _node(kind: int, place: int, is_marked: bool) -> bytes:
 
 def _payload(frame_type: int, ids: Tuple[int, int], nodes: List[bytes]) -> bytes:
     """The payload that the library writes for fields, in a frame of some type and ids."""
-    head, out = HEAD.pack(0, 0, 0, 0, len(nodes), 0, *ids, frame_type, 0), Room(1024)
-    written = SMALL.feksroum_write(head, 1, b"".join(nodes), len(nodes), _POOL, len(_POOL), LONG_MOST, out.address, len(out))
+    class_id, method_id = ids
+    head = Head(
+        body_size=0, start=0, length=0, first=0, nodes=len(nodes), channel=0, class_id=class_id, method_id=method_id, type=frame_type, form=0)
+    out = Room(1024)
+    written = SMALL.feksroum_write(HEAD.pack(*head), 1, b"".join(nodes), len(nodes), _POOL, len(_POOL), LONG_MOST, out.address, len(out))
     if written.status:
         raise UnknownStatus(0, written.status)
     return out.copy(written.length)[FRONT:-BACK]

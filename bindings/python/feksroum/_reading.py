@@ -14,15 +14,13 @@ from ._kinds import (
     ARRAY, BYTE_ARRAY, DECIMAL, FLAG, FLOAT32, FLOAT64, INNER_TABLE, INT32, INT64, LONG_LONG, LONG_STRING, NOTHING, SHORT_STRING,
     STRING, TABLE, TIME, TRUTH,
 )
+from ._library import FIELD_NODE, FLAG_PART, NODE, NUMBER_PART, STRING_PART, VALUE_NODE
 from .methods import METHODS, Method, Properties
 from .values import LAST_SECOND, NUMBERS, UTC, Float32, Float64, Int64, LongString, Table, Value, time_of
 
-#: What is read of the node of a value: number (signed), start, length, key_start, items; key_length, kind, scale.
-VALUE_NODE = struct.Struct("=q3I4xI2BxB")
-#: What is read of the node of a field: number, start, length, inside, items; place.
-FIELD_NODE = struct.Struct("=Q2I4x2I2xBx")
-NODE_SIZE = 32
-
+NODE_SIZE = NODE.size
+#: Bound here, since a method of a name that is imported takes longer to be called.
+_unpack_field, _unpack_values = FIELD_NODE.unpack_from, VALUE_NODE.iter_unpack
 _UNSIGNED = 2**64 - 1
 _pack_bits = struct.Struct("=q").pack
 _unpack_float = struct.Struct("=d").unpack
@@ -117,7 +115,7 @@ def array_of(source: bytes, nodes: Nodes, count: int) -> List[Value]:
 def read_table_of(source: bytes, nodes: Any, first: int, inside: int, items: int) -> Table:
     """The table whose entries' nodes begin at `first`: `inside` with all that lies in them, of which `items` at most are its own."""
     entries = memoryview(nodes)[first * NODE_SIZE : (first + inside) * NODE_SIZE]
-    return table_of(source, VALUE_NODE.iter_unpack(entries), items)
+    return table_of(source, _unpack_values(entries), items)
 
 
 def _field_of(source: bytes, nodes: Any, index: int, kind: int, node: Tuple[int, ...]) -> Any:
@@ -134,8 +132,7 @@ def _field_of(source: bytes, nodes: Any, index: int, kind: int, node: Tuple[int,
 
 _Reader = Callable[[bytes, Any, int], Method]
 _new = object.__new__
-#: What is unpacked of the node of a field that is no table: a number; of a flag, whether it is set; of a string, where it lies.
-_PARTS = {FLAG: "?31x", SHORT_STRING: "8x2I16x", LONG_STRING: "8x2I16x"}
+_PARTS = {FLAG: FLAG_PART, SHORT_STRING: STRING_PART, LONG_STRING: STRING_PART}
 
 
 def _reader_of(method: Type[Method]) -> _Reader:
@@ -150,7 +147,7 @@ def _reader_of(method: Type[Method]) -> _Reader:
             strings.append(f"made.{name} = {text}.decode()" if kind == SHORT_STRING else f"made.{name} = {text}")
     unpacked = [f"{', '.join(targets)}, = unpack(nodes, index * {NODE_SIZE})"] if targets else []
     lines = ["made = new(method)", *unpacked, *strings, "return made"]
-    unpack = struct.Struct("=" + "".join(_PARTS.get(kind, "Q24x") for kind in method.kinds)).unpack_from
+    unpack = struct.Struct("=" + "".join(_PARTS.get(kind, NUMBER_PART) for kind in method.kinds)).unpack_from
     names: Dict[str, Any] = {"method": method, "new": _new, "unpack": unpack}
     exec("\n    ".join(["def read(source, nodes, index):", *lines]), names)
     return cast(_Reader, names["read"])
@@ -170,9 +167,10 @@ METHOD_READERS: Dict[Tuple[int, int], _Reader] = {
 def _with_tables(made: Method, source: bytes, nodes: Any, index: int) -> Method:
     """Fills a method that has tables."""
     for name, kind in made.fields:
-        node = FIELD_NODE.unpack_from(nodes, index * NODE_SIZE)
-        setattr(made, name, node[0] if kind <= LONG_LONG else _field_of(source, nodes, index, kind, node))
-        index += 1 + node[3]
+        node = _unpack_field(nodes, index * NODE_SIZE)
+        number, _, _, inside, _, _ = node
+        setattr(made, name, number if kind <= LONG_LONG else _field_of(source, nodes, index, kind, node))
+        index += 1 + inside
     return made
 
 
@@ -180,14 +178,14 @@ def properties_of(source: bytes, nodes: Any, index: int, end: int) -> Properties
     """The properties whose nodes stand from `index` to `end`."""
     values: List[Any] = [None] * len(Properties.fields)
     while index < end:
-        node = FIELD_NODE.unpack_from(nodes, index * NODE_SIZE)
-        place = node[5]
+        node = _unpack_field(nodes, index * NODE_SIZE)
+        number, _, _, inside, _, place = node
         name, kind = Properties.fields[place]
         if name == "timestamp":
-            values[place] = time_of(node[0])
+            values[place] = time_of(number)
         else:
-            values[place] = node[0] if kind <= LONG_LONG else _field_of(source, nodes, index, kind, node)
-        index += 1 + node[3]
+            values[place] = number if kind <= LONG_LONG else _field_of(source, nodes, index, kind, node)
+        index += 1 + inside
     made = Properties.__new__(Properties)
     for name, value in zip(Properties.__match_args__, values):
         setattr(made, name, value)

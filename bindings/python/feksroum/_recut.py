@@ -1,12 +1,12 @@
 """Recutting: the bodies of messages are cut anew into frames of one size."""
 
-from typing import Any, Dict, Tuple
+from typing import Any, Dict
 
 from ._arguments import LONG_MOST, whole
 from ._buffers import MAX_PAYLOAD, Room
 from ._errors import UnknownStatus
 from ._inputs import Input
-from ._library import SMALL
+from ._library import SMALL, Head
 from ._streams import MessageStream, Written, is_canonical, written_over
 from ._turns import BODY
 
@@ -32,11 +32,11 @@ class Recutter(MessageStream):
         self._bodies: Dict[int, bytearray] = {}
         self._head = Room(_HEAD_LENGTH)
 
-    def _take(self, head: Tuple[int, ...], turn: Any, start: int, end: int, written: Written) -> None:
+    def _take(self, head: Head, turn: Any, start: int, end: int, written: Written) -> None:
         if turn.part != BODY:
             written.frame(start, end, is_canonical(head))
             return
-        channel, length = head[5], head[2]
+        channel, length = head.channel, head.length
         held = self._bodies.pop(channel, None) or bytearray()
         cut = SMALL.feksroum_recut(self._size, len(held), length, int(turn.finished))
         if cut.status:

@@ -5,11 +5,12 @@ from typing import Any, Tuple
 from ._arguments import instance
 from ._errors import UnknownStatus
 from ._frames import Frame
-from ._library import SMALL, FrameRule
+from ._library import SMALL, FrameRule, Head
 
 #: As many rules as the program takes.
 MOST_RULES = 64
 _BAD_ARGUMENT = 41
+_decide = SMALL.feksroum_decide
 
 
 class BadRule(ValueError):
@@ -46,9 +47,9 @@ class Rules:
         """Whether the frame is kept."""
         return self.decide_head(instance("a frame", frame, Frame)._head)
 
-    def decide_head(self, head: Tuple[int, ...]) -> bool:
-        """The same of a frame by the numbers of its head."""
-        found = SMALL.feksroum_decide(self._rules, len(self.words), head[8], head[5], head[6], head[7])
+    def decide_head(self, head: Head) -> bool:
+        """The same of a frame by its head."""
+        found = _decide(self._rules, len(self.words), head.type, head.channel, head.class_id, head.method_id)
         if found > 1:
             raise UnknownStatus(0, found)
         return bool(found)

@@ -2,14 +2,14 @@
 
 import threading
 from abc import ABC, abstractmethod
-from typing import Any, Iterator, List, Optional, Tuple
+from typing import Any, Iterator, List, Optional
 
 from ._buffers import SHORTEST, bytes_of
 from ._canonical import Canonicalizer
 from ._errors import BUFFER_TOO_SMALL, BadContent, CutShort, Error, OpenContent
 from ._frames import CANONICAL, LAST_WINDOW, SHALLOW, BatchReader, fault_of, span_of
 from ._inputs import Input, pieces_of
-from ._library import HEAD
+from ._library import HEAD, Head, new_head
 from ._turns import Turns
 
 
@@ -65,7 +65,7 @@ class MessageStream(ABC):
         self._fault: Optional[Exception] = None
 
     @abstractmethod
-    def _take(self, head: Tuple[int, ...], turn: Any, start: int, end: int, written: Written) -> None:
+    def _take(self, head: Head, turn: Any, start: int, end: int, written: Written) -> None:
         """Writes what is written for a frame in turn, which stands from `start` to `end` in what is read."""
 
     @property
@@ -123,7 +123,8 @@ class MessageStream(ABC):
     def _take_all(self, data: bytes, heads: bytes, at: int, written: Written) -> bool:
         """Takes frames one after another, and returns whether all of them are in turn."""
         before = self._used
-        for head in HEAD.iter_unpack(heads):
+        for numbers in HEAD.iter_unpack(heads):
+            head = new_head(Head, numbers)
             start, end = span_of(head, at)
             try:
                 turn = self._turns.step(head, before + start - at)
@@ -168,6 +169,6 @@ def written_over(stream: MessageStream, source: Input) -> bytes:
     return b"".join(written)
 
 
-def is_canonical(head: Tuple[int, ...]) -> bool:
-    """Whether the bytes of a frame are the canonical ones, by the numbers of its head."""
-    return head[9] & CANONICAL != 0
+def is_canonical(head: Head) -> bool:
+    """Whether the bytes of a frame are the canonical ones, by its head."""
+    return head.form & CANONICAL != 0

@@ -1,11 +1,11 @@
 """Whose turn it is on each channel of one direction of a connection: which messages are open, and how far they have come."""
 
-from typing import Any, Dict, Tuple
+from typing import Any, Dict
 
 from ._arguments import LONG_LONG_MOST, whole
 from ._errors import BadContent, UnknownStatus
 from ._frames import FrameType
-from ._library import SMALL, ChannelState
+from ._library import SMALL, ChannelState, Head
 
 #: What a frame is to its channel: no part of a message, the method that opens one, its content header, a body.
 NO_PART, OPENING, HEADER, BODY = range(4)
@@ -14,6 +14,8 @@ ANY_SIZE = LONG_LONG_MOST
 _BLANK = ChannelState()
 _FAULTED = 3
 _HEADER_TYPE = int(FrameType.HEADER)
+_step = SMALL.feksroum_step
+_STATUSES = 0, BadContent.status
 
 
 class Turns:
@@ -23,12 +25,13 @@ class Turns:
         self._max_body = whole("max_body", max_body, ANY_SIZE)
         self._channels: Dict[int, Any] = {}
 
-    def look(self, head: Tuple[int, ...]) -> Any:
-        """What a frame is to its channel, by the numbers of its head: status 24 where it is not in turn."""
-        size = head[0] if head[8] == _HEADER_TYPE else head[2]
-        state = self._channels.get(head[5], _BLANK)
-        turn = SMALL.feksroum_step(state, head[8], head[6], head[7], size, self._max_body)
-        if turn.status not in (0, BadContent.status):
+    def look(self, head: Head) -> Any:
+        """What a frame is to its channel, by its head: status 24 where it is not in turn."""
+        type = head.type
+        size = head.body_size if type == _HEADER_TYPE else head.length
+        state = self._channels.get(head.channel, _BLANK)
+        turn = _step(state, type, head.class_id, head.method_id, size, self._max_body)
+        if turn.status not in _STATUSES:
             raise UnknownStatus(0, turn.status)
         return turn
 
@@ -40,12 +43,12 @@ class Turns:
         else:
             self._channels.pop(channel, None)
 
-    def step(self, head: Tuple[int, ...], used: int) -> Any:
+    def step(self, head: Head, used: int) -> Any:
         """The same at once. Raises BadContent, at a frame that comes after so many bytes."""
-        turn = self.look(head)
-        self.keep(head[5], turn)
+        turn, channel = self.look(head), head.channel
+        self.keep(channel, turn)
         if turn.status:
-            raise BadContent(used, head[5], turn.fault)
+            raise BadContent(used, channel, turn.fault)
         return turn
 
     def forget(self, channel: int) -> None:

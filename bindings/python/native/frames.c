@@ -95,11 +95,11 @@ static PyObject *type_of(uint8_t byte) {
     return types[byte];
 }
 
-/* The numbers of a head, as _library.HEAD unpacks them. */
+/* A head as a _library.Head: a tuple of its numbers, made without a call of that class. */
 static PyObject *numbers(const feksroum_head *head) {
     unsigned long long found[10] = {head->body_size, head->start, head->length, head->first, head->nodes,
                                     head->channel, head->class_id, head->method_id, head->type, head->form};
-    PyObject *made = PyTuple_New(10);
+    PyObject *made = PyType_GenericAlloc((PyTypeObject *)native_module.head, 10);
     for (Py_ssize_t k = 0; made != NULL && k < 10; k++) {
         PyObject *number = PyLong_FromUnsignedLongLong(found[k]);
         if (number == NULL || PyTuple_SetItem(made, k, number) < 0) {

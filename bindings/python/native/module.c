@@ -99,8 +99,8 @@ PyObject *native_bind(PyObject *self, PyObject *arguments) {
         PyErr_SetString(PyExc_RuntimeError, "it is bound already");
         return NULL;
     }
-    if (!PyArg_ParseTuple(arguments, "(KKKKK)O!O!(OOOOOOO)", &at[0], &at[1], &at[2], &at[3], &at[4], &PyTuple_Type, &methods,
-                          &PyTuple_Type, &properties, &names->frame, &names->types, &names->numbers, &names->rare,
+    if (!PyArg_ParseTuple(arguments, "(KKKKK)O!O!(OOOOOOOO)", &at[0], &at[1], &at[2], &at[3], &at[4], &PyTuple_Type, &methods,
+                          &PyTuple_Type, &properties, &names->frame, &names->head, &names->types, &names->numbers, &names->rare,
                           &names->plain, &names->time, &names->seconds)) {
         return NULL;
     }
@@ -109,7 +109,7 @@ PyObject *native_bind(PyObject *self, PyObject *arguments) {
     native_library.write_content = (__typeof__(native_library.write_content))(uintptr_t)at[2];
     native_library.body_head = (__typeof__(native_library.body_head))(uintptr_t)at[3];
     native_library.max_payload = (__typeof__(native_library.max_payload))(uintptr_t)at[4];
-    PyObject *kept[] = {names->frame, names->types, names->numbers, names->rare, names->plain, names->time, names->seconds};
+    PyObject *kept[] = {names->frame, names->head, names->types, names->numbers, names->rare, names->plain, names->time, names->seconds};
     for (size_t k = 0; k < sizeof kept / sizeof kept[0]; k++) {
         Py_INCREF(kept[k]);
     }

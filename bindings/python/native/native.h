@@ -41,7 +41,7 @@ typedef struct native_class {
 /* What is called and made of the module in Python. */
 typedef struct native_names {
     native_class methods[FEKSROUM_METHODS], properties;
-    PyObject *frame; /* the class of frames */
+    PyObject *frame, *head; /* the classes of frames and of their heads */
     PyObject *types; /* a frame's type by the byte that names it: a dict */
     PyObject *numbers; /* the class of each kind of whole numbers: a dict */
     PyObject *rare; /* makes the values that no loop makes */

@@ -231,6 +231,9 @@ class Reading(unittest.TestCase):
             for name in ("type", "channel", "class_id", "method_id", "body_size", "canonical", "tidy", "payload", "bytes", "version"):
                 self.assertEqual(getattr(one, name), getattr(other, name), name)
             self.assertIs(type(one.method), type(other.method))
+            # Both read by batches of other lengths, from which these two are counted.
+            head = other._head._replace(start=one._head.start, first=one._head.first)
+            self.assertEqual((type(one._head), one._head, hash(one._head)), (_library.Head, head, hash(tuple(head))))
         self.assertEqual(len(found), len(plain))
         return found
 
@@ -316,7 +319,7 @@ class Trusting(unittest.TestCase):
                 for item in made:
                     with contextlib.suppress(TypeError):
                         list(feksroum.frames(feksroum.encode(1, item)))
-            counts.append(sum(map(sys.getrefcount, (None, True, Queue.Declare, Properties, feksroum.Frame, "arguments"))))
+            counts.append(sum(map(sys.getrefcount, (None, True, Queue.Declare, Properties, feksroum.Frame, _library.Head, "arguments"))))
         self.assertLess(abs(counts[2] - counts[1]), 50)
 
 

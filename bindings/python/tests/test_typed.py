@@ -92,6 +92,15 @@ class Methods(unittest.TestCase):
         for number in (Float32(0.5), Float64.from_bits(0x7FF0000000000001)):
             self.assertEqual(pickle.loads(pickle.dumps(number)).bits, number.bits)
 
+    def test_copies_of_frames(self):
+        """A pickle of a frame has its head as a plain tuple."""
+        frame = only(feksroum.encode(1, Basic.Ack(7)))
+        kept = pickle.dumps(frame)
+        self.assertNotIn(b"Head", kept)
+        for same in (copy.copy(frame), copy.deepcopy(frame), pickle.loads(kept), feksroum.Frame(frame._head, bytes(frame.bytes), 0)):
+            self.assertEqual((same, same.type, same.channel, same._head), (frame, frame.type, 1, frame._head))
+            self.assertEqual((same.class_id, same.method_id, same.canonical, bytes(same.payload)), (60, 80, True, bytes(frame.payload)))
+
     def test_each_method_comes_back(self):
         samples = {1: 200, 2: 40_000, 3: 3_000_000_000, 4: 2**64 - 1, 5: True, 6: "ü", 7: b"\xff\0", 8: {"k": "v"}}
         for method in METHODS.values():
