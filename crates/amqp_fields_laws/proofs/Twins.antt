@@ -22,7 +22,7 @@ stands_fit pool fits end bytes stands = span_fits pool bytes (end - length bytes
 
 -- ---- what is read twice
 
--- Two nodes say the same before anything is read, each with the span of its own key.
+-- The labels with which two readings of one thing begin: of one kind and place, with keys of the same bytes, and nothing read yet.
 pub record AreAlike (pool other : List ℕ) (a b : Node) : Type 0 where
   pub kind : a.kind ≡ b.kind
   pub place : a.place ≡ b.place
