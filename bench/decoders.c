@@ -1,10 +1,11 @@
 /* Decodes each frame of a file by one of some ways, and prints how many there are:
  *
- *     decoders librabbitmq|check|shallow|deep|frames|canonicalize FILE
+ *     decoders librabbitmq|check|shallow|deep|frames|canonicalize|write|apart FILE
  *
  * `librabbitmq` is its amqp_handle_input, with what it keeps of a channel released after each frame. `check` is feksroum_next
  * and feksroum_check, `shallow` and `deep` are feksroum_next and feksroum_read, `frames` is feksroum_frames with all that lies inside, as
- * many frames as 4096 heads and 65536 nodes hold. `canonicalize` is feksroum_canonicalize, frame by frame, which also writes. */
+ * many frames as 4096 heads and 65536 nodes hold. `canonicalize` is feksroum_canonicalize, frame by frame, which also writes. `write` and
+ * `apart` are feksroum_frames, and then feksroum_write of what it gave: of all of it by one call, or of each frame by a call of its own. */
 #include <amqp.h>
 #include <feksroum.h>
 #include <stdio.h>
@@ -17,6 +18,7 @@ static feksroum_head heads[HEADS];
 static feksroum_node nodes[NODES];
 static uint8_t out[MAX_PAYLOAD + FEKSROUM_AROUND_PAYLOAD];
 static feksroum_mark scratch[MAX_PAYLOAD / 2];
+static uint8_t *again;
 
 static void stop(const char *why) {
     fprintf(stderr, "decoders: %s\n", why);
@@ -81,11 +83,32 @@ static size_t read_fields(const uint8_t *bytes, size_t length, uint8_t detail) {
     return frame.used;
 }
 
-/* As many frames as fit; returns how many bytes they have, and says how many they are. */
-static size_t read_frames(const uint8_t *bytes, size_t length, size_t *frames) {
+static void write_again(const feksroum_head *some, size_t count, const feksroum_node *of, size_t node_count, const uint8_t *bytes,
+                        size_t length) {
+    if (feksroum_write(some, count, of, node_count, bytes, length, MAX_PAYLOAD, again, length).status) {
+        stop("what was read is not written");
+    }
+}
+
+static void write_apart(const feksroum_batch *batch, const uint8_t *bytes) {
+    for (size_t at = 0; at < batch->heads; at++) {
+        feksroum_head head = heads[at];
+        head.first = 0;
+        write_again(&head, 1, nodes + heads[at].first, head.nodes, bytes, batch->used);
+    }
+}
+
+/* As many frames as fit, which are then written again by the ways that do so; returns how many bytes they have, and says how many they are. */
+static size_t read_frames(char way, const uint8_t *bytes, size_t length, size_t *frames) {
     feksroum_batch batch = feksroum_frames(bytes, length, MAX_PAYLOAD, FEKSROUM_DEEP, heads, HEADS, nodes, NODES);
     if (batch.heads == 0) {
         stop("a frame is none");
+    }
+    if (way == 'w') {
+        write_again(heads, batch.heads, nodes, batch.nodes, bytes, batch.used);
+    }
+    if (way == 'a') {
+        write_apart(&batch, bytes);
     }
     *frames += batch.heads;
     return batch.used;
@@ -103,8 +126,8 @@ static size_t canonicalize(const uint8_t *bytes, size_t length) {
 
 /* Decodes what is in front by a way, and returns how many bytes that has. */
 static size_t decode(char way, amqp_connection_state_t state, uint8_t *bytes, size_t length, size_t *frames) {
-    if (way == 'f') {
-        return read_frames(bytes, length, frames);
+    if (way == 'f' || way == 'w' || way == 'a') {
+        return read_frames(way, bytes, length, frames);
     }
     ++*frames;
     switch (way) {
@@ -123,16 +146,18 @@ static size_t decode(char way, amqp_connection_state_t state, uint8_t *bytes, si
 
 int main(int argc, char **argv) {
     if (argc != 3) {
-        stop("librabbitmq|check|shallow|deep|frames|canonicalize FILE");
+        stop("librabbitmq|check|shallow|deep|frames|canonicalize|write|apart FILE");
     }
     uint8_t *bytes;
     size_t length = read_file(argv[2], &bytes), at = 0, frames = 0;
     char way = strcmp(argv[1], "canonicalize") == 0 ? 'k' : argv[1][0];
     amqp_connection_state_t state = way == 'l' ? open_connection() : NULL;
+    again = malloc(length + 1);
     while (at < length) {
         at += decode(way, state, bytes + at, length - at, &frames);
     }
     printf("%zu\n", frames);
+    free(again);
     free(bytes);
     return 0;
 }

@@ -222,11 +222,35 @@ macro_rules! with_fields {
     };
 }
 
+/// The size in bytes of the ids and fields of any method. Apart from the methods that most frames have, since a call clears
+/// room for the fields of each method that it names.
+#[inline(never)]
+fn size_any(method: &AMQPMethod) -> Result<u64, GenError>
+    ensures { Measures result (payload_size (method_of method.now)) }
+{
+    with_fields!(method, size_fields())
+}
+
 /// The size in bytes of the class id, the method id and the fields.
 pub fn size_basic(method: &AMQPMethod) -> Result<u64, GenError>
     ensures { Measures result (payload_size (method_of method.now)) }
 {
-    with_fields!(method, size_fields())
+    match method {
+        AMQPMethod::Publish(publish) => size_fields(&publishing::publish_fields(publish)),
+        AMQPMethod::Deliver(deliver) => size_fields(&publishing::deliver_fields(deliver)),
+        AMQPMethod::Ack(ack) => size_fields(&acknowledging::ack_fields(ack)),
+        _ => size_any(method),
+    }
+}
+
+/// Puts the ids and fields of any method, apart for the same reason.
+#[inline(never)]
+fn put_any(buf: &mut [u8], at: usize, method: &AMQPMethod) -> usize
+    requires { HasRoom buf.old at (payload_size (method_of method.now))
+        (payload_bytes (method_of method.now)) }
+    ensures { Puts buf.old buf.new at (payload_bytes (method_of method.now)) result }
+{
+    with_fields!(method, put_fields(buf, at))
 }
 
 /// Puts the class id, the method id and the fields at a place of a slice, and returns the place after.
@@ -235,7 +259,12 @@ pub fn put_basic(buf: &mut [u8], at: usize, method: &AMQPMethod) -> usize
         (payload_bytes (method_of method.now)) }
     ensures { Puts buf.old buf.new at (payload_bytes (method_of method.now)) result }
 {
-    with_fields!(method, put_fields(buf, at))
+    match method {
+        AMQPMethod::Publish(publish) => put_fields(buf, at, &publishing::publish_fields(publish)),
+        AMQPMethod::Deliver(deliver) => put_fields(buf, at, &publishing::deliver_fields(deliver)),
+        AMQPMethod::Ack(ack) => put_fields(buf, at, &acknowledging::ack_fields(ack)),
+        _ => put_any(buf, at, method),
+    }
 }
 
 /// Appends the class id, the method id and the fields to a vector.

@@ -6,8 +6,8 @@ use Rattle.amqp_types.specs.Levels.{plain}
 use Rattle.amqp_types.specs.declared.errors.ParserError.{ParserError}
 use Rattle.amqp_types.specs.declared.errors.ParserError.TheVariants as errors
 use Rattle.amqp_wire.specs.Frames.{Frame}
-use Rattle.amqp_wire.specs.Verdicts.{judged, verdict}
-use Rattle.amqp_wire.proofs.OuterLook.{outer-none}
+use Rattle.amqp_wire.specs.Verdicts.{judge_scanned, judge_frame}
+use Rattle.amqp_wire.proofs.HeaderScan.{scan-none}
 use Rattle.amqp_fields.specs.declared.frames.FramesEnd.{FramesEnd}
 use Rattle.amqp_fields.specs.declared.frames.FramesEnd.TheVariants as ends
 use Rattle.amqp_fields.specs.declared.frames.FramesRead.{FramesRead}
@@ -25,9 +25,9 @@ frames_few m deep bytes heads nodes read h =
     let size = length-take 4294967295 bytes in
     (omega (arith, size, h.within, h.few_heads), omega (arith, size, h.within, h.few_nodes))
 
-none_left : (m : ℕ) → verdict plain (Some m) [] ≡ past
-unfolding verdict
-none_left m = ap (judged plain) (outer-none (Some m))
+none_left : (m : ℕ) → judge_frame plain (Some m) [] ≡ past
+unfolding judge_frame
+none_left m = ap (judge_scanned plain) (scan-none (Some m))
 
 module _ (m : ℕ) (deep : Bool) (bytes : List ℕ) (heads : List Head) (nodes : List Node) (read : FramesRead) where
   -- what is reported, with this in place of what comes after the frames
@@ -35,7 +35,7 @@ module _ (m : ℕ) (deep : Bool) (bytes : List ℕ) (heads : List Head) (nodes :
   with_end end = record { used = read.used; needed = end_needed end; heads = read.heads; nodes = read.nodes; status = end_status end; unused = 0 }
 
   left : Judged Frame
-  left = verdict plain (Some m) (drop read.used (in_reach bytes))
+  left = judge_frame plain (Some m) (drop read.used (in_reach bytes))
 
   fault_follows : (error : ParserError) (j : Judged Frame) → SaysFault error j → Follows m deep bytes heads nodes (with_end (ends.Fault error)) j
   unfolding with_end
@@ -57,12 +57,12 @@ module _ (m : ℕ) (deep : Bool) (bytes : List ℕ) (heads : List Head) (nodes :
   end_follows ends.Done h =
       let nothing : drop read.used (in_reach bytes) ≡ [] =
       nil_from_length (drop read.used (in_reach bytes)) (omega (arith, h, length-drop read.used (in_reach bytes), length-take 4294967295 bytes)) in
-      subst (Follows m deep bytes heads nodes (with_end ends.Done)) (sym (ap (verdict plain (Some m)) nothing ∙ none_left m))
+      subst (Follows m deep bytes heads nodes (with_end ends.Done)) (sym (ap (judge_frame plain (Some m)) nothing ∙ none_left m))
       (λ all. (refl, refl), λ more. absurd (omega (arith, h, more)))
   end_follows (ends.Incomplete needed) h =
       subst (Follows m deep bytes heads nodes (with_end (ends.Incomplete needed))) (sym h.1.0) (λ all. absurd (omega (arith, h.0, all)), λ more. (refl, h.1.1))
   end_follows ends.TooLarge h = subst (Follows m deep bytes heads nodes (with_end ends.TooLarge)) (sym h.1) (refl, refl)
-  end_follows (ends.Fault error) h = fault_follows error (verdict plain (Some m) (drop read.used (in_reach bytes))) h.1
+  end_follows (ends.Fault error) h = fault_follows error (judge_frame plain (Some m) (drop read.used (in_reach bytes))) h.1
   end_follows (ends.Full needed) h =
       let got = verdict_whole m (drop read.used (in_reach bytes)) h.raw h.size h.frame h.found h.is in
       subst (Follows m deep bytes heads nodes (with_end (ends.Full needed))) (sym got) (record {

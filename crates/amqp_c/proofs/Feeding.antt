@@ -8,13 +8,13 @@ use Rattle.amqp_types.specs.Judging.{Fault, Judged, past, fault, took}
 use Rattle.amqp_wire.specs.Canonical.{canon, canon_frames}
 use Rattle.amqp_wire.specs.Frames.{Frame, Raw}
 use Rattle.amqp_wire.specs.Fronts.{front, place}
-use Rattle.amqp_wire.specs.Outer.{outer}
-use Rattle.amqp_wire.specs.Verdicts.{is_at, judged, judged_frame, verdict, whole}
+use Rattle.amqp_wire.specs.HeaderScan.{scan}
+use Rattle.amqp_wire.specs.Verdicts.{is_at, judge_scanned, judge_decoded, judge_frame, decode_raw}
 use Rattle.amqp_wire.proofs.Cuts.{front-stop, verdict-append, verdict-none}
-use Rattle.amqp_wire.proofs.OuterLook.{outer-past_few}
+use Rattle.amqp_wire.proofs.HeaderScan.{scan-past_few}
 use Rattle.amqp_wire.proofs.Sequences.{splits_of, front_fault}
 use Rattle.amqp_stream.specs.Canonicalizing.{canon_of}
-use Rattle.amqp_stream.specs.Transcribing.{answer_at}
+use Rattle.amqp_stream.specs.Causes.{answer_at}
 use Rattle.amqp_c.specs.Rewriting.{Call, FaultsStay, LittleIsLeft, PiecesAreWhole, called, fed_after, then_called}
 use Rattle.amqp_c.specs.Scans.{fault_status}
 use Rattle.amqp_stream.specs.Errors.{status_of}
@@ -39,7 +39,7 @@ text_more level m a b =
 
 -- the status at a place
 abbrev status_at : Level → ℕ → List ℕ → ℕ
-status_at level m bytes = status_of (answer_at bytes (verdict level (Some m) bytes))
+status_at level m bytes = status_of (answer_at bytes (judge_frame level (Some m) bytes))
 
 same_call : (text other : List ℕ) (left rest : List ℕ) (status end : ℕ) → text ≡ other → left ≡ rest → status ≡ end
     → (let a : Call = record { text = text; left = left; status = status } in let b : Call = record { text = other; left = rest; status = end } in a ≡ b)
@@ -64,7 +64,7 @@ pieces_are_whole level m first pieces = fed_more level m first pieces
 -- ---- a fault
 
 pub status_fault : (level : Level) (m : ℕ) (bytes : List ℕ) (bad : Fault)
-    → verdict level (Some m) bytes ≡ fault bad → status_at level m bytes ≡ fault_status bad
+    → judge_frame level (Some m) bytes ≡ fault bad → status_at level m bytes ≡ fault_status bad
 status_fault level m [] bad e = absurd (let none = verdict-none level (Some m) in cc)
 status_fault level m (b ∷ bytes) bad e = ap (λ j. status_of (answer_at (b ∷ bytes) j)) e
 
@@ -72,7 +72,7 @@ status_fault level m (b ∷ bytes) bad e = ap (λ j. status_of (answer_at (b ∷
 pub faults_stay : FaultsStay
 faults_stay level m bytes more bad e =
     let left = place level (Some m) bytes in
-    let again : verdict level (Some m) (left ++ more) ≡ fault bad = verdict-append level (Some m) left more (λ h. absurd cc) ∙ e in
+    let again : judge_frame level (Some m) (left ++ more) ≡ fault bad = verdict-append level (Some m) left more (λ h. absurd cc) ∙ e in
     let stays : place level (Some m) (bytes ++ more) ≡ left ++ more =
     place_more level (Some m) bytes more ∙ (front-stop level (Some m) (left ++ more) (rw again tt)).1 in
     same_call _ _ _ _ _ _ (ap canon_frames (front_fault level (Some m) bytes more bad e)) stays
@@ -80,23 +80,23 @@ faults_stay level m bytes more bad e =
 
 -- ---- what is left where more bytes are needed
 
-judged_frame-decided : (at_level : Bool) (read : Result Frame Fault) (n : ℕ) → judged_frame at_level read n ≡ past → ⊥
-judged_frame-decided true (Ok f) n e = absurd cc
-judged_frame-decided false (Ok f) n e = absurd cc
-judged_frame-decided true (Err bad) n e = absurd cc
-judged_frame-decided false (Err bad) n e = absurd cc
+judge_decoded-decided : (at_level : Bool) (read : Result Frame Fault) (n : ℕ) → judge_decoded at_level read n ≡ past → ⊥
+judge_decoded-decided true (Ok f) n e = absurd cc
+judge_decoded-decided false (Ok f) n e = absurd cc
+judge_decoded-decided true (Err bad) n e = absurd cc
+judge_decoded-decided false (Err bad) n e = absurd cc
 
-judged-past : (level : Level) (j : Judged Raw) → judged level j ≡ past → j ≡ past
-judged-past level past e = refl
-judged-past level (fault bad) e = absurd cc
-judged-past level (took raw n) e = absurd (judged_frame-decided (is_at level raw) (whole raw) n e)
+judge_scanned-past : (level : Level) (j : Judged Raw) → judge_scanned level j ≡ past → j ≡ past
+judge_scanned-past level past e = refl
+judge_scanned-past level (fault bad) e = absurd cc
+judge_scanned-past level (took raw n) e = absurd (judge_decoded-decided (is_at level raw) (decode_raw raw) n e)
 
-outer-past : (level : Level) (m : ℕ) (bytes : List ℕ) → verdict level (Some m) bytes ≡ past → outer (Some m) bytes ≡ past
-unfolding verdict
-outer-past level m bytes e = judged-past level (outer (Some m) bytes) e
+scan-past : (level : Level) (m : ℕ) (bytes : List ℕ) → judge_frame level (Some m) bytes ≡ past → scan (Some m) bytes ≡ past
+unfolding judge_frame
+scan-past level m bytes e = judge_scanned-past level (scan (Some m) bytes) e
 
 -- Where more bytes are needed, fewer are left than a frame of the largest size has.
 pub little_is_left : LittleIsLeft
 little_is_left level m bytes e =
     let left = place level (Some m) bytes in
-    omega (arith, outer-past_few m left (outer-past level m left e))
+    omega (arith, scan-past_few m left (scan-past level m left e))

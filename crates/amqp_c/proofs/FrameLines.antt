@@ -7,8 +7,8 @@ use Rattle.amqp_wire.specs.declared.looking.FrameLayout.{FrameLayout}
 use Rattle.amqp_wire.specs.Canonical.{canon}
 use Rattle.amqp_wire.specs.Frames.{Frame, Raw}
 use Rattle.amqp_wire.specs.Looks.{laid_out}
-use Rattle.amqp_wire.specs.Outer.{outer}
-use Rattle.amqp_wire.specs.Verdicts.{verdict, whole}
+use Rattle.amqp_wire.specs.HeaderScan.{scan}
+use Rattle.amqp_wire.specs.Verdicts.{judge_frame, decode_raw}
 use Rattle.amqp_wire.proofs.Cuts.{verdict-whole}
 use Rattle.amqp_stream.specs.declared.errors.StreamError.{StreamError}
 use Rattle.amqp_stream.specs.declared.errors.StreamError.TheVariants as errors
@@ -30,20 +30,20 @@ use Rattle.amqp_c.proofs.Fronts.{fault_verdict, unscanned}
 
 -- Where the line of the whole frame in front is appended, it is that of the frame which the bytes are decoded to.
 pub line_appended : (m : ℕ) (bytes old new : List ℕ) (raw : Raw) (layout : FrameLayout) (frame : Frame) → Lies m bytes layout
-    → raw ≡ laid_out layout bytes → whole raw ≡ Ok frame → new ≡ old ++ line frame → AppendsFront m bytes old new (Ok layout.frame_len)
+    → raw ≡ laid_out layout bytes → decode_raw raw ≡ Ok frame → new ≡ old ++ line frame → AppendsFront m bytes old new (Ok layout.frame_len)
 line_appended m bytes old new raw layout frame lies is is_whole appended =
-    let found : outer (Some m) bytes ≡ took raw layout.frame_len = lies.found ∙ ap (λ (r : Raw). took r layout.frame_len) (sym is) in
+    let found : scan (Some m) bytes ≡ took raw layout.frame_len = lies.found ∙ ap (λ (r : Raw). took r layout.frame_len) (sym is) in
     (frame, verdict-whole plain (Some m) bytes raw layout.frame_len frame found refl is_whole, appended)
 
 -- Where no frame is in front of the bytes, the error says why.
-pub no_front : (m : ℕ) (bytes old new : List ℕ) (error : StreamError) → error_at (outer (Some m) bytes) ≡ Some error → AppendsFront m bytes old new (Err error)
+pub no_front : (m : ℕ) (bytes old new : List ℕ) (error : StreamError) → error_at (scan (Some m) bytes) ≡ Some error → AppendsFront m bytes old new (Err error)
 no_front m bytes old new errors.NoMemory h = tt
 no_front m bytes old new error h = unscanned plain m bytes error h
 
 at_fault : (m : ℕ) (bytes : List ℕ) (raw : Raw) (layout : FrameLayout) (bad : Fault) → Lies m bytes layout
-    → raw ≡ laid_out layout bytes → IsFaulty plain raw bad → error_at (verdict plain (Some m) bytes) ≡ Some (error_for bad)
+    → raw ≡ laid_out layout bytes → IsFaulty plain raw bad → error_at (judge_frame plain (Some m) bytes) ≡ Some (error_for bad)
 at_fault m bytes raw layout bad lies is h =
-    let found : outer (Some m) bytes ≡ took raw layout.frame_len = lies.found ∙ ap (λ (r : Raw). took r layout.frame_len) (sym is) in
+    let found : scan (Some m) bytes ≡ took raw layout.frame_len = lies.found ∙ ap (λ (r : Raw). took r layout.frame_len) (sym is) in
     ap error_at (fault_verdict plain m bytes raw layout.frame_len bad found h)
 
 -- Where the frame in front has no line, the error says why.

@@ -18,16 +18,16 @@ use Rattle.amqp_wire.specs.Frames.{Frame, Raw, frame_length}
 use Rattle.amqp_wire.specs.Fronts.{front, place}
 use Rattle.amqp_wire.specs.Judgements.{IsJudged}
 use Rattle.amqp_wire.specs.Looks.{laid_out}
-use Rattle.amqp_wire.specs.Outer.{outer}
-use Rattle.amqp_wire.specs.Verdicts.{IsPayloadError, judged, verdict, whole}
+use Rattle.amqp_wire.specs.HeaderScan.{scan}
+use Rattle.amqp_wire.specs.Verdicts.{IsPayloadError, judge_scanned, judge_frame, decode_raw}
 use Rattle.amqp_wire.proofs.Cuts.{IsStop, front-got, front-stop, front-none, place-none, verdict-got_within, verdict-whole}
-use Rattle.amqp_wire.proofs.OuterLook.{outer-in_bounds}
+use Rattle.amqp_wire.proofs.HeaderScan.{scan-in_bounds}
 use Rattle.amqp_wire.proofs.Strictness.{canon_frames-more}
 use Rattle.amqp_stream.specs.declared.errors.StreamError.{StreamError}
 use Rattle.amqp_stream.specs.declared.errors.StreamError.TheVariants as errors
 use Rattle.amqp_stream.specs.Errors.{error_for, stream_error_status, status_of}
 use Rattle.amqp_stream.specs.Reading.{Lies}
-use Rattle.amqp_stream.specs.Transcribing.{answer_at, answer_to}
+use Rattle.amqp_stream.specs.Causes.{answer_at, answer_to}
 use Rattle.amqp_stream.specs.Writing.{IsFaulty, payload_fault}
 use Rattle.amqp_stream.proofs.Going.{frame_fits}
 use Rattle.amqp_stream.proofs.Tidying.{is_untidy}
@@ -40,12 +40,12 @@ use Rattle.amqp_c.specs.Scans.{error_at}
 -- a whole payload with this fault, which the error reports
 pub record HasFault (raw : Raw) (error : StreamError) : Type 0 where
   pub bad : Fault
-  pub is_whole : whole raw ≡ Err bad
+  pub is_whole : decode_raw raw ≡ Err bad
   pub other : bad ≢ not_tidy
   pub error_is : error ≡ error_for bad
 
 pub has_fault : (raw : Raw) (error : ParserError) → IsPayloadError error → error ≢ parses.NoMemory
-    → RefusesWhole error (whole raw) → HasFault raw (payload_fault error)
+    → RefusesWhole error (decode_raw raw) → HasFault raw (payload_fault error)
 has_fault raw parses.NoMemory inside some h = absurd (some refl)
 has_fault raw parses.Incomplete inside some h = absurd inside
 has_fault raw parses.UnknownFrameType inside some h = absurd inside
@@ -57,7 +57,7 @@ has_fault raw error inside some h = record { bad = _; is_whole = h; other = λ e
 
 -- Decoding a frame at any level, where its payload is refused, returns the error of that fault.
 pub judged_refused : (level : Level) (raw : Raw) (error : ParserError) (stream : StreamError) → stream ≡ payload_fault error
-    → IsPayloadError error → error ≢ parses.NoMemory → RefusesWhole error (whole raw) → JudgesAt level raw (Err stream)
+    → IsPayloadError error → error ≢ parses.NoMemory → RefusesWhole error (decode_raw raw) → JudgesAt level raw (Err stream)
 judged_refused level raw error stream is inside some h =
     let f = has_fault raw error inside some h in
     (f.bad, is_faulty level raw f.bad f.is_whole f.other, is ∙ f.error_is)
@@ -74,27 +74,27 @@ judged_as profiles.Tidy raw found j so = (j, sym j.tidy ∙ so refl)
 
 -- ---- the frame in front
 
-stop_judged : (level : Level) (j : Judged Raw) (error : StreamError) → error_at j ≡ Some error → error_at (judged level j) ≡ Some error
+stop_judged : (level : Level) (j : Judged Raw) (error : StreamError) → error_at j ≡ Some error → error_at (judge_scanned level j) ≡ Some error
 stop_judged level (took raw n) error e = absurd cc
 stop_judged level past error e = e
 stop_judged level (fault bad) error e = e
 
 -- A fault of the header scan is the fault of the verdict, at each level.
 pub unscanned : (level : Level) (m : ℕ) (bytes : List ℕ) (error : StreamError)
-    → error_at (outer (Some m) bytes) ≡ Some error → error_at (verdict level (Some m) bytes) ≡ Some error
-unfolding verdict
-unscanned level m bytes error e = stop_judged level (outer (Some m) bytes) error e
+    → error_at (scan (Some m) bytes) ≡ Some error → error_at (judge_frame level (Some m) bytes) ≡ Some error
+unfolding judge_frame
+unscanned level m bytes error e = stop_judged level (scan (Some m) bytes) error e
 
 -- the payload of a frame in front has a length of four bytes
-few_bytes : (m : ℕ) (bytes : List ℕ) (raw : Raw) (n : ℕ) → m < 2 ^ 32 → outer (Some m) bytes ≡ took raw n → length raw.payload < 2 ^ 32
-few_bytes m bytes raw n few found = omega (arith, (outer-in_bounds (Some m) bytes raw n found).payload m refl)
+few_bytes : (m : ℕ) (bytes : List ℕ) (raw : Raw) (n : ℕ) → m < 2 ^ 32 → scan (Some m) bytes ≡ took raw n → length raw.payload < 2 ^ 32
+few_bytes m bytes raw n few found = omega (arith, (scan-in_bounds (Some m) bytes raw n found).payload m refl)
 
 -- Where the canonical bytes of the frame in front are put, and are no longer than the frame, a frame is put from these bytes.
 pub front_put : (level : Level) (m : ℕ) (bytes old new : List ℕ) (at end : ℕ) (raw : Raw) (layout : FrameLayout)
     → Lies m bytes layout → raw ≡ laid_out layout bytes → end ≤ at + frame_length raw
     → PutsFrame level old new at raw (Ok end) → PutsFrom level m bytes old new at layout.frame_len end
 front_put level m bytes old new at end raw layout lies is within puts =
-    let found : outer (Some m) bytes ≡ took raw layout.frame_len = lies.found ∙ ap (λ (r : Raw). took r layout.frame_len) (sym is) in
+    let found : scan (Some m) bytes ≡ took raw layout.frame_len = lies.found ∙ ap (λ (r : Raw). took r layout.frame_len) (sym is) in
     record {
       frame = puts.0;
       found = verdict-whole level (Some m) bytes raw layout.frame_len puts.0 found puts.2 puts.1;
@@ -114,15 +114,15 @@ front_few m bytes raw layout few lies is = rw is (few_bytes m bytes (laid_out la
 
 -- A fault of the payload after the header scan is the fault of the verdict.
 pub fault_verdict : (level : Level) (m : ℕ) (bytes : List ℕ) (raw : Raw) (n : ℕ) (bad : Fault)
-    → outer (Some m) bytes ≡ took raw n → IsFaulty level raw bad → verdict level (Some m) bytes ≡ fault bad
-unfolding verdict
-fault_verdict level m bytes raw n bad found is = ap (judged level) found ∙ is.judged_bad n
+    → scan (Some m) bytes ≡ took raw n → IsFaulty level raw bad → judge_frame level (Some m) bytes ≡ fault bad
+unfolding judge_frame
+fault_verdict level m bytes raw n bad found is = ap (judge_scanned level) found ∙ is.judged_bad n
 
 -- Where a frame in front is not put, the error says the fault of the verdict, and the buffer is as it was.
 pub front_unput : (level : Level) (m : ℕ) (bytes old new : List ℕ) (at : ℕ) (raw : Raw) (layout : FrameLayout) (error : StreamError) → Lies m bytes layout
-    → raw ≡ laid_out layout bytes → PutsFrame level old new at raw (Err error) → (error_at (verdict level (Some m) bytes) ≡ Some error) × (new ≡ old)
+    → raw ≡ laid_out layout bytes → PutsFrame level old new at raw (Err error) → (error_at (judge_frame level (Some m) bytes) ≡ Some error) × (new ≡ old)
 front_unput level m bytes old new at raw layout error lies is puts =
-    let found : outer (Some m) bytes ≡ took raw layout.frame_len = lies.found ∙ ap (λ (r : Raw). took r layout.frame_len) (sym is) in
+    let found : scan (Some m) bytes ≡ took raw layout.frame_len = lies.found ∙ ap (λ (r : Raw). took r layout.frame_len) (sym is) in
     (ap error_at (fault_verdict level m bytes raw layout.frame_len puts.0 found puts.1) ∙ ap (λ e. Some e) (sym puts.2), puts.3)
 
 -- ---- the loop
@@ -201,15 +201,15 @@ going_ends {level = level} {m = m} {bytes = bytes} {old = old} {now = now} {used
 
 -- Where the frames in front end at a fault, the progress says it, and their canonical bytes stand in the buffer.
 pub going_stops : {level : Level} {m : ℕ} {bytes old now : List ℕ} {used done : ℕ} (error : StreamError) → used < length bytes
-    → Going level m bytes old now used done → error_at (verdict level (Some m) (drop used bytes)) ≡ Some error
+    → Going level m bytes old now used done → error_at (judge_frame level (Some m) (drop used bytes)) ≡ Some error
     → CanonicalizesPart level m bytes old now (came used done (stream_error_status error))
 going_stops {level = level} {m = m} {bytes = bytes} {used = used} error some g e =
     let rest = drop used bytes in
-    let stop = front-stop level (Some m) rest (stops (verdict level (Some m) rest) error e) in
+    let stop = front-stop level (Some m) rest (stops (judge_frame level (Some m) rest) error e) in
     let left : place level (Some m) bytes ≡ rest = g.after ∙ stop.1 in
     let there : 0 < length rest = omega (arith, length-drop used bytes) in
     let status : status_of (answer_to level m bytes) ≡ stream_error_status error =
-    ap (λ (p : List ℕ). status_of (answer_at p (verdict level (Some m) p))) left ∙ status_stop rest (verdict level (Some m) rest) error there e in
+    ap (λ (p : List ℕ). status_of (answer_at p (judge_frame level (Some m) p))) left ∙ status_stop rest (judge_frame level (Some m) rest) error there e in
     going_ends g stop.0 stop.1 (sym status)
 
 -- Where the frames in front reach the end of the bytes, the progress says no fault.
@@ -220,4 +220,4 @@ going_finishes {level = level} {m = m} {bytes = bytes} {used = used} all g =
     let empty : front level (Some m) (drop used bytes) ≡ [] = ap (front level (Some m)) none ∙ front-none level (Some m) in
     let nothing : place level (Some m) (drop used bytes) ≡ [] = ap (place level (Some m)) none ∙ place-none level (Some m) in
     let left : place level (Some m) bytes ≡ [] = g.after ∙ nothing in
-    going_ends g empty (nothing ∙ sym none) (sym (ap (λ (p : List ℕ). status_of (answer_at p (verdict level (Some m) p))) left))
+    going_ends g empty (nothing ∙ sym none) (sym (ap (λ (p : List ℕ). status_of (answer_at p (judge_frame level (Some m) p))) left))

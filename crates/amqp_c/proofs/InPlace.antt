@@ -19,13 +19,13 @@ use Rattle.amqp_wire.specs.Frames.{Frame, Raw, frame_length}
 use Rattle.amqp_wire.specs.Fronts.{front, place}
 use Rattle.amqp_wire.specs.Judgements.{IsJudged}
 use Rattle.amqp_wire.specs.Looks.{laid_out}
-use Rattle.amqp_wire.specs.Outer.{outer}
+use Rattle.amqp_wire.specs.HeaderScan.{scan}
 use Rattle.amqp_wire.specs.Rewrites as puts
 use Rattle.amqp_wire.specs.Spelling.{SpellsFrames}
-use Rattle.amqp_wire.specs.Verdicts.{IsPayloadError, is_at, judged, judged_frame, verdict, whole}
+use Rattle.amqp_wire.specs.Verdicts.{IsPayloadError, is_at, judge_scanned, judge_decoded, judge_frame, decode_raw}
 use Rattle.amqp_wire.proofs.Cuts.{IsStop, front-got, front-stop, place-none, verdict-got_within, verdict-whole}
-use Rattle.amqp_wire.proofs.Encoded.{judged_frame-is, verdict-spells}
-use Rattle.amqp_wire.proofs.OuterLook.{outer-in_bounds}
+use Rattle.amqp_wire.proofs.Encoded.{judge_decoded-is, verdict-spells}
+use Rattle.amqp_wire.proofs.HeaderScan.{scan-in_bounds}
 use Rattle.amqp_wire.proofs.Sequences.{SpellsFrames-precedes, longest_sequence}
 use Rattle.amqp_wire.proofs.Strictness.{one_strict}
 use Rattle.amqp_stream.specs.declared.errors.StreamError.{StreamError}
@@ -44,7 +44,7 @@ use Rattle.amqp_c.proofs.Fronts.{Going, fault_verdict, going_on, judged_refused,
 
 -- a frame that lies there, by its outer parts
 lies_as : (m : ℕ) (bytes : List ℕ) (raw : Raw) (layout : FrameLayout) → Lies m bytes layout
-    → raw ≡ laid_out layout bytes → outer (Some m) bytes ≡ took raw layout.frame_len
+    → raw ≡ laid_out layout bytes → scan (Some m) bytes ≡ took raw layout.frame_len
 lies_as m bytes raw layout lies is = lies.found ∙ ap (λ (r : Raw). took r layout.frame_len) (sym is)
 
 -- what has an error is no frame
@@ -58,17 +58,17 @@ fault_is_none (took x n) bad e frame used is = absurd cc
 fault_is_none past bad e frame used is = absurd cc
 fault_is_none (fault b) bad e frame used is = absurd cc
 
-below_level : (t : Bool) (read : Result Frame Fault) (f : Frame) (n : ℕ) → read ≡ Ok f → t ≡ false → judged_frame t read n ≡ fault not_tidy
+below_level : (t : Bool) (read : Result Frame Fault) (f : Frame) (n : ℕ) → read ≡ Ok f → t ≡ false → judge_decoded t read n ≡ fault not_tidy
 below_level true read f n e h = absurd cc
-below_level false read f n e h = ap (λ r. judged_frame false r n) e
+below_level false read f n e h = ap (λ r. judge_decoded false r n) e
 
-not_strict : (m : ℕ) (bytes : List ℕ) (raw : Raw) (n : ℕ) (f : Frame) → outer (Some m) bytes ≡ took raw n
-    → whole raw ≡ Ok f → is_at strict raw ≡ false → verdict strict (Some m) bytes ≡ fault not_tidy
-unfolding verdict
-not_strict m bytes raw n f found e h = ap (judged strict) found ∙ below_level (is_at strict raw) (whole raw) f n e h
+not_strict : (m : ℕ) (bytes : List ℕ) (raw : Raw) (n : ℕ) (f : Frame) → scan (Some m) bytes ≡ took raw n
+    → decode_raw raw ≡ Ok f → is_at strict raw ≡ false → judge_frame strict (Some m) bytes ≡ fault not_tidy
+unfolding judge_frame
+not_strict m bytes raw n f found e h = ap (judge_scanned strict) found ∙ below_level (is_at strict raw) (decode_raw raw) f n e h
 
 -- the bytes of a canonical frame
-strict_bytes : (m : ℕ) (bytes : List ℕ) (f : Frame) (n : ℕ) → IsBytes bytes → verdict strict (Some m) bytes ≡ took f n → take n bytes ≡ canon f
+strict_bytes : (m : ℕ) (bytes : List ℕ) (f : Frame) (n : ℕ) → IsBytes bytes → judge_frame strict (Some m) bytes ≡ took f n → take n bytes ≡ canon f
 strict_bytes m bytes f n fits e =
     let spelled = verdict-spells strict (Some m) bytes f n fits e in
     let sequence : SpellsFrames strict (Some m) (take n bytes) (f ∷ []) = (take n bytes, [], sym (append-nil (take n bytes)), spelled.0, spelled.1, refl) in
@@ -76,7 +76,7 @@ strict_bytes m bytes f n fits e =
 
 -- no other frame has its canonical bytes
 other_bytes : (level : Level) (m : ℕ) (bytes : List ℕ) (f : Frame) (n : ℕ) → IsBytes bytes
-    → verdict level (Some m) bytes ≡ took f n → verdict strict (Some m) bytes ≡ fault not_tidy → take n bytes ≢ canon f
+    → judge_frame level (Some m) bytes ≡ took f n → judge_frame strict (Some m) bytes ≡ fault not_tidy → take n bytes ≢ canon f
 other_bytes level m bytes f n fits e bad same =
     let spelled = verdict-spells level (Some m) bytes f n fits e in
     let sequence : SpellsFrames level (Some m) (take n bytes) (f ∷ []) = (take n bytes, [], sym (append-nil (take n bytes)), spelled.0, spelled.1, refl) in
@@ -93,22 +93,22 @@ other_bytes level m bytes f n fits e bad same =
 
 -- no canonical frame is in front
 abbrev pub HasNone : ℕ → List ℕ → Type 0
-HasNone m bytes = (frame : Frame) (used : ℕ) → verdict strict (Some m) bytes ≢ took frame used
+HasNone m bytes = (frame : Frame) (used : ℕ) → judge_frame strict (Some m) bytes ≢ took frame used
 
 -- a canonical frame of so many bytes is in front
 abbrev pub HasOne : ℕ → List ℕ → ℕ → Type 0
-HasOne m bytes used = (frame : Frame) × (verdict strict (Some m) bytes ≡ took frame used)
+HasOne m bytes used = (frame : Frame) × (judge_frame strict (Some m) bytes ≡ took frame used)
 
 -- Where the header scan fails, no canonical frame is in front.
-pub run_unscanned : (m : ℕ) (bytes : List ℕ) (error : StreamError) → error_at (outer (Some m) bytes) ≡ Some error → HasNone m bytes
-run_unscanned m bytes error e = no_frame (verdict strict (Some m) bytes) error (unscanned strict m bytes error e)
+pub run_unscanned : (m : ℕ) (bytes : List ℕ) (error : StreamError) → error_at (scan (Some m) bytes) ≡ Some error → HasNone m bytes
+run_unscanned m bytes error e = no_frame (judge_frame strict (Some m) bytes) error (unscanned strict m bytes error e)
 
 module _ (m : ℕ) (bytes : List ℕ) (raw : Raw) (layout : FrameLayout) (lies : Lies m bytes layout) (is : raw ≡ laid_out layout bytes) where
   -- Where the payload of the frame in front is refused, no canonical frame is in front.
-  pub run_refused : (error : ParserError) → IsPayloadError error → error ≢ parses.NoMemory → RefusesWhole error (whole raw) → HasNone m bytes
+  pub run_refused : (error : ParserError) → IsPayloadError error → error ≢ parses.NoMemory → RefusesWhole error (decode_raw raw) → HasNone m bytes
   run_refused error inside some h =
       let u = judged_refused strict raw error (payload_fault error) refl inside some h in
-      fault_is_none (verdict strict (Some m) bytes) u.0 (fault_verdict strict m bytes raw layout.frame_len u.0 (lies_as m bytes raw layout lies is) u.1)
+      fault_is_none (judge_frame strict (Some m) bytes) u.0 (fault_verdict strict m bytes raw layout.frame_len u.0 (lies_as m bytes raw layout lies is) u.1)
 
   -- Where the frame in front is canonical, a canonical frame of its length is in front.
   pub run_found : (found : FrameJudgement) → IsJudged raw found → found.canonical ≡ true → HasOne m bytes layout.frame_len
@@ -118,7 +118,7 @@ module _ (m : ℕ) (bytes : List ℕ) (raw : Raw) (layout : FrameLayout) (lies :
   -- Where the frame in front is not canonical, no canonical frame is in front.
   pub run_missed : (found : FrameJudgement) → IsJudged raw found → found.canonical ≡ false → HasNone m bytes
   run_missed found j not =
-      fault_is_none (verdict strict (Some m) bytes) not_tidy
+      fault_is_none (judge_frame strict (Some m) bytes) not_tidy
       (not_strict m bytes raw layout.frame_len j.frame (lies_as m bytes raw layout lies is) j.is (sym j.canonical ∙ not))
 
 -- so many bytes are canonical frames, whatever follows
@@ -170,7 +170,7 @@ stopped (fault bad) h = tt
 -- Where no canonical frame is in front of the rest, what was passed is the longest run of canonical frames.
 pub run_stops : {m : ℕ} {bytes : List ℕ} {used : ℕ} → IsBytes bytes → Running m bytes used → HasNone m (drop used bytes) → IsCanonicalRun m bytes used
 run_stops {m = m} {bytes = bytes} {used = used} fits r none =
-    run_ends m bytes used fits r (front-stop strict (Some m) (drop used bytes) (stopped (verdict strict (Some m) (drop used bytes)) none)).1
+    run_ends m bytes used fits r (front-stop strict (Some m) (drop used bytes) (stopped (judge_frame strict (Some m) (drop used bytes)) none)).1
 
 -- Where all bytes were passed, they are the longest run of canonical frames.
 pub run_finishes : {m : ℕ} {bytes : List ℕ} {used : ℕ} → IsBytes bytes → length bytes ≤ used → Running m bytes used → IsCanonicalRun m bytes used
@@ -187,9 +187,9 @@ module _ (level : Level) (m : ℕ) (bytes : List ℕ) (raw : Raw) (layout : Fram
       ap error_at (fault_verdict level m bytes raw layout.frame_len j.0 (lies_as m bytes raw layout lies is) j.1) ∙ ap (λ e. Some e) (sym j.2)
 
   -- Where the frame in front is canonical, it is kept as it is.
-  pub rewrite_kept : (old new : List ℕ) (judged : FrameJudgement) → IsBytes bytes → JudgesAt level raw (Ok judged)
-      → judged.canonical ≡ true → Rewrites level m bytes old new (Ok (rewrites.Kept layout.frame_len))
-  rewrite_kept old new judged fits (j, at_level) so =
+  pub rewrite_kept : (old new : List ℕ) (judge_scanned : FrameJudgement) → IsBytes bytes → JudgesAt level raw (Ok judge_scanned)
+      → judge_scanned.canonical ≡ true → Rewrites level m bytes old new (Ok (rewrites.Kept layout.frame_len))
+  rewrite_kept old new judge_scanned fits (j, at_level) so =
       let found = lies_as m bytes raw layout lies is in
       let canonical = verdict-whole strict (Some m) bytes raw layout.frame_len j.frame found (sym j.canonical ∙ so) j.is in (
         j.frame,
@@ -198,9 +198,9 @@ module _ (level : Level) (m : ℕ) (bytes : List ℕ) (raw : Raw) (layout : Fram
       )
 
   -- Where the frame in front is not canonical, and the spare buffer is shorter than it, it has no room there.
-  pub rewrite_no_room : (old new : List ℕ) (judged : FrameJudgement) → IsBytes bytes → JudgesAt level raw (Ok judged)
-      → judged.canonical ≡ false → length old < layout.frame_len → Rewrites level m bytes old new (Ok rewrites.NoRoom)
-  rewrite_no_room old new judged fits (j, at_level) not short =
+  pub rewrite_no_room : (old new : List ℕ) (judge_scanned : FrameJudgement) → IsBytes bytes → JudgesAt level raw (Ok judge_scanned)
+      → judge_scanned.canonical ≡ false → length old < layout.frame_len → Rewrites level m bytes old new (Ok rewrites.NoRoom)
+  rewrite_no_room old new judge_scanned fits (j, at_level) not short =
       let found = lies_as m bytes raw layout lies is in
       let taken = verdict-whole level (Some m) bytes raw layout.frame_len j.frame found at_level j.is in
       record {
@@ -217,11 +217,11 @@ module _ (level : Level) (m : ℕ) (bytes : List ℕ) (raw : Raw) (layout : Fram
   rewrite_room room h = omega (arith, h, frame_fits m bytes raw layout.frame_len (lies_as m bytes raw layout lies is))
 
   -- Where the canonical bytes of the frame in front are put in the spare buffer, they are no longer than it.
-  pub rewrite_spare : (old new : List ℕ) (count : ℕ) (judged : FrameJudgement) → JudgesAt level raw (Ok judged)
-      → layout.frame_len ≤ length old → puts.Rewrites old new 0 (whole raw) (Ok count)
+  pub rewrite_spare : (old new : List ℕ) (count : ℕ) (judge_scanned : FrameJudgement) → JudgesAt level raw (Ok judge_scanned)
+      → layout.frame_len ≤ length old → puts.Rewrites old new 0 (decode_raw raw) (Ok count)
       → count ≤ 0 + frame_length raw → Rewrites level m bytes old new (Ok (rewrites.Spare layout.frame_len count))
   unfolding written
-  rewrite_spare old new count judged j room puts within =
+  rewrite_spare old new count judge_scanned j room puts within =
       let found = lies_as m bytes raw layout lies is in
       let put = puts.2 in
       let fits = frame_fits m bytes raw layout.frame_len found in
@@ -280,12 +280,12 @@ going_length {bytes = bytes} {now = now} {done = done} g =
 
 -- a frame that was found in the bytes that are there
 found_in : (level : Level) (m : ℕ) (bytes now : List ℕ) (used more : ℕ) (frame : Frame) → drop used now ≡ drop used bytes
-    → verdict level (Some m) (drop used now) ≡ took frame more → verdict level (Some m) (drop used bytes) ≡ took frame more
-found_in level m bytes now used more frame same e = ap (verdict level (Some m)) (sym same) ∙ e
+    → judge_frame level (Some m) (drop used now) ≡ took frame more → judge_frame level (Some m) (drop used bytes) ≡ took frame more
+found_in level m bytes now used more frame same e = ap (judge_frame level (Some m)) (sym same) ∙ e
 
 -- A frame that is decoded from the rest of the bytes has at least eight bytes, and lies within them.
 pub rewritten_falls : (level : Level) (m : ℕ) (now : List ℕ) (used more : ℕ) (frame : Frame)
-    → verdict level (Some m) (drop used now) ≡ took frame more → (8 ≤ more) × (used + more ≤ length now)
+    → judge_frame level (Some m) (drop used now) ≡ took frame more → (8 ≤ more) × (used + more ≤ length now)
 rewritten_falls level m now used more frame e =
     let at = verdict-got_within level (Some m) (drop used now) frame more e in
     (at.0, omega (arith, at.0, at.1, length-drop used now))
@@ -353,16 +353,16 @@ no_small_stream errors.TurnsSpent e = absurd (omega (arith, e))
 no_small_stream errors.NotTidy e = absurd (omega (arith, e))
 
 limit_by : (level : Level) (m : ℕ) (bytes : List ℕ) (frame : Frame) (n : ℕ) (j : Judged Raw)
-    → outer (Some m) bytes ≡ j → judged level j ≡ took frame n → n ≤ m + 8
+    → scan (Some m) bytes ≡ j → judge_scanned level j ≡ took frame n → n ≤ m + 8
 limit_by level m bytes frame n (took raw k) found e =
-    let size : k ≡ n = (judged_frame-is (is_at level raw) (whole raw) k frame n e).2 in
-    omega (arith, (outer-in_bounds (Some m) bytes raw k found).limit m refl, size)
+    let size : k ≡ n = (judge_decoded-is (is_at level raw) (decode_raw raw) k frame n e).2 in
+    omega (arith, (scan-in_bounds (Some m) bytes raw k found).limit m refl, size)
 limit_by level m bytes frame n past found e = absurd cc
 limit_by level m bytes frame n (fault bad) found e = absurd cc
 
-verdict_limit : (level : Level) (m : ℕ) (bytes : List ℕ) (frame : Frame) (n : ℕ) → verdict level (Some m) bytes ≡ took frame n → n ≤ m + 8
-unfolding verdict
-verdict_limit level m bytes frame n e = limit_by level m bytes frame n (outer (Some m) bytes) refl e
+verdict_limit : (level : Level) (m : ℕ) (bytes : List ℕ) (frame : Frame) (n : ℕ) → judge_frame level (Some m) bytes ≡ took frame n → n ≤ m + 8
+unfolding judge_frame
+verdict_limit level m bytes frame n e = limit_by level m bytes frame n (scan (Some m) bytes) refl e
 
 -- a spare buffer with room for a frame of the largest size lacks none
 pub enough_room : (level : Level) (m room : ℕ) (bytes : List ℕ) → m + 8 ≤ room → LacksRoom level m bytes room → ⊥

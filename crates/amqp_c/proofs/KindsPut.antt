@@ -2,7 +2,7 @@
 use Rattle.std.proofs.Common.{◌≡◌, ◌∙◌, ap, sym, ℕ, ◌+◌, ◌<◌, ◌≤◌, List, [], ◌∷◌, ◌++◌, length, map, take, get_or, arith}
 use Rattle.std.proofs.lemmas.Grind.{common_steps}
 use Rattle.amqp_types.specs.Writing.{written}
-use Rattle.amqp_types.proofs.Written.{written-written}
+use Rattle.amqp_types.proofs.WrittenParts.{written-written}
 use Rattle.amqp_names.specs.declared.naming.Field.{Field}
 use Rattle.amqp_names.specs.Tables.{field_kind}
 

@@ -12,8 +12,8 @@ use Rattle.amqp_wire.specs.declared.frame_type.AMQPFrameType.TheVariants as kind
 use Rattle.amqp_wire.specs.declared.looking.FrameLayout.{FrameLayout}
 use Rattle.amqp_wire.specs.Frames.{Raw}
 use Rattle.amqp_wire.specs.Looks.{laid_out}
-use Rattle.amqp_wire.specs.Outer.{type_of, begins_as, is_above, payload_length, judge_version, version_at, ended_payload, judge_raw, behind_type, outer}
-use Rattle.amqp_wire.proofs.OuterLook.{behind_byte, outer-in_bounds, outer-none, outer-typed, piece-append, typed}
+use Rattle.amqp_wire.specs.HeaderScan.{type_of, begins_as, is_above, payload_length, judge_version, version_at, ended_payload, judge_raw, behind_type, scan}
+use Rattle.amqp_wire.proofs.HeaderScan.{behind_byte, scan-in_bounds, scan-none, scan-typed, piece-append, typed}
 use Rattle.amqp_stream.specs.Reading.{Lies}
 use Rattle.amqp_stream.specs.declared.errors.StreamError.TheVariants as errors
 use Rattle.amqp_fields.specs.Frames.{least_after, least_length}
@@ -116,16 +116,16 @@ typed_needs : (m byte : ℕ) (rest : List ℕ) (o : Option AMQPFrameType) → Ne
 typed_needs m byte rest (Some kind) = byte_needs m byte rest (least_of (Some kind) rest) (behind_type (Some m) kind rest) (behind_wants m kind rest)
 typed_needs m byte rest None = tt
 
-needs : (m : ℕ) (bytes : List ℕ) → Needs m bytes (least_length bytes) (outer (Some m) bytes)
-needs m [] = subst (Needs m [] 8) (sym (outer-none (Some m))) (omega arith, omega arith)
+needs : (m : ℕ) (bytes : List ℕ) → Needs m bytes (least_length bytes) (scan (Some m) bytes)
+needs m [] = subst (Needs m [] 8) (sym (scan-none (Some m))) (omega arith, omega arith)
 needs m (byte ∷ rest) =
-    subst (λ n. Needs m (byte ∷ rest) n (outer (Some m) (byte ∷ rest))) (sym (least_typed byte rest))
-    (subst (Needs m (byte ∷ rest) (least_of (type_of byte) rest)) (sym (outer-typed (Some m) byte rest)) (typed_needs m byte rest (type_of byte)))
+    subst (λ n. Needs m (byte ∷ rest) n (scan (Some m) (byte ∷ rest))) (sym (least_typed byte rest))
+    (subst (Needs m (byte ∷ rest) (least_of (type_of byte) rest)) (sym (scan-typed (Some m) byte rest)) (typed_needs m byte rest (type_of byte)))
 
-pub past_needs : (m : ℕ) (bytes : List ℕ) → outer (Some m) bytes ≡ past → (length bytes < least_length bytes) × (least_length bytes ≤ m + 8)
+pub past_needs : (m : ℕ) (bytes : List ℕ) → scan (Some m) bytes ≡ past → (length bytes < least_length bytes) × (least_length bytes ≤ m + 8)
 past_needs m bytes e = subst (Needs m bytes (least_length bytes)) e (needs m bytes)
 
-pub took_needs : (m : ℕ) (bytes : List ℕ) (raw : Raw) (used : ℕ) → outer (Some m) bytes ≡ took raw used → least_length bytes ≡ used
+pub took_needs : (m : ℕ) (bytes : List ℕ) (raw : Raw) (used : ℕ) → scan (Some m) bytes ≡ took raw used → least_length bytes ≡ used
 took_needs m bytes raw used e = subst (Needs m bytes (least_length bytes)) e (needs m bytes)
 
 -- ---- more bytes tell no less
@@ -181,17 +181,17 @@ cut_short (fault not_tidy) e = absurd cc
 
 -- A frame in front is at most eight bytes longer than the limit on payloads.
 pub whole_limited : (m : ℕ) (bytes : List ℕ) (layout : FrameLayout) → Lies m bytes layout → layout.frame_len ≤ m + 8
-whole_limited m bytes layout lies = (outer-in_bounds (Some m) bytes (laid_out layout bytes) layout.frame_len lies.found).limit m refl
+whole_limited m bytes layout lies = (scan-in_bounds (Some m) bytes (laid_out layout bytes) layout.frame_len lies.found).limit m refl
 
-module _ (m : ℕ) (bytes : List ℕ) (e : error_at (outer (Some m) bytes) ≡ Some errors.CutShort) where
+module _ (m : ℕ) (bytes : List ℕ) (e : error_at (scan (Some m) bytes) ≡ Some errors.CutShort) where
   -- Where the input is cut short, a frame has at least one byte more than are there.
   pub cut_more : length bytes < least_length bytes
-  cut_more = (past_needs m bytes (cut_short (outer (Some m) bytes) e)).0
+  cut_more = (past_needs m bytes (cut_short (scan (Some m) bytes) e)).0
 
   -- What a frame has at least, where the input is cut short, is at most eight bytes more than the limit on payloads.
   pub cut_limited : least_length bytes ≤ m + 8
-  cut_limited = (past_needs m bytes (cut_short (outer (Some m) bytes) e)).1
+  cut_limited = (past_needs m bytes (cut_short (scan (Some m) bytes) e)).1
 
 -- A frame that begins with some bytes has at least as many as they say.
-pub cut_least : (m : ℕ) (bytes rest : List ℕ) (raw : Raw) (used : ℕ) → outer (Some m) (bytes ++ rest) ≡ took raw used → least_length bytes ≤ used
+pub cut_least : (m : ℕ) (bytes rest : List ℕ) (raw : Raw) (used : ℕ) → scan (Some m) (bytes ++ rest) ≡ took raw used → least_length bytes ≤ used
 cut_least m bytes rest raw used e = omega (arith, more_needs bytes rest, took_needs m (bytes ++ rest) raw used e)

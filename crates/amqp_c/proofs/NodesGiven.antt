@@ -11,9 +11,9 @@ use Rattle.amqp_wire.specs.declared.frame_type.AMQPFrameType.{AMQPFrameType}
 use Rattle.amqp_wire.specs.declared.outline.FrameOutline.{FrameOutline}
 use Rattle.amqp_wire.specs.Frames.{Frame, Raw, raw_as}
 use Rattle.amqp_wire.specs.Judgements.{IsPayloadFault}
-use Rattle.amqp_wire.specs.Outer.{type_of}
+use Rattle.amqp_wire.specs.HeaderScan.{type_of}
 use Rattle.amqp_wire.specs.Outlines.{outline_of}
-use Rattle.amqp_wire.specs.Verdicts.{is_at, whole}
+use Rattle.amqp_wire.specs.Verdicts.{is_at, decode_raw}
 use Rattle.amqp_stream.specs.Errors.{stream_error_status}
 use Rattle.amqp_stream.specs.Writing.{payload_fault}
 use Rattle.amqp_fields.specs.declared.node.Node.{Node}
@@ -64,12 +64,12 @@ ok_of (Err bad) h = absurd cc
 pub nodes_given : (kind : AMQPFrameType) (payload : List ℕ) (deep : Bool) (list : List Node)
     (found : FieldsRead) (outline : FrameOutline) (result : PayloadFields)
     → IsWhole kind payload → StandInFront (fields_nodes kind deep payload) list found.count → SaysLevels kind payload found
-    → ((frame : Frame) → whole (raw_as kind 0 payload) ≡ Ok frame → outline ≡ outline_of frame)
+    → ((frame : Frame) → decode_raw (raw_as kind 0 payload) ≡ Ok frame → outline ≡ outline_of frame)
     → (IsWhole kind payload → length (fields_nodes kind deep payload) ≤ length payload)
     → result ≡ fields_with (summed found.canonical found.tidy outline) found.count → ReadsWhole deep (raw_as kind 0 payload) list result
 nodes_given kind payload deep list found outline result valid front levels outlined few is =
     let raw = raw_as kind 0 payload in
-    let has = ok_of (whole raw) valid in
+    let has = ok_of (decode_raw raw) valid in
     let summary = summed (is_at strict raw) (is_at tidy raw) (outline_of has.0) in
     let with : fields_with (summed found.canonical found.tidy outline) found.count ≡ fields_with summary found.count =
     ap (λ c. fields_with (summed c found.tidy outline) found.count) levels.0 ∙ ap (λ t. fields_with (summed (is_at strict raw) t outline) found.count) levels.1
@@ -84,7 +84,7 @@ pub nodes_wanted : (kind : AMQPFrameType) (payload : List ℕ) (deep : Bool) (ol
     → result ≡ counted buffer_too_small count → ReadsWhole deep (raw_as kind 0 payload) list result
 nodes_wanted kind payload deep old list count result same more few is =
     let raw = raw_as kind 0 payload in
-    let has = ok_of (whole raw) more.0 in
+    let has = ok_of (decode_raw raw) more.0 in
     subst (λ read. ReadsFrame deep raw read list result) (sym has.1)
     (beyond (fields_nodes kind deep payload) (length payload)
     (fields_with (summed (is_at strict raw) (is_at tidy raw) (outline_of has.0))) list count result (few more.0) old same more.1 is)
@@ -106,11 +106,11 @@ refused_by deep raw list errors.NoMemory read fault h = absurd (fault.1 refl)
 
 -- Where a payload is refused, its status is reported, and no nodes.
 pub payload_refused : (kind : AMQPFrameType) (payload : List ℕ) (deep : Bool) (list : List Node) (error : ParserError) (status : ℕ) (result : PayloadFields)
-    → IsPayloadFault error → RefusesWhole error (whole (raw_as kind 0 payload)) → status ≡ stream_error_status (payload_fault error)
+    → IsPayloadFault error → RefusesWhole error (decode_raw (raw_as kind 0 payload)) → status ≡ stream_error_status (payload_fault error)
     → result ≡ counted status 0 → ReadsWhole deep (raw_as kind 0 payload) list result
 payload_refused kind payload deep list error status result fault h same is =
     subst (ReadsWhole deep (raw_as kind 0 payload) list) (sym (is ∙ ap (λ s. counted s 0) same))
-    (refused_by deep (raw_as kind 0 payload) list error (whole (raw_as kind 0 payload)) fault h)
+    (refused_by deep (raw_as kind 0 payload) list error (decode_raw (raw_as kind 0 payload)) fault h)
 
 -- the same after the byte that names the type
 pub raw_found : (byte : ℕ) (kind : AMQPFrameType) (payload : List ℕ) (deep : Bool) (list : List Node) (result : PayloadFields) → type_of byte ≡ Some kind

@@ -8,9 +8,9 @@ use Rattle.amqp_types.specs.ValueJudging.{read_map}
 use Rattle.amqp_wire.specs.declared.frame_type.AMQPFrameType.{AMQPFrameType}
 use Rattle.amqp_wire.specs.declared.frame_type.AMQPFrameType.TheVariants as kinds
 use Rattle.amqp_wire.specs.Frames.{Frame, Meth, Head, Beat, BadBeat, Raw, beat_on, raw_as}
-use Rattle.amqp_wire.specs.Outer.{type_of}
+use Rattle.amqp_wire.specs.HeaderScan.{type_of}
 use Rattle.amqp_wire.specs.Outlines.{outline_of}
-use Rattle.amqp_wire.specs.Verdicts.{all_of, is_tidy_as, is_written_for, whole, whole_as}
+use Rattle.amqp_wire.specs.Verdicts.{all_of, is_tidy_as, is_written_for, decode_raw, decode_payload}
 use Rattle.amqp_c.specs.declared.check.PayloadSummary.{PayloadSummary}
 use Rattle.amqp_c.specs.Checks.{raw_after, raw_typed, no_summary, summary_at, summary_of, summed, with_fields}
 use Rattle.amqp_c.specs.Scans.{fault_status}
@@ -22,8 +22,8 @@ read_as kind payload (Ok frame) =
     with_fields (summed (is_written_for (Ok frame) payload) (is_tidy_as kind payload) (outline_of frame)) (length (fields_of frame))
 read_as kind payload (Err bad) = no_summary (fault_status bad)
 
-summary-read : (kind : AMQPFrameType) (channel : ℕ) (payload : List ℕ) (read : Result Frame Fault) → whole_as kind channel payload ≡ read
-    → (let raw : Raw = record { kind = kind; channel = channel; payload = payload } in summary_at raw (whole raw) ≡ read_as kind payload read)
+summary-read : (kind : AMQPFrameType) (channel : ℕ) (payload : List ℕ) (read : Result Frame Fault) → decode_payload kind channel payload ≡ read
+    → (let raw : Raw = record { kind = kind; channel = channel; payload = payload } in summary_at raw (decode_raw raw) ≡ read_as kind payload read)
 summary-read kind channel payload (Ok frame) e =
     let raw : Raw = record { kind = kind; channel = channel; payload = payload } in
     ap (summary_at raw) e
@@ -60,8 +60,9 @@ beat-if : (channel : ℕ) → beat_on channel ≡ beat_if (eqb channel 0) channe
 unfolding beat_if
 beat-if channel = elim (eqb channel 0) as (λ t. (if t then Beat else BadBeat channel) ≡ beat_if t channel) [ true ↦ refl | false ↦ refl ]
 
-read-any : (kind : AMQPFrameType) (a b : ℕ) (payload : List ℕ) → read_as kind payload (whole_as kind a payload) ≡ read_as kind payload (whole_as kind b payload)
-unfolding whole_as fields_of
+read-any : (kind : AMQPFrameType) (a b : ℕ) (payload : List ℕ)
+    → read_as kind payload (decode_payload kind a payload) ≡ read_as kind payload (decode_payload kind b payload)
+unfolding decode_payload fields_of
 read-any kinds.ProtocolHeader a b [] = refl
 read-any kinds.ProtocolHeader a b (i ∷ []) = refl
 read-any kinds.ProtocolHeader a b (i ∷ j ∷ []) = refl
@@ -77,11 +78,11 @@ abbrev raw_if : Bool → Raw → Result Raw Fault
 raw_if t raw = if t then Err too_large else Ok raw
 
 pub summary-channel : (kind : AMQPFrameType) (a b : ℕ) (payload : List ℕ)
-    → summary_at (raw_as kind a payload) (whole (raw_as kind a payload)) ≡ summary_at (raw_as kind b payload) (whole (raw_as kind b payload))
+    → summary_at (raw_as kind a payload) (decode_raw (raw_as kind a payload)) ≡ summary_at (raw_as kind b payload) (decode_raw (raw_as kind b payload))
 summary-channel kind a b payload =
-    summary-read kind a payload (whole_as kind a payload) refl
+    summary-read kind a payload (decode_payload kind a payload) refl
     ∙ read-any kind a b payload
-    ∙ sym (summary-read kind b payload (whole_as kind b payload) refl)
+    ∙ sym (summary-read kind b payload (decode_payload kind b payload) refl)
 
 -- A payload of fewer than 2^32 bytes after a type byte that is known is a frame of this type on the channel.
 pub raw-known : (byte channel : ℕ) (kind : AMQPFrameType) (payload : List ℕ) → type_of byte ≡ Some kind
@@ -91,7 +92,7 @@ raw-known byte channel kind payload e few =
 
 -- what is reported of a payload after a type byte, on any channel
 pub summary_known : (byte channel : ℕ) (kind : AMQPFrameType) (payload : List ℕ) (summary : PayloadSummary) → type_of byte ≡ Some kind
-    → length payload ≤ 4294967295 → summary ≡ summary_at (raw_as kind 0 payload) (whole (raw_as kind 0 payload))
+    → length payload ≤ 4294967295 → summary ≡ summary_at (raw_as kind 0 payload) (decode_raw (raw_as kind 0 payload))
     → summary ≡ summary_of (raw_after byte channel payload)
 summary_known byte channel kind payload summary e few is =
     is ∙ summary-channel kind 0 channel payload ∙ ap summary_of (sym (raw-known byte channel kind payload e few))

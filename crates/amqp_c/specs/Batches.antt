@@ -7,8 +7,8 @@ use Rattle.amqp_types.specs.declared.errors.ParserError.{ParserError}
 use Rattle.amqp_types.specs.declared.errors.ParserError.TheVariants as parser_errors
 use Rattle.amqp_wire.specs.Frames.{Frame, Raw}
 use Rattle.amqp_wire.specs.Looks.{payload_place}
-use Rattle.amqp_wire.specs.Outer.{outer}
-use Rattle.amqp_wire.specs.Verdicts.{verdict, whole}
+use Rattle.amqp_wire.specs.HeaderScan.{scan}
+use Rattle.amqp_wire.specs.Verdicts.{judge_frame, decode_raw}
 use Rattle.amqp_stream.specs.declared.errors.StreamError.{StreamError}
 use Rattle.amqp_stream.specs.declared.errors.StreamError.TheVariants as errors
 use Rattle.amqp_stream.specs.Errors.{stream_error_status}
@@ -36,8 +36,8 @@ IsFollowedBy batch status needed = (batch.status ≡ status) × (batch.needed �
 pub record HasNoRoom (m : ℕ) (deep : Bool) (bytes : List ℕ) (frame : Frame)
     (size head_room node_room : ℕ) (batch : FrameBatch) : Type 0 where
   pub raw : Raw
-  pub found : outer (Some m) (drop batch.used bytes) ≡ took raw size
-  pub is : whole raw ≡ Ok frame
+  pub found : scan (Some m) (drop batch.used bytes) ≡ took raw size
+  pub is : decode_raw raw ≡ Ok frame
   pub follows : IsFollowedBy batch buffer_too_small
       (length (nodes_at raw deep (batch.used + payload_place raw.kind)))
   pub few : batch.needed ≤ size
@@ -66,7 +66,7 @@ pub record GivesFrames (m : ℕ) (deep : Bool) (bytes : List ℕ)
   pub few_heads : 8 * batch.heads ≤ batch.used
   pub few_nodes : batch.nodes ≤ batch.used
   pub follows : Follows m deep bytes heads nodes batch
-      (verdict plain (Some m) (drop batch.used (in_reach bytes)))
+      (judge_frame plain (Some m) (drop batch.used (in_reach bytes)))
   pub unused : batch.unused ≡ 0
 
 -- the same with what is asked for; a number that asks for nothing comes first

@@ -8,9 +8,9 @@ use Rattle.amqp_wire.specs.declared.frame_type.AMQPFrameType.{AMQPFrameType}
 use Rattle.amqp_wire.specs.declared.outline.FrameOutline.{FrameOutline}
 use Rattle.amqp_wire.specs.declared.outline.FrameOutline.TheVariants as outlines
 use Rattle.amqp_wire.specs.Frames.{Frame, Raw}
-use Rattle.amqp_wire.specs.Outer.{type_of}
+use Rattle.amqp_wire.specs.HeaderScan.{type_of}
 use Rattle.amqp_wire.specs.Outlines.{outline_of}
-use Rattle.amqp_wire.specs.Verdicts.{is_at, whole}
+use Rattle.amqp_wire.specs.Verdicts.{is_at, decode_raw}
 use Rattle.amqp_stream.specs.declared.errors.StreamError.{StreamError}
 use Rattle.amqp_fields.specs.Meaning.{fields_of}
 use Rattle.amqp_stream.specs.Errors.{stream_error_status}
@@ -77,7 +77,7 @@ summary_at raw (Err bad) = no_summary (fault_status bad)
 -- the summary of a payload after a type byte; the fault of a byte that names no type, or of a
 -- payload of 2^32 bytes or more, gives its status alone
 abbrev pub summary_of : Result Raw Fault → PayloadSummary
-summary_of (Ok raw) = summary_at raw (whole raw)
+summary_of (Ok raw) = summary_at raw (decode_raw raw)
 summary_of (Err bad) = no_summary (fault_status bad)
 
 -- what a call returns
@@ -87,4 +87,4 @@ summary_or (Err error) = no_summary (stream_error_status error)
 
 -- what a call returns, with its error as a status, is the summary of a whole payload
 abbrev pub SumsUp : Raw → Result PayloadSummary StreamError → Type 0
-SumsUp raw result = summary_or result ≡ summary_at raw (whole raw)
+SumsUp raw result = summary_or result ≡ summary_at raw (decode_raw raw)

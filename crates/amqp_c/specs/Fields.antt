@@ -7,7 +7,7 @@ use Rattle.amqp_types.specs.declared.tag.FieldTag.{FieldTag}
 use Rattle.amqp_types.specs.declared.tag.FieldTag.TheVariants as tag
 use Rattle.amqp_wire.specs.Frames.{Frame, Raw}
 use Rattle.amqp_wire.specs.Outlines.{outline_of}
-use Rattle.amqp_wire.specs.Verdicts.{is_at, whole}
+use Rattle.amqp_wire.specs.Verdicts.{is_at, decode_raw}
 use Rattle.amqp_fields.specs.declared.node.Node.{Node}
 use Rattle.amqp_types.specs.declared.errors.ParserError.{ParserError}
 use Rattle.amqp_types.specs.declared.errors.ParserError.TheVariants as parser_errors
@@ -73,7 +73,7 @@ ReadsFrame deep raw (Err bad) list result = result ≡ counted (fault_status bad
 
 -- the fields of a whole payload
 abbrev pub ReadsWhole : Bool → Raw → List Node → PayloadFields → Type 0
-ReadsWhole deep raw list result = ReadsFrame deep raw (whole raw) list result
+ReadsWhole deep raw list result = ReadsFrame deep raw (decode_raw raw) list result
 
 -- the same of a payload after a type byte; a fault of that byte, or of the payload's
 -- length, comes next

@@ -4,7 +4,7 @@ use Rattle.amqp_types.specs.Levels.{plain}
 use Rattle.amqp_types.specs.Judging.{Judged, took, past, fault}
 use Rattle.amqp_types.specs.Writing.{written}
 use Rattle.amqp_wire.specs.Frames.{Frame}
-use Rattle.amqp_wire.specs.Verdicts.{verdict}
+use Rattle.amqp_wire.specs.Verdicts.{judge_frame}
 use Rattle.amqp_stream.specs.declared.errors.StreamError.{StreamError}
 use Rattle.amqp_stream.specs.declared.errors.StreamError.TheVariants as errors
 use Rattle.amqp_lines.specs.Lines.{line}
@@ -43,9 +43,10 @@ DumpedAt (fault bad) old new result = RefusesLine (fault_status bad) old new res
 -- the line of the frame in front is appended
 abbrev pub AppendsFront : ℕ → List ℕ → List ℕ → List ℕ → Result ℕ StreamError → Type 0
 AppendsFront m bytes old new (Ok used) =
-    (frame : Frame) × (verdict plain (Some m) bytes ≡ took frame used) × (new ≡ old ++ line frame)
+    (frame : Frame) × (judge_frame plain (Some m) bytes ≡ took frame used)
+    × (new ≡ old ++ line frame)
 AppendsFront m bytes old new (Err errors.NoMemory) = Unit {0}
-AppendsFront m bytes old new (Err error) = error_at (verdict plain (Some m) bytes) ≡ Some error
+AppendsFront m bytes old new (Err error) = error_at (judge_frame plain (Some m) bytes) ≡ Some error
 
 -- ---- the frame of the line in front
 

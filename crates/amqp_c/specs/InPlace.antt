@@ -7,7 +7,7 @@ use Rattle.amqp_types.specs.Writing.{Puts}
 use Rattle.amqp_wire.specs.Frames.{Frame}
 use Rattle.amqp_wire.specs.Canonical.{canon, canon_frames}
 use Rattle.amqp_wire.specs.Spelling.{SpellsFrames}
-use Rattle.amqp_wire.specs.Verdicts.{verdict}
+use Rattle.amqp_wire.specs.Verdicts.{judge_frame}
 use Rattle.amqp_wire.specs.Fronts.{front, place}
 use Rattle.amqp_stream.specs.declared.errors.StreamError.{StreamError}
 use Rattle.amqp_c.specs.declared.canonicalize.CallProgress.{CallProgress}
@@ -33,7 +33,7 @@ pub record IsCanonicalRun (m : ℕ) (bytes : List ℕ) (used : ℕ) : Type 0 whe
 pub record LacksRoom (level : Level) (m : ℕ) (bytes : List ℕ) (room : ℕ) : Type 0 where
   pub frame : Frame
   pub used : ℕ
-  pub found : verdict level (Some m) bytes ≡ took frame used
+  pub found : judge_frame level (Some m) bytes ≡ took frame used
   pub changed : take used bytes ≢ canon frame
   pub longer : room < used
 
@@ -42,13 +42,14 @@ pub record LacksRoom (level : Level) (m : ℕ) (bytes : List ℕ) (room : ℕ) :
 -- Else the error says why no frame is in front.
 abbrev pub Rewrites : Level → ℕ → List ℕ → List ℕ → List ℕ → Result Rewrite StreamError → Type 0
 Rewrites level m bytes old new (Ok (rewrites.Kept used)) =
-    (frame : Frame) × (verdict level (Some m) bytes ≡ took frame used)
+    (frame : Frame) × (judge_frame level (Some m) bytes ≡ took frame used)
     × (take used bytes ≡ canon frame)
 Rewrites level m bytes old new (Ok (rewrites.Spare used count)) =
-    (frame : Frame) × (verdict level (Some m) bytes ≡ took frame used)
+    (frame : Frame) × (judge_frame level (Some m) bytes ≡ took frame used)
     × (count ≤ length new) × (take count new ≡ canon frame) × (count ≤ used)
 Rewrites level m bytes old new (Ok rewrites.NoRoom) = LacksRoom level m bytes (length old)
-Rewrites level m bytes old new (Err error) = error_at (verdict level (Some m) bytes) ≡ Some error
+Rewrites level m bytes old new (Err error) =
+    error_at (judge_frame level (Some m) bytes) ≡ Some error
 
 -- ---- a buffer
 

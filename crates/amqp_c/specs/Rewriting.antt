@@ -11,13 +11,13 @@ use Rattle.amqp_wire.specs.declared.judging.FrameJudgement.{FrameJudgement}
 use Rattle.amqp_wire.specs.Frames.{Frame, Raw}
 use Rattle.amqp_wire.specs.Canonical.{canon}
 use Rattle.amqp_wire.specs.Judgements.{IsJudged}
-use Rattle.amqp_wire.specs.Verdicts.{is_at, verdict, whole}
+use Rattle.amqp_wire.specs.Verdicts.{is_at, judge_frame, decode_raw}
 use Rattle.amqp_wire.specs.Fronts.{place}
 use Rattle.amqp_stream.specs.declared.errors.StreamError.{StreamError}
 use Rattle.amqp_stream.specs.Errors.{error_for, status_of}
 use Rattle.amqp_stream.specs.Writing.{IsFaulty}
 use Rattle.amqp_stream.specs.Canonicalizing.{canon_of}
-use Rattle.amqp_stream.specs.Transcribing.{answer_to, place_verdict}
+use Rattle.amqp_stream.specs.Causes.{answer_to, judge_place}
 use Rattle.amqp_c.specs.declared.canonicalize.CallProgress.{CallProgress}
 use Rattle.amqp_c.specs.Scans.{error_at, fault_status}
 
@@ -59,7 +59,7 @@ JudgesAt level raw (Err error) = (bad : Fault) × IsFaulty level raw bad × (err
 -- fault, and nothing is put
 abbrev pub PutsFrame : Level → List ℕ → List ℕ → ℕ → Raw → Result ℕ StreamError → Type 0
 PutsFrame level old new at raw (Ok end) =
-    (frame : Frame) × (whole raw ≡ Ok frame)
+    (frame : Frame) × (decode_raw raw ≡ Ok frame)
     × (is_at level raw ≡ true) × Puts old new at (canon frame) end
 PutsFrame level old new at raw (Err error) =
     (bad : Fault) × IsFaulty level raw bad × (error ≡ error_for bad) × (new ≡ old)
@@ -68,7 +68,7 @@ PutsFrame level old new at raw (Err error) =
 pub record PutsFrom (level : Level) (m : ℕ)
     (bytes old new : List ℕ) (at used end : ℕ) : Type 0 where
   pub frame : Frame
-  pub found : verdict level (Some m) bytes ≡ took frame used
+  pub found : judge_frame level (Some m) bytes ≡ took frame used
   pub put : Puts old new at (canon frame) end
   pub no_longer : end ≤ at + used
 
@@ -78,7 +78,7 @@ abbrev pub PutsFront : Level → ℕ → List ℕ → List ℕ
     → List ℕ → ℕ → Result (ℕ × ℕ) StreamError → Type 0
 PutsFront level m bytes old new at (Ok (used, end)) = PutsFrom level m bytes old new at used end
 PutsFront level m bytes old new at (Err error) =
-    (error_at (verdict level (Some m) bytes) ≡ Some error) × (new ≡ old)
+    (error_at (judge_frame level (Some m) bytes) ≡ Some error) × (new ≡ old)
 
 -- ---- pieces
 
@@ -123,7 +123,7 @@ PiecesAreWhole =
 abbrev pub FaultsStay : Type 0
 FaultsStay =
     (level : Level) (m : ℕ) (bytes more : List ℕ) (bad : Fault)
-    → place_verdict level m bytes ≡ fault bad
+    → judge_place level m bytes ≡ fault bad
     → called level m (bytes ++ more)
     ≡ record {
       text = canon_of level m bytes;
@@ -134,5 +134,5 @@ FaultsStay =
 -- Where more bytes are needed, fewer are left than a frame of the largest size has.
 abbrev pub LittleIsLeft : Type 0
 LittleIsLeft =
-    (level : Level) (m : ℕ) (bytes : List ℕ) → place_verdict level m bytes ≡ past
+    (level : Level) (m : ℕ) (bytes : List ℕ) → judge_place level m bytes ≡ past
     → length (place level (Some m) bytes) ≤ m + 7

@@ -8,7 +8,7 @@ use Rattle.amqp_wire.specs.declared.frame_type.AMQPFrameType.{AMQPFrameType}
 use Rattle.amqp_wire.specs.declared.frame_type.AMQPFrameType.TheVariants as kinds
 use Rattle.amqp_wire.specs.declared.outline.FrameOutline.{FrameOutline}
 use Rattle.amqp_wire.specs.declared.outline.FrameOutline.TheVariants as outlines
-use Rattle.amqp_wire.specs.Outer.{type_of}
+use Rattle.amqp_wire.specs.HeaderScan.{type_of}
 use Rattle.amqp_wire.specs.Spelling.{byte_of}
 use Rattle.amqp_select.specs.declared.rule.Rule.{Rule}
 use Rattle.amqp_select.specs.declared.rule.Span.{Span}

@@ -4,7 +4,7 @@ use Rattle.std.specs.Prelude.{Option, Some, None, Result, Ok, Err}
 use Rattle.amqp_types.specs.Judging.{Fault, Judged, took, past, fault}
 use Rattle.amqp_wire.specs.declared.looking.FrameLayout.{FrameLayout}
 use Rattle.amqp_wire.specs.Frames.{Raw}
-use Rattle.amqp_wire.specs.Outer.{outer}
+use Rattle.amqp_wire.specs.HeaderScan.{scan}
 use Rattle.amqp_wire.specs.Spelling.{byte_of}
 use Rattle.amqp_stream.specs.declared.errors.StreamError.{StreamError}
 use Rattle.amqp_stream.specs.declared.errors.StreamError.TheVariants as errors
@@ -64,4 +64,4 @@ error_at (fault bad) = Some (error_for bad)
 -- where the frame in front lies, or the error of a stream that ends there
 abbrev pub Scans : ℕ → List ℕ → Result FrameLayout StreamError → Type 0
 Scans m bytes (Ok layout) = Lies m bytes layout
-Scans m bytes (Err error) = error_at (outer (Some m) bytes) ≡ Some error
+Scans m bytes (Err error) = error_at (scan (Some m) bytes) ≡ Some error

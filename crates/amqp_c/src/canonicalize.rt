@@ -5,7 +5,7 @@ ghost use Rattle.amqp_types.specs.Levels.{level_of, plain, tidy};
 ghost use Rattle.amqp_wire.specs.Frames.{raw_of, frame_length};
 ghost use Rattle.amqp_wire.specs.Judgements.{IsJudged};
 ghost use Rattle.amqp_wire.specs.Rewrites.{Rewrites};
-ghost use Rattle.amqp_wire.specs.Verdicts.{whole};
+ghost use Rattle.amqp_wire.specs.Verdicts.{decode_raw};
 ghost use Rattle.amqp_c.specs.Rewriting.{CanonicalizesPart, JudgesAt, PutsFrame, PutsFront};
 ghost use Rattle.amqp_c.specs.Rewriting.{RefusesPart, came, profile_at};
 ghost use Rattle.amqp_c.specs.Statuses.{bad_argument, buffer_too_small};
@@ -89,7 +89,7 @@ pub(crate) fn put_frame(
     requires judged { IsJudged (raw_of raw) judged }
     requires few { length raw.payload.now < 2 ^ 32 }
     requires room { at + frame_length (raw_of raw) ≤ length out.old }
-    ensures puts { Rewrites out.old out.new at (whole (raw_of raw.entry)) (Ok result) }
+    ensures puts { Rewrites out.old out.new at (decode_raw (raw_of raw.entry)) (Ok result) }
     ensures within { result ≤ at + frame_length (raw_of raw.entry) }
 {
     let (frame_type, channel_id, payload) = (raw.frame_type, raw.channel_id, raw.payload);

@@ -1,7 +1,7 @@
 //! Frame types as the bytes that name them.
 
 ghost use Rattle.std.specs.Prelude.{◌≡◌};
-ghost use Rattle.amqp_wire.specs.Outer.{type_of};
+ghost use Rattle.amqp_wire.specs.HeaderScan.{type_of};
 ghost use Rattle.amqp_wire.specs.Spelling.{byte_of};
 
 use amqp_types::{FRAME_BODY, FRAME_HEADER, FRAME_HEARTBEAT, FRAME_METHOD};

@@ -4,7 +4,7 @@ ghost use Rattle.std.specs.Prelude.{◌≡◌, ◌≢◌, ◌++◌, ◌≤◌, �
 ghost use Rattle.amqp_types.specs.Levels.{plain};
 ghost use Rattle.amqp_wire.specs.Canonical.{canon};
 ghost use Rattle.amqp_wire.specs.Frames.{Frame};
-ghost use Rattle.amqp_wire.specs.Verdicts.{verdict};
+ghost use Rattle.amqp_wire.specs.Verdicts.{judge_frame};
 ghost use Rattle.amqp_lines.specs.LineReading.{HasNoNewline};
 ghost use Rattle.amqp_lines.specs.Lines.{line};
 ghost use Rattle.amqp_lines.specs.OneLine.{IsStrictWithin};
@@ -95,7 +95,7 @@ pub extern "C" fn feksroum_dump(
     max_payload: u32,
 ) -> FrameLine
     ensures dumped { result.status ≢ out_of_memory
-        → DumpedAt (verdict plain (Some max_payload) bytes.now) out.old out.new result }
+        → DumpedAt (judge_frame plain (Some max_payload) bytes.now) out.old out.new result }
     ensures memory { result.status ≡ out_of_memory
         → RefusesLine out_of_memory out.old out.new result }
 {

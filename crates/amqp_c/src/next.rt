@@ -4,7 +4,7 @@ ghost use Rattle.std.specs.Prelude.{◌≡◌, ◌+◌, ◌++◌, ◌<◌, ◌�
 ghost use Rattle.amqp_types.specs.Judging.{took};
 ghost use Rattle.amqp_wire.specs.Frames.{Raw, raw_of};
 ghost use Rattle.amqp_wire.specs.Looks.{laid_out};
-ghost use Rattle.amqp_wire.specs.Outer.{outer};
+ghost use Rattle.amqp_wire.specs.HeaderScan.{scan};
 ghost use Rattle.amqp_c.specs.Scans.{Locates, Scans, judged_status, nowhere};
 ghost use Rattle.amqp_c.specs.Statuses.{incomplete};
 
@@ -96,11 +96,11 @@ fn nowhere(status: u8, needed: u64) -> FrontFrame
 /// Scans the header of the frame in front, with payloads of at most `max_payload` bytes.
 #[unsafe(no_mangle)]
 pub extern "C" fn feksroum_next(bytes: &[u8], max_payload: u32) -> FrontFrame
-    ensures status { result.status ≡ judged_status (outer (Some max_payload) bytes.now) }
-    ensures frame { Locates bytes.now (outer (Some max_payload) bytes.now) result }
+    ensures status { result.status ≡ judged_status (scan (Some max_payload) bytes.now) }
+    ensures frame { Locates bytes.now (scan (Some max_payload) bytes.now) result }
     ensures more { result.status ≡ incomplete → length bytes.now < result.needed }
     ensures least { (rest : List ℕ) (raw : Raw) (used : ℕ) → result.status ≡ incomplete
-        → outer (Some max_payload) (bytes.now ++ rest) ≡ took raw used → result.needed ≤ used }
+        → scan (Some max_payload) (bytes.now ++ rest) ≡ took raw used → result.needed ≤ used }
     ensures limited { result.needed ≤ max_payload + 8 }
 {
     match scan_front(max_payload, bytes) {

@@ -2,7 +2,7 @@
 
 ghost use Rattle.std.specs.Prelude.{◌≡◌, find, is_some};
 ghost use Rattle.std.specs.List.{filter_map, list_all};
-ghost use Rattle.amqp_wire.specs.Outer.{type_of};
+ghost use Rattle.amqp_wire.specs.HeaderScan.{type_of};
 ghost use Rattle.amqp_select.specs.Matching.{matches};
 ghost use Rattle.amqp_select.specs.Refusals.{IsRuleFor, IsRuleWord};
 ghost use Rattle.amqp_select.specs.declared.rule.Rule.{Rule};

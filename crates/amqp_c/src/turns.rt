@@ -1,7 +1,7 @@
 //! Whose turn it is on a channel: one frame after another, by numbers that the caller keeps.
 
 ghost use Rattle.std.specs.Prelude.{◌≡◌, ◌<◌};
-ghost use Rattle.amqp_wire.specs.Outer.{type_of};
+ghost use Rattle.amqp_wire.specs.HeaderScan.{type_of};
 ghost use Rattle.amqp_turns.specs.Steps.{body_mark};
 ghost use Rattle.amqp_c.specs.Turns.{StepsOn, fault_step, kept_headed, kept_plain};
 ghost use Rattle.amqp_c.specs.Turns.{mark_by, mark_if, outline_by, part_step};

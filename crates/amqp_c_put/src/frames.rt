@@ -2,8 +2,8 @@
 
 ghost use Rattle.std.specs.Prelude.{◌≡◌, None, false};
 ghost use Rattle.amqp_types.specs.Flags.{flag_at};
-ghost use Rattle.amqp_wire.specs.Frames.{Beat, Body, Head, Proto};
-ghost use Rattle.amqp_put.specs.Headers.{HasNoUnusedBit, header_with, masked_flaw, masked_options};
+ghost use Rattle.amqp_wire.specs.Frames.{Beat, Body, Proto};
+ghost use Rattle.amqp_put.specs.Headers.{HasNoUnusedBit, MakesHeader};
 ghost use Rattle.amqp_put.specs.MadeFrames.{MakesEight, MakesFrame};
 ghost use Rattle.amqp_c_put.specs.Headers.{headers_flaw, headers_item};
 ghost use Rattle.amqp_c_put.specs.Reports.{Reports, refused};
@@ -37,10 +37,8 @@ fn put_with_headers(
 ) -> PutReport
     requires second { flag_at properties.now.mask 1 ≡ false }
     requires lowest { flag_at properties.now.mask 0 ≡ false }
-    ensures { Reports (MakesFrame out.old out.new max_payload
-        (Head channel (header_with CLASS_BASIC body_size
-        (masked_options properties.now (headers_item properties.now))))
-        (masked_flaw properties.now (headers_flaw properties.now))) result }
+    ensures { Reports (MakesHeader out.old out.new max_payload channel CLASS_BASIC body_size
+        properties.now (headers_item properties.now) (headers_flaw properties.now)) result }
 {
     let headers = TableContent::new(properties.headers);
     let put = put_masked_header(
@@ -65,10 +63,8 @@ pub extern "C" fn feksroum_put_content_header(
     out: &mut [u8],
 ) -> PutReport
     ensures put { flag_at properties.now.mask 1 ≡ false → flag_at properties.now.mask 0 ≡ false
-        → Reports (MakesFrame out.old out.new max_payload
-        (Head channel (header_with CLASS_BASIC body_size
-        (masked_options properties.now (headers_item properties.now))))
-        (masked_flaw properties.now (headers_flaw properties.now))) result }
+        → Reports (MakesHeader out.old out.new max_payload channel CLASS_BASIC body_size
+        properties.now (headers_item properties.now) (headers_flaw properties.now)) result }
     ensures unused { ¬ (HasNoUnusedBit properties.now.mask)
         → (result ≡ refused BAD_ARGUMENT) × (out.new ≡ out.old) }
 {

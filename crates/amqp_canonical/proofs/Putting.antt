@@ -2,7 +2,7 @@
 use Rattle.std.proofs.Common.{◌≡◌, ◌≤◌, false, ◌^◌, ◌<◌, ℕ, Bool, ◌+◌, List, [], ◌∷◌, ◌++◌, length, refl, sym, ap, subst, ◌∙◌, append_assoc, append-nil, arith}
 use Rattle.std.proofs.lemmas.List.{length-append}
 use Rattle.amqp_types.specs.Writing.{Puts, written}
-use Rattle.amqp_types.proofs.Written.{written-written, written-nil}
+use Rattle.amqp_types.proofs.WrittenParts.{written-written, written-nil}
 use Rattle.amqp_canonical.specs.Writes.{HasRoom, PutsIfRoom}
 
 -- Bytes put, and others at the place after them, are one put of all, as far as there is room.

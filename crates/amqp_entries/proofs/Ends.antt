@@ -2,7 +2,7 @@
 use Rattle.std.proofs.Common.{◌≡◌, ℕ, ◌+◌, ◌-◌, ◌≤◌, ◌*◌, List, ◌++◌, length, take, drop, refl, sym, ap, ap₂, ◌∙◌, arith}
 use Rattle.std.proofs.lemmas.List.{take-append-drop, take-take, drop-drop, take_at, drop_at, length-append, length-take-le, length-drop}
 use Rattle.amqp_types.specs.Writing.{written, Puts}
-use Rattle.amqp_types.proofs.Written.{written-written, written-length}
+use Rattle.amqp_types.proofs.WrittenParts.{written-written, written-length}
 
 -- bytes in the place of others that are no more
 overwritten : (buf : List ℕ) (at : ℕ) (first second : List ℕ) → at ≤ length buf → length first ≤ length second

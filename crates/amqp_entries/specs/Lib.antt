@@ -7,3 +7,4 @@ pub mod Plain
 pub mod Appending
 pub mod Laws
 pub mod Sizes
+pub mod Ascending

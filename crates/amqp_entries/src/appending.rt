@@ -1,6 +1,6 @@
 //! Entries of tables and values of arrays, appended one after another to a content in a slice.
 
-ghost use Rattle.std.specs.Prelude.{◌≡◌, ◌≤◌, ◌<◌, ◌+◌, ◌^◌, ◌↔◌, Ok, IfOk, IsTrue, length};
+ghost use Rattle.std.specs.Prelude.{◌≡◌, ◌≤◌, ◌<◌, ◌+◌, ◌*◌, ◌^◌, ◌↔◌, Ok, IfOk, IsTrue, length};
 ghost use Rattle.std.specs.Str.{IsAscii};
 ghost use Rattle.amqp_types.specs.Strings.{short_string_bytes};
 ghost use Rattle.amqp_entries.specs.Appending.{AppendsEntry, AppendsValue};
@@ -8,8 +8,8 @@ ghost use Rattle.amqp_entries.specs.Flaws.{size_or, text_flaw};
 ghost use Rattle.amqp_entries.specs.Written.{IsWritten};
 
 use crate::errors::PutError;
-use crate::few::{is_short_key, text_size};
-use crate::puts::{put_short_text, put_text};
+use crate::few::{is_key_of_eights, is_key_of_fours, text_size};
+use crate::puts::{put_text, put_text_ends};
 use crate::values::ToValue;
 
 /// Whether a slice has room for so many bytes from a place on, which may lie after its end.
@@ -32,15 +32,16 @@ fn short_key_size(key: &[u8]) -> usize
     1 + key.len()
 }
 
-/// The same as `append_entry` with a short ASCII key, which is put without a call.
+/// The same as `append_entry` with a short ASCII key, which is put by its first and its last N bytes.
 #[inline(always)]
-fn append_short<V: ToValue>(
+fn append_ends<V: ToValue, const N: usize>(
     out: &mut [u8],
     at: usize,
     key: &[u8],
     value: &V,
 ) -> Result<usize, PutError>
-    requires some { 4 ≤ length key.now }
+    requires some { N ≤ length key.now }
+    requires covered { length key.now ≤ 2 * N }
     requires few { length key.now ≤ 16 }
     requires ascii { IsAscii key.now }
     ensures appends { AppendsEntry out.old out.new at key.now
@@ -52,7 +53,7 @@ fn append_short<V: ToValue>(
     if !has_room(out, at, size) {
         return Err(PutError::BufferTooSmall(at.saturating_add(size)));
     }
-    let place = put_short_text(out, at, key);
+    let place = put_text_ends::<N>(out, at, key);
     Ok(value.put(out, place))
 }
 
@@ -90,8 +91,11 @@ pub fn append_entry<V: ToValue>(
         (V.value value.now) (V.flaw value.now) result }
     ensures written { IfOk result (λ _. IsWritten (V.value value.now)) }
 {
-    if is_short_key(key) {
-        return append_short(out, at, key, value);
+    if is_key_of_fours(key) {
+        return append_ends::<V, 4>(out, at, key, value);
+    }
+    if is_key_of_eights(key) {
+        return append_ends::<V, 8>(out, at, key, value);
     }
     // Taken apart, since the compiler then passes no result on in memory.
     match append_any(out, at, key, value) {

@@ -1,6 +1,6 @@
 //! Judging what fills a table or an array, and putting it canonically, with its length in front.
 
-ghost use Rattle.std.specs.Prelude.{◌≡◌, ◌≤◌, ◌<◌, ◌+◌, ◌^◌, Some, None, false, length};
+ghost use Rattle.std.specs.Prelude.{◌≡◌, ◌≤◌, ◌<◌, ◌+◌, ◌^◌, None, length};
 ghost use Rattle.amqp_types.specs.Strings.{with_length};
 ghost use Rattle.amqp_types.specs.Writing.{Puts};
 ghost use Rattle.amqp_canonical.specs.Writes.{IsFilled};
@@ -20,28 +20,55 @@ use amqp_types::{put_bytes, put_long_uint};
 /// quadratic time.
 const MARKS: usize = 256;
 
-/// What a content was found to be.
+/// What is said to be the size of a content that is not put: more than any has.
+const NOT_PUT: usize = 4294967296;
+
+/// What a content was found to be: two numbers, so that none is passed in memory. Why it is not put is told when it is asked.
 #[derive(Clone, Copy)]
 pub(crate) struct Found {
-    /// Whether it is its canonical bytes.
-    pub(crate) canonical: bool,
+    /// 1 where it is its canonical bytes, else 0.
+    pub(crate) canonical: usize,
 
-    /// How many bytes its canonical bytes are, where it is put.
+    /// How many bytes its canonical bytes are; 2^32 where it is not put.
     pub(crate) size: usize,
-
-    /// Why it is not put.
-    pub(crate) flaw: Option<PutError>,
 }
 
 /// What is found of content that is not put.
 #[inline(always)]
-fn refused(flaw: PutError) -> Found
-    ensures { result ≡ record { canonical = false; size = 0; flaw = Some flaw } }
+fn refused() -> Found
+    ensures { result ≡ record { canonical = 0; size = 2 ^ 32 } }
 {
     Found {
-        canonical: false,
-        size: 0,
-        flaw: Some(flaw),
+        canonical: 0,
+        size: NOT_PUT,
+    }
+}
+
+/// Why the content of a table is not put. Apart, since most is.
+#[inline(never)]
+pub(crate) fn table_refusal(content: &[u8], depth_left: usize) -> Option<PutError>
+    ensures { result ≡ table_flaw depth_left content.now }
+{
+    if content.len() > u32::MAX as usize {
+        return Some(PutError::TooLong);
+    }
+    match judge_entries(content, depth_left) {
+        Ok(_) => None,
+        Err(fault) => Some(PutError::Content(fault)),
+    }
+}
+
+/// Why the content of an array is not put.
+#[inline(never)]
+pub(crate) fn array_refusal(content: &[u8], depth_left: usize) -> Option<PutError>
+    ensures { result ≡ array_flaw depth_left content.now }
+{
+    if content.len() > u32::MAX as usize {
+        return Some(PutError::TooLong);
+    }
+    match judge_values(content, depth_left) {
+        Ok(_) => None,
+        Err(fault) => Some(PutError::Content(fault)),
     }
 }
 
@@ -75,26 +102,28 @@ pub(crate) fn find_table(content: &[u8], depth_left: usize) -> Found
     ensures { IsFoundTable depth_left content.now result }
 {
     if content.len() > u32::MAX as usize {
-        return refused(PutError::TooLong);
+        return refused();
     }
     if is_ascending(content, depth_left) {
         return Found {
-            canonical: true,
+            canonical: 1,
             size: content.len(),
-            flaw: None,
         };
     }
     match judge_entries(content, depth_left) {
-        Ok(canonical) => Found {
-            canonical,
-            size: if canonical {
-                content.len()
-            } else {
-                entries_size(content, depth_left)
-            },
-            flaw: None,
-        },
-        Err(fault) => refused(PutError::Content(fault)),
+        Ok(canonical) => {
+            if canonical {
+                return Found {
+                    canonical: 1,
+                    size: content.len(),
+                };
+            }
+            Found {
+                canonical: 0,
+                size: entries_size(content, depth_left),
+            }
+        }
+        Err(_) => refused(),
     }
 }
 
@@ -104,19 +133,22 @@ pub(crate) fn find_array(content: &[u8], depth_left: usize) -> Found
     ensures { IsFoundArray depth_left content.now result }
 {
     if content.len() > u32::MAX as usize {
-        return refused(PutError::TooLong);
+        return refused();
     }
     match judge_values(content, depth_left) {
-        Ok(canonical) => Found {
-            canonical,
-            size: if canonical {
-                content.len()
-            } else {
-                values_size(content, depth_left)
-            },
-            flaw: None,
-        },
-        Err(fault) => refused(PutError::Content(fault)),
+        Ok(canonical) => {
+            if canonical {
+                return Found {
+                    canonical: 1,
+                    size: content.len(),
+                };
+            }
+            Found {
+                canonical: 0,
+                size: values_size(content, depth_left),
+            }
+        }
+        Err(_) => refused(),
     }
 }
 
@@ -167,7 +199,7 @@ pub(crate) fn put_table_content(
     requires room { at + length (counted_entries depth_left content.now) ≤ length buf.old }
     ensures { Puts buf.old buf.new at (counted_entries depth_left content.now) result }
 {
-    if found.canonical {
+    if found.canonical == 1 {
         return put_canonical(buf, at, content);
     }
     let place = put_long_uint(buf, at, &(found.size as u32));
@@ -188,7 +220,7 @@ pub(crate) fn put_array_content(
     requires room { at + length (counted_values depth_left content.now) ≤ length buf.old }
     ensures { Puts buf.old buf.new at (counted_values depth_left content.now) result }
 {
-    if found.canonical {
+    if found.canonical == 1 {
         return put_canonical(buf, at, content);
     }
     let place = put_long_uint(buf, at, &(found.size as u32));

@@ -21,7 +21,7 @@ fn are_few_ascii(bytes: &[u8]) -> bool
     if 8 <= n && n <= 16 {
         return eights_are_ascii(bytes);
     }
-    if 4 <= n && n <= 7 {
+    if 4 <= n && n <= 8 {
         return fours_are_ascii(bytes);
     }
     if 17 <= n && n <= 32 {
@@ -41,21 +41,42 @@ pub(crate) fn is_short_ascii(bytes: &[u8]) -> bool
     if 8 <= n && n <= 16 {
         return eights_are_ascii(bytes);
     }
-    4 <= n && n <= 7 && fours_are_ascii(bytes)
+    4 <= n && n <= 8 && fours_are_ascii(bytes)
 }
 
-/// The same for keys, of which many have four to seven bytes: these are tested first.
+/// Whether a key has four to eight bytes, of ASCII.
 #[inline(always)]
-pub(crate) fn is_short_key(bytes: &[u8]) -> bool
-    ensures some { IsTrue result → 4 ≤ length bytes.now }
-    ensures few { IsTrue result → length bytes.now ≤ 16 }
-    ensures ascii { IsTrue result → IsAscii bytes.now }
+pub(crate) fn is_key_of_fours(key: &[u8]) -> bool
+    ensures some { IsTrue result → 4 ≤ length key.now }
+    ensures few { IsTrue result → length key.now ≤ 8 }
+    ensures ascii { IsTrue result → IsAscii key.now }
 {
-    let n = bytes.len();
-    if 4 <= n && n <= 7 {
-        return fours_are_ascii(bytes);
+    let n = key.len();
+    4 <= n && n <= 8 && fours_are_ascii(key)
+}
+
+/// Whether a key has eight to sixteen bytes, of ASCII.
+#[inline(always)]
+pub(crate) fn is_key_of_eights(key: &[u8]) -> bool
+    ensures some { IsTrue result → 8 ≤ length key.now }
+    ensures few { IsTrue result → length key.now ≤ 16 }
+    ensures ascii { IsTrue result → IsAscii key.now }
+{
+    let n = key.len();
+    8 <= n && n <= 16 && eights_are_ascii(key)
+}
+
+/// Whether a key has four to sixteen bytes, of ASCII. Many have four to eight, which are tested first.
+#[inline(always)]
+pub(crate) fn is_short_key(key: &[u8]) -> bool
+    ensures some { IsTrue result → 4 ≤ length key.now }
+    ensures ascii { IsTrue result → IsAscii key.now }
+{
+    let n = key.len();
+    if 4 <= n && n <= 8 {
+        return fours_are_ascii(key);
     }
-    8 <= n && n <= 16 && eights_are_ascii(bytes)
+    is_key_of_eights(key)
 }
 
 /// Whether bytes are UTF-8, which are many, or not ASCII.
@@ -174,7 +195,7 @@ pub fn put_few(buf: &mut [u8], at: usize, bytes: &[u8]) -> usize
     if 8 <= n && n <= 16 {
         return put_ends::<8>(buf, at, bytes);
     }
-    if 4 <= n && n <= 7 {
+    if 4 <= n && n <= 8 {
         return put_ends::<4>(buf, at, bytes);
     }
     put_any(buf, at, bytes)

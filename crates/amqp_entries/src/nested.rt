@@ -6,7 +6,10 @@ ghost use Rattle.amqp_types.specs.Values.{array_value, entries_of, table_value, 
 ghost use Rattle.amqp_entries.specs.Contents.{array_flaw, array_in, table_flaw, table_in};
 ghost use Rattle.amqp_entries.specs.Found.{IsFoundArray, IsFoundTable};
 
-use crate::contents::{Found, find_array, find_table, put_array_content, put_table_content};
+use crate::contents::{
+    Found, array_refusal, find_array, find_table, put_array_content, put_table_content,
+    table_refusal,
+};
 use crate::errors::PutError;
 use crate::values::ToValue;
 use amqp_types::{INNER_DEPTH, TAG_FIELD_ARRAY, TAG_FIELD_TABLE, are_bytes, put_bytes};
@@ -48,9 +51,12 @@ impl<'a> ToValue for TableValue<'a> {
     #[inline(always)]
     fn measure(&self) -> Result<usize, PutError> {
         are_bytes(self.content);
-        match self.found.flaw {
-            None => Ok(5 + self.found.size),
+        if self.found.size <= u32::MAX as usize {
+            return Ok(5 + self.found.size);
+        }
+        match table_refusal(self.content, DEPTH_LEFT) {
             Some(flaw) => Err(flaw),
+            None => Ok(5 + self.found.size),
         }
     }
 
@@ -95,9 +101,12 @@ impl<'a> ToValue for ArrayValue<'a> {
     #[inline(always)]
     fn measure(&self) -> Result<usize, PutError> {
         are_bytes(self.content);
-        match self.found.flaw {
-            None => Ok(5 + self.found.size),
+        if self.found.size <= u32::MAX as usize {
+            return Ok(5 + self.found.size);
+        }
+        match array_refusal(self.content, DEPTH_LEFT) {
             Some(flaw) => Err(flaw),
+            None => Ok(5 + self.found.size),
         }
     }
 

@@ -1,26 +1,11 @@
 //! Texts, lengths and tags put in front of bytes, where there is room for them.
 
-ghost use Rattle.std.specs.Prelude.{◌≤◌, ◌<◌, ◌+◌, ◌^◌, ◌∷◌, length};
+ghost use Rattle.std.specs.Prelude.{◌≤◌, ◌<◌, ◌+◌, ◌*◌, ◌^◌, ◌∷◌, length};
 ghost use Rattle.amqp_types.specs.Strings.{short_string_bytes, with_length};
 ghost use Rattle.amqp_types.specs.Writing.{Puts};
 
 use crate::few::{put_ends, put_few};
 use amqp_types::{put_bytes, put_long_uint};
-
-/// Puts four to sixteen bytes: the first ones and then the last ones, four or eight, which may overlap. This is quicker
-/// than a call that copies.
-#[inline(always)]
-fn put_short(buf: &mut [u8], at: usize, bytes: &[u8]) -> usize
-    requires some { 4 ≤ length bytes.now }
-    requires few { length bytes.now ≤ 16 }
-    requires room { at + length bytes.now ≤ length buf.old }
-    ensures { Puts buf.old buf.new at bytes.now result }
-{
-    if bytes.len() < 8 {
-        return put_ends::<4>(buf, at, bytes);
-    }
-    put_ends::<8>(buf, at, bytes)
-}
 
 /// Puts a short string, its length first.
 #[inline(always)]
@@ -43,16 +28,18 @@ pub fn called_put_text(buf: &mut [u8], at: usize, text: &[u8]) -> usize
     put_text(buf, at, text)
 }
 
-/// Puts a short string of four to sixteen bytes, its length first.
+/// Puts a short string, its length first, and then its first and its last N bytes, which may overlap. This is quicker than a
+/// call that copies.
 #[inline(always)]
-pub(crate) fn put_short_text(buf: &mut [u8], at: usize, text: &[u8]) -> usize
-    requires some { 4 ≤ length text.now }
-    requires few { length text.now ≤ 16 }
+pub(crate) fn put_text_ends<const N: usize>(buf: &mut [u8], at: usize, text: &[u8]) -> usize
+    requires some { N ≤ length text.now }
+    requires covered { length text.now ≤ 2 * N }
+    requires few { length text.now < 256 }
     requires room { at + length (short_string_bytes text.now) ≤ length buf.old }
     ensures { Puts buf.old buf.new at (short_string_bytes text.now) result }
 {
     let place = put_bytes(buf, at, &[text.len() as u8]);
-    put_short(buf, place, text)
+    put_ends::<N>(buf, place, text)
 }
 
 /// Puts bytes with their length in 4 bytes in front.

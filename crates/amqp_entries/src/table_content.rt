@@ -8,7 +8,7 @@ ghost use Rattle.amqp_entries.specs.Contents.{table_flaw, table_in};
 ghost use Rattle.amqp_entries.specs.Flaws.{size_or};
 ghost use Rattle.amqp_entries.specs.Found.{IsFoundTable};
 
-use crate::contents::{Found, find_table, put_table_content};
+use crate::contents::{Found, find_table, put_table_content, table_refusal};
 use crate::errors::PutError;
 use amqp_types::INNER_DEPTH;
 
@@ -43,9 +43,12 @@ impl<'a> TableContent<'a> {
             (table_bytes (table_in inner_depth self.now.content.now)) }
         ensures bound { IfOk result (λ n. n < 2 ^ 33) }
     {
-        match self.found.flaw {
-            None => Ok(4 + self.found.size),
+        if self.found.size <= u32::MAX as usize {
+            return Ok(4 + self.found.size);
+        }
+        match table_refusal(self.content, INNER_DEPTH) {
             Some(flaw) => Err(flaw),
+            None => Ok(4 + self.found.size),
         }
     }
 

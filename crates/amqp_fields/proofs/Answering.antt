@@ -13,7 +13,7 @@ use Rattle.amqp_types.specs.SlotJudging.{judge_form, judge_slots}
 use Rattle.amqp_wire.specs.declared.frame_type.AMQPFrameType.{AMQPFrameType}
 use Rattle.amqp_wire.specs.declared.frame_type.AMQPFrameType.TheVariants as kinds
 use Rattle.amqp_wire.specs.Frames.{Frame, Proto, Meth, Head, Body, Beat, BadBeat, beat_on}
-use Rattle.amqp_wire.specs.Verdicts.{all_of, filling, whole, whole_as}
+use Rattle.amqp_wire.specs.Verdicts.{all_of, filling, decode_raw, decode_payload}
 use Rattle.amqp_wire.proofs.Encoded.{read_as}
 use Rattle.amqp_fields.specs.declared.node.Node.{Node}
 use Rattle.amqp_fields.specs.Listing.{Grows, Listing, listing, pushed, pushed_all}
@@ -86,8 +86,8 @@ beat_nodes deep bytes channel = by_test (channel == 0)
 
 module _ (deep : Bool) (bytes : List ℕ) (end : ℕ) where
   version_found : (payload : List ℕ) (channel : ℕ) (frame : Frame) → Stands bytes end payload
-      → whole_as kinds.ProtocolHeader channel payload ≡ Ok frame → AreListed kinds.ProtocolHeader bytes end payload deep frame
-  unfolding whole_as listed_payload fields_of judge_slots judge_form
+      → decode_payload kinds.ProtocolHeader channel payload ≡ Ok frame → AreListed kinds.ProtocolHeader bytes end payload deep frame
+  unfolding decode_payload listed_payload fields_of judge_slots judge_form
   version_found [] channel frame stands h = absurd cc
   version_found (a ∷ []) channel frame stands h = absurd cc
   version_found (a ∷ b ∷ []) channel frame stands h = absurd cc
@@ -107,8 +107,8 @@ module _ (deep : Bool) (bytes : List ℕ) (end : ℕ) where
 
   -- the nodes that are listed of a whole payload are those of its frame, where they stand in some bytes
   pub whole_found : (kind : AMQPFrameType) (payload : List ℕ) (channel : ℕ) (frame : Frame) → Stands bytes end payload
-      → whole_as kind channel payload ≡ Ok frame → AreListed kind bytes end payload deep frame
-  unfolding whole_as listed_payload fields_of
+      → decode_payload kind channel payload ≡ Ok frame → AreListed kind bytes end payload deep frame
+  unfolding decode_payload listed_payload fields_of
   whole_found kinds.ProtocolHeader payload channel frame stands h = version_found payload channel frame stands h
   whole_found kinds.Method payload channel frame stands h =
       let read = read_as (λ x. Meth channel x) (all_of judge_payload payload) frame h in
@@ -129,7 +129,8 @@ module _ (deep : Bool) (bytes : List ℕ) (end : ℕ) where
 
 -- ---- what is promised of them
 
-span_stands : (bytes payload : List ℕ) (start : ℕ) → IsSpan bytes start (length payload) payload
+-- a span stands where it ends
+pub span_stands : (bytes payload : List ℕ) (start : ℕ) → IsSpan bytes start (length payload) payload
     → Stands bytes (start + length payload) payload
 span_stands bytes payload start span = record {
   within = span.within;
@@ -139,7 +140,7 @@ span_stands bytes payload start span = record {
 
 -- the nodes that are listed of a payload are those of its frame
 pub listed_mean : (deep : Bool) (bytes payload : List ℕ) (start : ℕ) (kind : AMQPFrameType) (channel : ℕ) (frame : Frame)
-    → IsSpan bytes start (length payload) payload → whole_as kind channel payload ≡ Ok frame
+    → IsSpan bytes start (length payload) payload → decode_payload kind channel payload ≡ Ok frame
     → AreNodesOf deep bytes frame (payload_nodes kind deep (start + length payload) payload)
 listed_mean deep bytes payload start kind channel frame span is =
     let all = whole_found deep bytes (start + length payload) kind payload channel frame (span_stands bytes payload start span) is in
@@ -153,14 +154,14 @@ ok_of (Ok x) h = (x, refl)
 ok_of (Err bad) h = absurd cc
 
 -- a payload that a frame was decoded from encodes one
-pub is_whole : (kind : AMQPFrameType) (payload : List ℕ) (frame : Frame) → whole (payload_as kind payload) ≡ Ok frame → IsWhole kind payload
-is_whole kind payload frame h = is_ok (whole (payload_as kind payload)) frame h
+pub is_whole : (kind : AMQPFrameType) (payload : List ℕ) (frame : Frame) → decode_raw (payload_as kind payload) ≡ Ok frame → IsWhole kind payload
+is_whole kind payload frame h = is_ok (decode_raw (payload_as kind payload)) frame h
 
 -- a whole payload has at most as many nodes as bytes
 pub fields_few : (kind : AMQPFrameType) (payload : List ℕ) (deep : Bool) → IsWhole kind payload
     → length (fields_nodes kind deep payload) ≤ length payload
 fields_few kind payload deep h =
-    let frame = ok_of (whole (payload_as kind payload)) h in
+    let frame = ok_of (decode_raw (payload_as kind payload)) h in
     let all = whole_found deep payload (length payload) kind payload 0 frame.0 (itself payload) frame.1 in
     subst (λ (ns : List Node). length ns ≤ length payload) (sym (ap nodes_of all.is)) all.few
 
@@ -210,7 +211,7 @@ put_all kind bytes end payload deep frame old new first count all few h =
 -- ---- the fields of a payload that stands alone
 
 module _ (kind : AMQPFrameType) (payload : List ℕ) (deep : Bool) (old new : List Node) (count : ℕ) (frame : Frame) (few : length payload < 2 ^ 32)
-    (is : whole (payload_as kind payload) ≡ Ok frame)
+    (is : decode_raw (payload_as kind payload) ≡ Ok frame)
     (h : Counts (listed_payload kind deep (length payload) payload) old 0 new count) where
   fields_put : ArePut (fields_nodes kind deep payload) old 0 new count
   fields_put =

@@ -7,7 +7,7 @@ use Rattle.std.proofs.lemmas.List.{length-append}
 use Rattle.amqp_types.specs.Numbers.{bytes4, number_bytes}
 use Rattle.amqp_types.specs.Strings.{short_string_bytes, with_length, is_too_long}
 use Rattle.amqp_types.specs.Writing.{written}
-use Rattle.amqp_types.proofs.Written.{written-written, written-nil}
+use Rattle.amqp_types.proofs.WrittenParts.{written-written, written-nil}
 use Rattle.amqp_canonical.proofs.PutParts.{written_before}
 use Rattle.amqp_fields.specs.declared.refusals.Refusal.{Refusal}
 use Rattle.amqp_fields.specs.declared.refusals.WriteRefusal.TheVariants as whys

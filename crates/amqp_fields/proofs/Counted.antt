@@ -26,7 +26,7 @@ use Rattle.amqp_wire.specs.declared.frame_type.AMQPFrameType.{AMQPFrameType}
 use Rattle.amqp_wire.specs.declared.frame_type.AMQPFrameType.TheVariants as kinds
 use Rattle.amqp_wire.specs.Frames.{Frame, Proto, Meth, Head, Body, Beat, BadBeat, beat_on}
 use Rattle.amqp_wire.specs.Outlines.{outline_of}
-use Rattle.amqp_wire.specs.Verdicts.{all_of, whole_as}
+use Rattle.amqp_wire.specs.Verdicts.{all_of, decode_payload}
 use Rattle.amqp_wire.proofs.Encoded.{read_as}
 use Rattle.amqp_fields.specs.Counting.{count_of, method_count, set_at, set_count, total}
 use Rattle.amqp_fields.specs.Listed.{field_count, kept_count}
@@ -62,10 +62,6 @@ method_few class id found shapes at is = (small_is (slots_of shapes.now) (slots_
 pub method_total : (class id : ℕ) (found : Option (Bor (List SlotShape))) (shapes : Bor (List SlotShape))
     → option_map slots_of (option_copied found) ≡ slots_at class id → found ≡ Some shapes → total (slots_of shapes.now) ≡ method_count class id
 method_total class id found shapes at is = ap (λ o. total (unwrap_or o [])) (sym (method_is class id found shapes at is))
-
-pub method_none : (class id : ℕ) (found : Option (Bor (List SlotShape)))
-    → option_map slots_of (option_copied found) ≡ slots_at class id → found ≡ None → method_count class id ≡ 0
-method_none class id found at is = ap (λ o. total (unwrap_or o [])) (sym at ∙ ap (λ o. option_map slots_of (option_copied o)) is)
 
 -- where no shapes are left, no properties are set
 pub set_none : (mask : ℕ) (shapes : List (ℕ × FormShape)) → length shapes < 1 → set_count mask (map property_of shapes) ≡ 0
@@ -222,8 +218,8 @@ beat_counted payload channel false = refl
 
 -- what is counted of a whole payload is how many fields its frame has
 pub frame_counted : (kind : AMQPFrameType) (channel : ℕ) (payload : List ℕ) (frame : Frame)
-    → whole_as kind channel payload ≡ Ok frame → count_of payload (outline_of frame) ≡ length (fields_of frame)
-unfolding whole_as fields_of
+    → decode_payload kind channel payload ≡ Ok frame → count_of payload (outline_of frame) ≡ length (fields_of frame)
+unfolding decode_payload fields_of
 frame_counted kinds.ProtocolHeader channel [] frame h = absurd cc
 frame_counted kinds.ProtocolHeader channel (a ∷ []) frame h = absurd cc
 frame_counted kinds.ProtocolHeader channel (a ∷ b ∷ []) frame h = absurd cc

@@ -33,7 +33,8 @@ use Rattle.amqp_fields.proofs.MadeOfParts.{after_ok, alone_ok, fails, holds, lon
 use Rattle.amqp_fields.proofs.Spans.{byte_below}
 use Rattle.amqp_fields.proofs.ValuesTold.{Told, table_told, value_told}
 
-limit_of : (width : NumberWidth) → kind_limit (kind_of (number_form width)) ≡ number_limit width
+-- the numbers of a width are those of its kind
+pub limit_of : (width : NumberWidth) → kind_limit (kind_of (number_form width)) ≡ number_limit width
 limit_of bytes1 = refl
 limit_of bytes2 = refl
 limit_of bytes4 = refl

@@ -19,9 +19,6 @@ pub record Onward {A : Type 0} (item : Judge A) (content rest : List ℕ) : Type
   pub refused : (e : ParserError) → RefusesWhole e (filled item 0 rest) → RefusesWhole e (filled item 0 content)
   pub fills : IsFilled (filled item 0 rest) → IsFilled (filled item 0 content)
 
-pub begins : {A : Type 0} {item : Judge A} {content : List ℕ} → Onward item content content
-begins = record { refused = λ e h. h; fills = λ h. h }
-
 map_filled : {A : Type 0} (x : A) (r : Result (List A) Fault) → IsFilled r → IsFilled (read_map (λ xs. x ∷ xs) r)
 map_filled x (Ok xs) h = tt
 map_filled x (Err bad) h = absurd h

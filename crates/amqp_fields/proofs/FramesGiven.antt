@@ -11,12 +11,12 @@ use Rattle.amqp_wire.specs.declared.looking.FrameLayout.{FrameLayout}
 use Rattle.amqp_wire.specs.Frames.{Frame, Raw}
 use Rattle.amqp_wire.specs.Judgements.{IsPayloadFault}
 use Rattle.amqp_wire.specs.Looks.{laid_out, payload_place}
-use Rattle.amqp_wire.specs.Outer.{outer}
+use Rattle.amqp_wire.specs.HeaderScan.{scan}
 use Rattle.amqp_wire.specs.Outlines.{outline_of}
-use Rattle.amqp_wire.specs.Verdicts.{is_at, judged, judged_frame, verdict, whole}
+use Rattle.amqp_wire.specs.Verdicts.{is_at, judge_scanned, judge_decoded, judge_frame, decode_raw}
 use Rattle.amqp_wire.specs.Fronts.{front, place}
 use Rattle.amqp_wire.proofs.Cuts.{front-got}
-use Rattle.amqp_wire.proofs.OuterLook.{outer-in_bounds}
+use Rattle.amqp_wire.proofs.HeaderScan.{scan-in_bounds}
 use Rattle.amqp_fields.specs.declared.node.Node.{Node}
 use Rattle.amqp_fields.specs.declared.head.Head.{Head}
 use Rattle.amqp_fields.specs.declared.frames.FramesRead.{FramesRead}
@@ -34,9 +34,9 @@ use Rattle.amqp_fields.proofs.Spans.{Stands, itself, stands_part}
 
 -- a whole frame around a payload that encodes one is taken by the verdict
 pub verdict_whole : (m : ℕ) (left : List ℕ) (raw : Raw) (size : ℕ) (frame : Frame)
-    → outer (Some m) left ≡ took raw size → whole raw ≡ Ok frame → verdict plain (Some m) left ≡ took frame size
-unfolding verdict
-verdict_whole m left raw size frame found is = ap (judged plain) found ∙ ap (λ r. judged_frame (is_at plain raw) r size) is
+    → scan (Some m) left ≡ took raw size → decode_raw raw ≡ Ok frame → judge_frame plain (Some m) left ≡ took frame size
+unfolding judge_frame
+verdict_whole m left raw size frame found is = ap (judge_scanned plain) found ∙ ap (λ r. judge_decoded (is_at plain raw) r size) is
 
 -- what fills a payload ends where the payload does
 frame_stands : (bytes payload : List ℕ) (used place count : ℕ) → used + (place + count) ≤ length bytes
@@ -82,8 +82,8 @@ next_frame m deep bytes used start old new first layout raw head few within coun
     put_all raw.kind bytes (start + length payload) payload deep read.frame old new first read.count all
     (omega (arith, few, counted, inside, size)) read.counts in
     let begins : start ≡ used + payload_place raw.kind = place ∙ ap (λ k. used + k) (found.placed.0 ∙ ap payload_place (sym kind)) in
-    let outer_is : outer (Some m) (drop used bytes) ≡ took raw layout.frame_len = found.found ∙ ap (λ (r : Raw). took r layout.frame_len) (sym is) in
-    let bounds = outer-in_bounds (Some m) (drop used bytes) raw layout.frame_len outer_is in
+    let scan_is : scan (Some m) (drop used bytes) ≡ took raw layout.frame_len = found.found ∙ ap (λ (r : Raw). took r layout.frame_len) (sym is) in
+    let bounds = scan-in_bounds (Some m) (drop used bytes) raw layout.frame_len scan_is in
     let own = payload_nodes raw.kind deep (start + length payload) payload in
     let many : read.count - first ≡ length own = omega (arith, put.count_is) in
     let own_few : length own ≤ length payload = subst (λ (ns : List Node). length ns ≤ length payload) (sym (ap nodes_of all.is)) all.few in
@@ -95,7 +95,7 @@ next_frame m deep bytes used start old new first layout raw head few within coun
       says = record {
         raw = raw;
         frame = read.frame;
-        found = outer_is;
+        found = scan_is;
         is = read.is;
         payload_is = subst (λ (h : Head). IsSpan bytes h.start h.length payload) (sym read.head_is) (stands_span bytes payload start stands);
         head_is = head_is;
@@ -108,26 +108,26 @@ next_frame m deep bytes used start old new first layout raw head few within coun
     }
 
 faulty : (error : ParserError) (j : Judged Raw) (raw : Raw) (size : ℕ) → j ≡ took raw size
-    → IsPayloadFault error → RefusesWhole error (whole raw) → SaysFault error (judged plain j)
+    → IsPayloadFault error → RefusesWhole error (decode_raw raw) → SaysFault error (judge_scanned plain j)
 faulty errors.Incomplete j raw size e may h = absurd h
 faulty errors.UnknownFrameType j raw size e may h = absurd may.0
 faulty errors.BadProtocolHeader j raw size e may h = absurd may.0
 faulty errors.BadFrameEnd j raw size e may h = absurd may.0
-faulty errors.UnknownClass j raw size e may h = ap (judged plain) e ∙ ap (λ r. judged_frame (is_at plain raw) r size) h
-faulty errors.UnknownMethod j raw size e may h = ap (judged plain) e ∙ ap (λ r. judged_frame (is_at plain raw) r size) h
-faulty errors.ShortPayload j raw size e may h = ap (judged plain) e ∙ ap (λ r. judged_frame (is_at plain raw) r size) h
-faulty errors.TrailingBytes j raw size e may h = ap (judged plain) e ∙ ap (λ r. judged_frame (is_at plain raw) r size) h
-faulty errors.NotUtf8 j raw size e may h = ap (judged plain) e ∙ ap (λ r. judged_frame (is_at plain raw) r size) h
-faulty errors.UnknownTag j raw size e may h = ap (judged plain) e ∙ ap (λ r. judged_frame (is_at plain raw) r size) h
-faulty errors.TooDeep j raw size e may h = ap (judged plain) e ∙ ap (λ r. judged_frame (is_at plain raw) r size) h
+faulty errors.UnknownClass j raw size e may h = ap (judge_scanned plain) e ∙ ap (λ r. judge_decoded (is_at plain raw) r size) h
+faulty errors.UnknownMethod j raw size e may h = ap (judge_scanned plain) e ∙ ap (λ r. judge_decoded (is_at plain raw) r size) h
+faulty errors.ShortPayload j raw size e may h = ap (judge_scanned plain) e ∙ ap (λ r. judge_decoded (is_at plain raw) r size) h
+faulty errors.TrailingBytes j raw size e may h = ap (judge_scanned plain) e ∙ ap (λ r. judge_decoded (is_at plain raw) r size) h
+faulty errors.NotUtf8 j raw size e may h = ap (judge_scanned plain) e ∙ ap (λ r. judge_decoded (is_at plain raw) r size) h
+faulty errors.UnknownTag j raw size e may h = ap (judge_scanned plain) e ∙ ap (λ r. judge_decoded (is_at plain raw) r size) h
+faulty errors.TooDeep j raw size e may h = ap (judge_scanned plain) e ∙ ap (λ r. judge_decoded (is_at plain raw) r size) h
 faulty errors.NoMemory j raw size e may h = absurd (may.1 refl)
 
 -- a fault of a payload is that of its frame
 pub payload_fault : (m : ℕ) (left : List ℕ) (layout : FrameLayout) (raw : Raw) (error : ParserError) → IsFound m left layout
-    → raw ≡ laid_out layout left → IsPayloadFault error → RefusesWhole error (whole raw) → SaysFault error (verdict plain (Some m) left)
-unfolding verdict
+    → raw ≡ laid_out layout left → IsPayloadFault error → RefusesWhole error (decode_raw raw) → SaysFault error (judge_frame plain (Some m) left)
+unfolding judge_frame
 payload_fault m left layout raw error found is may h =
-    faulty error (outer (Some m) left) raw layout.frame_len (found.found ∙ ap (λ (r : Raw). took r layout.frame_len) (sym is)) may h
+    faulty error (scan (Some m) left) raw layout.frame_len (found.found ∙ ap (λ (r : Raw). took r layout.frame_len) (sym is)) may h
 
 -- ---- frames one after another
 
@@ -166,10 +166,6 @@ pub record Going (m : ℕ) (deep : Bool) (bytes : List ℕ) (heads : List Head) 
   pub few : total ≤ used
   pub few_heads : 8 * count ≤ used
   pub frames : SayFrames m deep bytes 0 0 (take count heads) (take total nodes) used
-
-pub going_start : {m : ℕ} {deep : Bool} {bytes : List ℕ} {heads : List Head} {nodes : List Node} → Going m deep bytes heads nodes 0 0 0
-going_start =
-    record { heads_fit = omega arith; nodes_fit = omega arith; within = omega arith; few = omega arith; few_heads = omega arith; frames = (refl, refl) }
 
 module _ {m : ℕ} {deep : Bool} {bytes : List ℕ} {heads : List Head} {nodes new : List Node} {used count total size : ℕ} {head : Head}
     (g : Going m deep bytes heads nodes used count total) (next : IsNextFrame m deep bytes used nodes total new size head) where
@@ -232,7 +228,7 @@ module _ {m : ℕ} {deep : Bool} {bytes : List ℕ} {heads : List Head} {nodes n
         raw = says.raw;
         frame = says.frame;
         size = size;
-        found = ap (λ u. outer (Some m) (drop u bytes)) at ∙ says.found;
+        found = ap (λ u. scan (Some m) (drop u bytes)) at ∙ says.found;
         is = says.is;
         needed_is =
             is ∙ next_nodes ∙ ap length says.nodes_are

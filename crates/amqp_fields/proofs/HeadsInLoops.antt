@@ -1,10 +1,8 @@
 -- What writing leaves, and loops over heads.
-use Rattle.std.proofs.Common.{◌≡◌, ℕ, ◌+◌, ◌-◌, ◌<◌, ◌≤◌, ◌^◌, List, [], ◌∷◌, length, take, drop, true, false, None, Result, Ok, Err, if◌then◌else◌}
+use Rattle.std.proofs.Common.{◌≡◌, ℕ, ◌+◌, ◌-◌, ◌<◌, ◌≤◌, ◌^◌, List, [], ◌∷◌, length, true, false, None, Result, Ok, Err, if◌then◌else◌}
 use Rattle.std.proofs.Common.{refl, sym, ap, subst, ◌∙◌, arith}
 use Rattle.std.proofs.lemmas.Bool.Decides.{nat_tests}
-use Rattle.std.proofs.lemmas.List.{take_at}
 use Rattle.amqp_types.specs.Strings.{is_too_long}
-use Rattle.amqp_types.specs.Writing.{Puts, written}
 use Rattle.amqp_fields.specs.declared.head.Head.{Head}
 use Rattle.amqp_fields.specs.declared.node.Node.{Node}
 use Rattle.amqp_fields.specs.declared.refusals.Refusal.{Refusal}
@@ -14,7 +12,7 @@ use Rattle.amqp_fields.specs.declared.refusals.WriteRefusal.TheVariants as whys
 use Rattle.amqp_fields.specs.Made.{Made, after, refuse_head}
 use Rattle.amqp_fields.specs.MadeFrames.{at_head, made_frame, made_frames}
 use Rattle.amqp_fields.specs.Makes.{Gives, cut_long}
-use Rattle.amqp_fields.specs.Making.{AreWritten, Writes, made_whole}
+use Rattle.amqp_fields.specs.Making.{Writes, made_whole}
 use Rattle.amqp_fields.proofs.Combined.{cut_most, cut_small}
 use Rattle.amqp_fields.proofs.EachMade.{Onward, begins, ends, steps, stops}
 
@@ -106,20 +104,6 @@ pub refused : (made : Result (List ℕ) WriteError) (old : List ℕ) (error : Wr
     → ((n : ℕ) → made ≡ Err (failures.TooSmall n) → ⊥) → made ≡ Err error → Writes made old old (Err error)
 refused made old (failures.Refused head place why) never h = (h, refl)
 refused made old (failures.TooSmall n) never h = absurd (never n h)
-
--- what was made before is copied
-taken : (buf bytes : List ℕ) (n : ℕ) → length bytes ≡ n → take n (written buf 0 bytes) ≡ bytes
-unfolding written
-taken buf bytes n is = take_at bytes (drop (0 + length bytes) buf) n is
-
--- what was made in a scratch is copied to the front
-pub made_copied : {made : Result (List ℕ) WriteError} {before between old new : List ℕ} {needed next : ℕ} → length before < 2 ^ 63 → needed ≤ length before
-    → needed ≤ length old → Gives made before between 0 needed → Puts old new 0 (take needed between) next → AreWritten made old new needed
-made_copied {made} {before} {between} {old} {new} {needed} few fits within first h =
-    let size : length first.bytes ≡ needed = cut_small (length first.bytes) needed (sym first.are_put.count_is) (omega (arith, few, fits)) in
-    let put : between ≡ written before 0 first.bytes = first.are_put.put (omega (arith, few)) (omega (arith, fits, size)) in
-    let front : take needed between ≡ first.bytes = ap (take needed) put ∙ taken before first.bytes needed size in
-    record { bytes = first.bytes; made_is = first.is; count_is = sym size; within = within; written_is = h.put ∙ ap (written old 0) front }
 
 -- ---- contents that stand alone
 

@@ -14,14 +14,14 @@ use Rattle.amqp_wire.specs.declared.frame_type.AMQPFrameType.TheVariants as kind
 use Rattle.amqp_wire.specs.Frames.{Frame, Proto, Meth, Head, Body, Beat, BadBeat, Raw, raw_as}
 use Rattle.amqp_wire.specs.Fronts.{front, place}
 use Rattle.amqp_wire.specs.Looks.{payload_place}
-use Rattle.amqp_wire.specs.Outer.{behind_type, judge_version, outer}
+use Rattle.amqp_wire.specs.HeaderScan.{behind_type, judge_version, scan}
 use Rattle.amqp_wire.specs.Outlines.{outline_of}
 use Rattle.amqp_wire.specs.Spelling.{IsWithin, Spells, proto}
 use Rattle.amqp_wire.proofs.Cuts.{front-got}
 use Rattle.amqp_wire.proofs.Encoded.{verdict-spells}
-use Rattle.amqp_wire.proofs.OuterLook.{outer-exact}
+use Rattle.amqp_wire.proofs.HeaderScan.{scan-exact}
 use Rattle.amqp_wire.proofs.Outlined.{header_front}
-use Rattle.amqp_wire.proofs.Spelled.{outer-beat, outer-body, outer-header, outer-method}
+use Rattle.amqp_wire.proofs.Spelled.{scan-beat, scan-body, scan-header, scan-method}
 use Rattle.amqp_fields.specs.declared.head.Head as given
 use Rattle.amqp_fields.specs.declared.node.Node.{Node}
 use Rattle.amqp_fields.specs.Heads.{SayFrames, SaysFrame, head_of}
@@ -54,10 +54,11 @@ set_number mask (p ∷ ps) bytes options h = ap length h.joined ∙ ap suc (set_
 took_same : (a b : Raw) (n k : ℕ) → took a n ≡ took b k → a ≡ b
 took_same a b n k h = cc
 
-outer_version : (m : ℕ) (major minor revision : ℕ)
-    → outer (Some m) (proto major minor revision) ≡ took (raw_as kinds.ProtocolHeader 0 (major ∷ minor ∷ revision ∷ [])) 8
-unfolding outer behind_type judge_version
-outer_version m major minor revision = refl
+-- a protocol header is found by the header scan
+pub scan_version : (m : Option ℕ) (major minor revision : ℕ)
+    → scan m (proto major minor revision) ≡ took (raw_as kinds.ProtocolHeader 0 (major ∷ minor ∷ revision ∷ [])) 8
+unfolding scan behind_type judge_version
+scan_version m major minor revision = refl
 
 held_by : (head : given.Head) → head.channel < 2 ^ 16 → head.class_id < 2 ^ 16 → head.method_id < 2 ^ 16 → head.body_size < 2 ^ 64 → is_held head ≡ true
 held_by head channel class id size = grind (arith, nat_tests, channel, class, id, size)
@@ -68,20 +69,20 @@ module _ (pool : List ℕ) (nodes : List Node) (start first count : ℕ) where
 
   -- the head of a frame that is encoded so
   typed_told : (m : ℕ) (bytes : List ℕ) (raw : Raw) (n : ℕ) (frame : Frame) → Spells plain bytes frame → IsWithin (Some m) bytes
-      → outer (Some m) bytes ≡ took raw n → IsSpan pool start (length raw.payload) raw.payload → (fields_of frame ≡ [] → count ≡ 0)
+      → scan (Some m) bytes ≡ took raw n → IsSpan pool start (length raw.payload) raw.payload → (fields_of frame ≡ [] → count ≡ 0)
       → TellsFields pool nodes first count frame → TellsFrame pool nodes (HeadOf raw frame) frame
   unfolding fields_of
   typed_told m bytes raw n (Proto major minor revision) s within found span few fields =
       let frame = Proto major minor revision in
       let is : raw ≡ raw_as kinds.ProtocolHeader 0 (major ∷ minor ∷ revision ∷ []) =
-      took_same raw _ n 8 (sym found ∙ ap (outer (Some m)) s ∙ outer_version m major minor revision) in
+      took_same raw _ n 8 (sym found ∙ ap (scan (Some m)) s ∙ scan_version (Some m) major minor revision) in
       let head = HeadOf (raw_as kinds.ProtocolHeader 0 (major ∷ minor ∷ revision ∷ [])) frame in
       subst (λ r. TellsFrame pool nodes (HeadOf r frame) frame) (sym is)
       (held_by head (omega arith) (omega arith) (omega arith) (omega arith), (refl, refl, (refl, refl, refl), fields))
   typed_told m bytes raw n (Meth channel meth) s within found span few fields =
       let frame = Meth channel meth in
       let is : raw ≡ raw_as kinds.Method channel s.payload =
-      took_same raw _ n (length bytes) (sym found ∙ outer-method (Some m) bytes channel s.payload s.is_framed within) in
+      took_same raw _ n (length bytes) (sym found ∙ scan-method (Some m) bytes channel s.payload s.is_framed within) in
       let head = HeadOf (raw_as kinds.Method channel s.payload) frame in
       let payload = s.spelled in
       let method : IsMethod meth =
@@ -91,7 +92,7 @@ module _ (pool : List ℕ) (nodes : List Node) (start first count : ℕ) where
   typed_told m bytes raw n (Head channel header) s within found span few fields =
       let frame = Head channel header in
       let is : raw ≡ raw_as kinds.Header channel s.payload =
-      took_same raw _ n (length bytes) (sym found ∙ outer-header (Some m) bytes channel s.payload s.is_framed within) in
+      took_same raw _ n (length bytes) (sym found ∙ scan-header (Some m) bytes channel s.payload s.is_framed within) in
       let head = HeadOf (raw_as kinds.Header channel s.payload) frame in
       let parts = header_front s.spelled in
       let class : header.class_id < 2 ^ 16 = subst (λ x. x.class_id < 2 ^ 16) (sym parts.header_is) parts.class_fits in
@@ -103,21 +104,21 @@ module _ (pool : List ℕ) (nodes : List Node) (start first count : ℕ) where
       (held_by head s.is_framed.channel_fits class (omega arith) size, (refl, refl, refl, refl, refl, number, fields))
   typed_told m bytes raw n (Body channel content) s within found span few fields =
       let frame = Body channel content in
-      let is : raw ≡ raw_as kinds.Body channel content = took_same raw _ n (length bytes) (sym found ∙ outer-body (Some m) bytes channel content s within) in
+      let is : raw ≡ raw_as kinds.Body channel content = took_same raw _ n (length bytes) (sym found ∙ scan-body (Some m) bytes channel content s within) in
       let head = HeadOf (raw_as kinds.Body channel content) frame in
       let stands : IsSpan pool start (length content) content = subst (λ (r : Raw). IsSpan pool start (length r.payload) r.payload) is span in
       subst (λ r. TellsFrame pool nodes (HeadOf r frame) frame) (sym is)
       (held_by head s.channel_fits (omega arith) (omega arith) (omega arith), (refl, refl, (refl, refl, refl), few refl, stands))
   typed_told m bytes raw n Beat s within found span few fields =
       let is : raw ≡ raw_as kinds.Heartbeat 0 s.payload =
-      took_same raw _ n (length bytes) (sym found ∙ outer-beat (Some m) bytes 0 s.payload s.is_framed within) in
+      took_same raw _ n (length bytes) (sym found ∙ scan-beat (Some m) bytes 0 s.payload s.is_framed within) in
       let head = HeadOf (raw_as kinds.Heartbeat 0 s.payload) Beat in
       subst (λ r. TellsFrame pool nodes (HeadOf r Beat) Beat) (sym is)
       (held_by head (omega arith) (omega arith) (omega arith) (omega arith), (refl, refl, (refl, refl, refl), few refl))
   typed_told m bytes raw n (BadBeat channel) s within found span few fields =
       let frame = BadBeat channel in
       let is : raw ≡ raw_as kinds.Heartbeat channel s.1.payload =
-      took_same raw _ n (length bytes) (sym found ∙ outer-beat (Some m) bytes channel s.1.payload s.1.is_framed within) in
+      took_same raw _ n (length bytes) (sym found ∙ scan-beat (Some m) bytes channel s.1.payload s.1.is_framed within) in
       let head = HeadOf (raw_as kinds.Heartbeat channel s.1.payload) frame in
       subst (λ r. TellsFrame pool nodes (HeadOf r frame) frame) (sym is)
       (held_by head s.1.is_framed.channel_fits (omega arith) (omega arith) (omega arith), (refl, refl, s.0, (refl, refl, refl), few refl))
@@ -171,8 +172,8 @@ module _ (m : ℕ) (deep : Bool) (bytes : List ℕ) (fits : IsBytes bytes) where
       let left = drop at bytes in
       let spelled = frame_spelled at first size head own says in
       let has = frame_nodes at first size head own says in
-      let front_is : outer (Some m) (take size left) ≡ took says.raw size =
-      ap (outer (Some m)) (sym (append-nil (take size left))) ∙ outer-exact (Some m) left [] says.raw size says.found in
+      let front_is : scan (Some m) (take size left) ≡ took says.raw size =
+      ap (scan (Some m)) (sym (append-nil (take size left))) ∙ scan-exact (Some m) left [] says.raw size says.found in
       let behind : drop first nodes ≡ own ++ more = ap (drop first) parts ∙ drop_at before (own ++ more) first place in
       let taken : take (length own) (drop first nodes) ≡ own = ap (take (length own)) behind ∙ take_at own more (length own) refl in
       let within : first + length own ≤ length nodes = omega (arith, ap length parts, length-append before (own ++ more), length-append own more, place) in

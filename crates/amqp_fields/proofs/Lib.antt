@@ -27,6 +27,10 @@ pub mod HeadsInLoops
 pub mod MadeOfParts
 pub mod SignedNumbers
 pub mod PropertiesMade
+pub mod Ends
+pub mod Quick
+pub mod QuickFields
+pub mod QuickFrames
 pub mod ValuesTold
 pub mod FieldsTold
 pub mod FramesTold

@@ -55,7 +55,8 @@ alone_ok made index (first ∷ others) bytes h = absurd cc
 
 -- ---- numbers and strings
 
-mod_small : (width : NumberWidth) (n : ℕ) → n < number_limit width → n % number_limit width ≡ n
+-- a number that its width holds is its own remainder
+pub mod_small : (width : NumberWidth) (n : ℕ) → n < number_limit width → n % number_limit width ≡ n
 mod_small bytes1 n few = omega (arith, few)
 mod_small bytes2 n few = omega (arith, few)
 mod_small bytes4 n few = omega (arith, few)

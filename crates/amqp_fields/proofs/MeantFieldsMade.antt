@@ -26,21 +26,16 @@ use Rattle.amqp_fields.specs.Made.{after, made_long, made_number, made_span, mad
 use Rattle.amqp_fields.specs.MadeFields.{flag_before, flags_in, flags_made, group_size, is_field, is_flag, made_field, made_flags, made_form, made_kept}
 use Rattle.amqp_fields.specs.MadeFields.{made_none, made_plain, made_slot, made_slots, node_count}
 use Rattle.amqp_fields.specs.Meaning.{AreNodes, Field, IsGroup, field, fields_from, kinds_in, kinds_of}
-use Rattle.amqp_fields.specs.Meant.{TellsField, TellsItem, kind_limit}
+use Rattle.amqp_fields.specs.Meant.{TellsField, TellsItem}
 use Rattle.amqp_fields.specs.Counting.{total}
 use Rattle.amqp_fields.proofs.AtLevel.{from_tidy}
 use Rattle.amqp_fields.proofs.FieldsFound.{spare}
+use Rattle.amqp_fields.proofs.FieldsTold.{limit_of}
 use Rattle.amqp_fields.proofs.Ordered.{Ordered, With}
 use Rattle.amqp_fields.proofs.Spans.{byte_below}
 use Rattle.amqp_fields.proofs.MeantValuesMade.{Fits, IsLongAt, IsLongBy, after_fits, alone_fits, as_fits, behind_long, fits_for}
 use Rattle.amqp_fields.proofs.MeantValuesMade.{fits_into, group_long, long_fits}
 use Rattle.amqp_fields.proofs.MeantValuesMade.{number_fits, ok_fits, own_long, span_fits_in, table_fits_at, text_fits, value_fits}
-
-limit_of : (width : NumberWidth) → kind_limit (kind_of (number_form width)) ≡ number_limit width
-limit_of bytes1 = refl
-limit_of bytes2 = refl
-limit_of bytes4 = refl
-limit_of bytes8 = refl
 
 low_kind : (width : NumberWidth) → kind_of (number_form width) < 5
 low_kind bytes1 = omega arith

@@ -45,6 +45,7 @@ use Rattle.amqp_fields.proofs.Ordered.{InOrder, Ordered, With, each_with, entrie
 use Rattle.amqp_fields.proofs.SignedNumbers.{signed_bits}
 use Rattle.amqp_fields.proofs.ValuesMade.{value_parts}
 use Rattle.amqp_fields.proofs.ValuesTold.{array_encoded, span_fits, table_encoded}
+use Rattle.amqp_fields.proofs.MadeOfParts.{mod_small}
 
 -- ---- parts
 
@@ -97,12 +98,6 @@ if_fits {Why} {P} test node bytes is p = subst (λ t. Fits Why (made_if t node b
 pub alone_fits : {Why : Refusal → Type 0} {P : List ℕ → Type 0} (made : Made) (index : ℕ) (inside : List Node)
     → inside ≡ [] → Fits Why made P → Fits Why (made_alone made index inside) P
 alone_fits {Why} {P} made index inside none h = subst (λ ns. Fits Why (made_alone made index ns) P) (sym none) h
-
-mod_small : (width : NumberWidth) (n : ℕ) → n < number_limit width → n % number_limit width ≡ n
-mod_small bytes1 n few = omega (arith, few)
-mod_small bytes2 n few = omega (arith, few)
-mod_small bytes4 n few = omega (arith, few)
-mod_small bytes8 n few = omega (arith, few)
 
 -- a number of its width
 pub number_fits : {Why : Refusal → Type 0} (width : NumberWidth) (node number n : ℕ) → number ≡ n → n < number_limit width

@@ -21,7 +21,7 @@ use Rattle.amqp_wire.specs.declared.frame_type.AMQPFrameType.{AMQPFrameType}
 use Rattle.amqp_wire.specs.declared.frame_type.AMQPFrameType.TheVariants as kinds
 use Rattle.amqp_wire.specs.Frames.{Frame, Meth}
 use Rattle.amqp_wire.specs.Judgements.{IsPayloadFault, JudgesAll}
-use Rattle.amqp_wire.specs.Verdicts.{all_of, whole_as}
+use Rattle.amqp_wire.specs.Verdicts.{all_of, decode_payload}
 use Rattle.amqp_wire.proofs.Judged.{method_all, method_refused, method_trailing}
 use Rattle.amqp_canonical.specs.Shapes.{slots_of}
 use Rattle.amqp_fields.specs.declared.node.Node.{Node}
@@ -149,7 +149,7 @@ read_none channel (Err bad) h frame is = absurd cc
 
 -- a whole payload that is no method is no frame of one
 pub no_frame : (kind : AMQPFrameType) (channel : ℕ) (payload : List ℕ) → kind ≡ kinds.Method → IsNoMethod payload → (frame : Frame)
-    → whole_as kind channel payload ≡ Ok frame → ⊥
-unfolding whole_as
+    → decode_payload kind channel payload ≡ Ok frame → ⊥
+unfolding decode_payload
 no_frame kind channel payload is h frame found =
-    read_none channel (all_of judge_payload payload) h frame (subst (λ k. whole_as k channel payload ≡ Ok frame) is found)
+    read_none channel (all_of judge_payload payload) h frame (subst (λ k. decode_payload k channel payload ≡ Ok frame) is found)

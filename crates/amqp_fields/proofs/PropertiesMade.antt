@@ -5,7 +5,7 @@ use Rattle.std.proofs.lemmas.Bool.Decides.{nat_tests}
 use Rattle.std.proofs.lemmas.Bool.{cases_lt}
 use Rattle.std.proofs.lemmas.List.{drop_at, take_at, drop-drop, length-append, length-drop, length-map}
 use Rattle.amqp_types.specs.Numbers.{bytes2, number_bytes}
-use Rattle.amqp_types.specs.Properties.{Property, properties, later_properties}
+use Rattle.amqp_types.specs.Properties.{Property, properties}
 use Rattle.amqp_types.specs.PropertyBytes.{mask_of, worth_of}
 use Rattle.amqp_types.specs.Slots as meant
 use Rattle.amqp_types.specs.Slots.{Item, number_item}
@@ -24,6 +24,7 @@ use Rattle.amqp_fields.specs.Nodes.{PassesEnd, StandsFirst}
 use Rattle.amqp_fields.proofs.Combined.{before_put, not_lt, rest_refused}
 use Rattle.amqp_fields.proofs.EachMade.{Onward, begins, ends, steps, stops}
 use Rattle.amqp_fields.proofs.FieldsMade.{worths_few}
+use Rattle.amqp_fields.proofs.PayloadsFound.{fourteen}
 
 -- ---- fields of methods
 
@@ -118,10 +119,6 @@ module _ (pool : List ℕ) (end : ℕ) where
 
 -- ---- properties
 
-pub properties_few : length properties ≡ 14
-unfolding properties later_properties
-properties_few = refl
-
 -- a property stands at a place of a list
 pub some_left : (j : ℕ) (ps later : List Property) (p : Property) → drop j ps ≡ p ∷ later → j < length ps
 some_left j ps later p is = let size : length (drop j ps) ≡ suc (length later) = ap length is in omega (arith, size, length-drop j ps)
@@ -162,8 +159,8 @@ module _ (shapes : List (ℕ × Form)) (other : ℕ × Form) (place : ℕ) (node
   -- a node whose place is behind all shapes is no property
   pub property_beyond : length shapes ≤ node.place → IsNoProperty place node
   property_beyond many p later le stands =
-      let size : length (map property_of shapes) ≡ 14 = ap length all ∙ properties_few in
-      absurd (omega (arith, some_left node.place properties later p stands, size, length-map shapes property_of, properties_few, many))
+      let size : length (map property_of shapes) ≡ 14 = ap length all ∙ fourteen in
+      absurd (omega (arith, some_left node.place properties later p stands, size, length-map shapes property_of, fourteen, many))
 
 -- a node whose place is before another one is no property from there on
 pub property_before : (place : ℕ) (node : Node) → node.place < place → IsNoProperty place node
@@ -230,19 +227,19 @@ module _ (pool : List ℕ) (end : ℕ) where
   set_stops place node others few fails = elim (cases_lt node.place place) [
     | inl lt ↦
         set_off place (drop place properties) node others (λ j e. absurd (omega (arith, lt, e)))
-        (omega (arith, few, length-drop place properties, properties_few))
+        (omega (arith, few, length-drop place properties, fourteen))
     | inr ge ↦ by_rest (drop node.place properties) refl ge
   ]
     where
       size : length (drop place properties) ≡ 14 - place
-      size = omega (arith, length-drop place properties, properties_few)
+      size = omega (arith, length-drop place properties, fourteen)
 
       by_rest : (found : List Property) → drop node.place properties ≡ found → place ≤ node.place
           → made_set pool end place (drop place properties) (node ∷ others) ≡ misfit (end - length (node ∷ others))
       by_rest [] is ge =
           let gone : length (drop node.place properties) ≡ 0 = ap length is in
           set_off place (drop place properties) node others
-          (λ j e. omega (arith, size, gone, e, length-drop node.place properties, properties_few)) (omega (arith, few, size))
+          (λ j e. omega (arith, size, gone, e, length-drop node.place properties, fourteen)) (omega (arith, few, size))
       by_rest (p ∷ later) is ge =
           let there : drop (node.place - place) (drop place properties) ≡ p ∷ later =
           drop-drop (node.place - place) place properties ∙ ap (λ k. drop k properties) (omega (arith, ge)) ∙ is in
@@ -277,8 +274,8 @@ module _ (pool : List ℕ) (end : ℕ) where
       ≡ after (made_form pool p.form last node inside) (made_set pool end next (drop next properties) others))
   set_next place last next p {nodes} {inside} {others} {node} few h property at there =
       let behind = inside ++ others in
-      let below : node.place < 14 = omega (arith, some_left node.place properties property.later p property.stands, properties_few) in
-      let size : length (drop place properties) ≡ 14 - place = omega (arith, length-drop place properties, properties_few) in
+      let below : node.place < 14 = omega (arith, some_left node.place properties property.later p property.stands, fourteen) in
+      let size : length (drop place properties) ≡ 14 - place = omega (arith, length-drop place properties, fourteen) in
       let stands : drop (node.place - place) (drop place properties) ≡ p ∷ property.later =
       drop-drop (node.place - place) place properties ∙ ap (λ k. drop k properties) (omega (arith, property.from)) ∙ property.stands in
       let on =
@@ -334,26 +331,26 @@ module _ (pool : List ℕ) (end : ℕ) where
       ∙ none ∙ ap (λ a. mask_of ps (set_at a ps nodes)) next
       ∙ mask_on (k + 1) j ps later p node others (omega (arith, at)) stands (omega (arith, few))
 
-  no_mask : (k : ℕ) (ps : List Property) → mask_of ps (set_at k ps []) ≡ 0
+  pub no_mask : (k : ℕ) (ps : List Property) → mask_of ps (set_at k ps []) ≡ 0
   unfolding mask_of set_at worth_of
   no_mask k [] = refl
   no_mask k (p ∷ ps) = omega (arith, no_mask (next_place k 1) ps)
 
-  mask_most : (ps : List Property) (options : List (Option Item)) → mask_of ps options ≤ worths ps
+  pub mask_most : (ps : List Property) (options : List (Option Item)) → mask_of ps options ≤ worths ps
   unfolding mask_of worth_of
   mask_most [] options = omega arith
   mask_most (p ∷ ps) [] = omega arith
   mask_most (p ∷ ps) (None ∷ options) = omega (arith, mask_most ps options)
   mask_most (p ∷ ps) (Some item ∷ options) = omega (arith, mask_most ps options)
 
-  mask_next : (place : ℕ) (p : Property) {nodes inside others : List Node} {node : Node}
+  pub mask_next : (place : ℕ) (p : Property) {nodes inside others : List Node} {node : Node}
       → place ≤ 14 → StandsFirst nodes node inside others → IsProperty place node p
       → mask_of (drop place properties) (set_at place (drop place properties) nodes)
       ≡ 2 ^ p.bit + mask_of (drop (next_place node.place 1) properties) (set_at (next_place node.place 1) (drop (next_place node.place 1) properties) others)
   mask_next place p {nodes} {inside} {others} {node} few h found =
       let behind = inside ++ others in
-      let below : node.place < 14 = omega (arith, some_left node.place properties found.later p found.stands, properties_few) in
-      let size : length (drop place properties) ≡ 14 - place = omega (arith, length-drop place properties, properties_few) in
+      let below : node.place < 14 = omega (arith, some_left node.place properties found.later p found.stands, fourteen) in
+      let size : length (drop place properties) ≡ 14 - place = omega (arith, length-drop place properties, fourteen) in
       let stands : drop (node.place - place) (drop place properties) ≡ p ∷ found.later =
       drop-drop (node.place - place) place properties ∙ ap (λ k. drop k properties) (omega (arith, found.from)) ∙ found.stands in
       let next_one : node.place + 1 ≡ next_place node.place 1 = sym (next_is node.place (omega (arith, below))) in
@@ -468,7 +465,7 @@ module _ (pool : List ℕ) (end : ℕ) where
   unfolding made_properties
   set_ends {place} {at} {first} {made} {mask} {head} {total} {all} [] {old} {mid} {new} h none there front sum =
       let rest_none : made_set pool end place (drop place properties) [] ≡ Ok [] =
-      no_set place (drop place properties) (omega (arith, h.few, length-drop place properties, properties_few)) in
+      no_set place (drop place properties) (omega (arith, h.few, length-drop place properties, fourteen)) in
       let mask_is : mask ≡ mask_of properties (set_at 0 properties all) = omega (arith, h.mask_is, no_mask place (drop place properties)) in
       let later = ends h.onward rest_none in
       let two : ArePut mid new at (number_bytes bytes2 mask) 2 = subst (λ k. ArePut mid new at (number_bytes bytes2 mask) k) front.count_is front in

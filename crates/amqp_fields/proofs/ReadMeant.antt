@@ -5,7 +5,6 @@ use Rattle.std.specs.List.{AllByRecursion}
 use Rattle.std.specs.Str.{IsUtf8}
 use Rattle.amqp_types.specs.Levels.{plain}
 use Rattle.amqp_types.specs.Judging.{Fault, IsBytes, IsExact, Judge, Judged, took, past, fault}
-use Rattle.amqp_types.specs.Numbers.{NumberWidth, bytes1, bytes2, bytes4, bytes8, number_limit}
 use Rattle.amqp_types.specs.Constants.{inner_depth}
 use Rattle.amqp_types.specs.Values.{FieldValue, Entry, boolean_value, signed_value, unsigned_value, decimal_value, bytes_value, array_value}
 use Rattle.amqp_types.specs.Values.{table_value, void_value, items, pairs}
@@ -19,7 +18,7 @@ use Rattle.amqp_types.specs.Properties.{Property, properties}
 use Rattle.amqp_types.specs.PropertySpelling.{SpellsOptional, SpellsSet}
 use Rattle.amqp_types.specs.PropertyJudging.{first_item}
 use Rattle.amqp_types.specs.ContentHeaders.{ContentHeader, SpellsContentHeader, header_of_parts, header_slots}
-use Rattle.amqp_types.specs.Flags.{flag_at, flags_from}
+use Rattle.amqp_types.specs.Flags.{flag_at}
 use Rattle.amqp_laws.proofs.Exactly.{value_exact}
 use Rattle.amqp_laws.proofs.Filled.{entry_exact}
 use Rattle.amqp_wire.specs.Frames.{Frame, Proto, Meth, Head, Body, Beat, BadBeat}
@@ -30,7 +29,8 @@ use Rattle.amqp_fields.specs.Meaning.{AreInside, AreNodes, Field, IsArray, IsSpa
 use Rattle.amqp_fields.specs.Meaning.{SaysAt, TableInside, fields_from, fields_of, kinds_in, kinds_of, set_field, set_fields}
 use Rattle.amqp_fields.specs.WritingLaws.{ReadNodesAreMeant}
 use Rattle.amqp_fields.specs.Meant.{Holds, HoldsTable, Tells, TellsAt, TellsEntry, TellsField, TellsItem, TellsValue, kind_limit}
-use Rattle.amqp_fields.proofs.FieldsFound.{fields_append}
+use Rattle.amqp_fields.proofs.FieldsFound.{fields_append, flags_length}
+use Rattle.amqp_fields.proofs.FieldsTold.{limit_of}
 use Rattle.amqp_fields.proofs.MeantFieldsMade.{IsOne}
 use Rattle.amqp_fields.proofs.MeantFramesMade.{AreOne, all_one}
 use Rattle.amqp_fields.proofs.ValuesTold.{span_fits}
@@ -93,12 +93,6 @@ ItemOf kind (entries_item table) = kind ≡ 8
 abbrev pub Suitable : Field → Type 0
 Suitable f = ItemOf f.kind f.item
 
-limit_of : (width : NumberWidth) → kind_limit (kind_of (number_form width)) ≡ number_limit width
-limit_of bytes1 = refl
-limit_of bytes2 = refl
-limit_of bytes4 = refl
-limit_of bytes8 = refl
-
 flags_suit : (place : ℕ) (count : ℕ) (flags : List Bool) → length flags ≡ count
     → AllByRecursion Suitable (fields_from place (kinds_of (flags_form count)) (map flag_item flags))
     × (length (kinds_of (flags_form count)) ≡ length (map flag_item flags))
@@ -106,10 +100,6 @@ flags_suit place zero [] is = (tt, refl)
 flags_suit place zero (flag ∷ flags) is = absurd (omega (arith, is))
 flags_suit place (suc count) [] is = absurd (omega (arith, is))
 flags_suit place (suc count) (flag ∷ flags) is = let more = flags_suit (place + 1) count flags (omega (arith, is)) in ((refl, more.0), ap suc more.1)
-
-flags_length : (count k byte : ℕ) → length (flags_from count k byte) ≡ count
-flags_length zero k byte = refl
-flags_length (suc count) k byte = ap suc (flags_length count (k + 1) byte)
 
 -- what a form gives suits its kinds
 pub form_suits : (form : Form) (place : ℕ) (bytes : List ℕ) (given : List Item) → SpellsForm plain form bytes given

@@ -18,7 +18,7 @@ use Rattle.amqp_fields.specs.Listing.{Grows, listing}
 use Rattle.amqp_fields.specs.Listed.{Lister, end_before, holding, joined, listed_after, listed_array, listed_behind, listed_entry, listed_items, listed_nested}
 use Rattle.amqp_fields.specs.Listed.{listed_table, listed_tagged, listed_value, of_kind}
 use Rattle.amqp_fields.specs.Finding.{Lists, ListsAll, key_label}
-use Rattle.amqp_fields.proofs.Pushing.{grows_held, grows_more, grows_none}
+use Rattle.amqp_fields.proofs.Pushing.{grows_held, grows_more}
 use Rattle.amqp_fields.proofs.Strings.{IsKey, is_key, long_size}
 
 -- where nothing was read, nothing needs to be listed
@@ -190,10 +190,6 @@ pub record IsLeft (item : Judge (List Node)) (old : List Node) (count : ℕ) (re
 -- so it is where all of the content has groups
 pub record GoesOn (item : Judge (List Node)) (content : List ℕ) (old : List Node) (count : ℕ) (rest : List ℕ) (now : List Node) (k items : ℕ) : Type 0 where
   pub left : (groups : List (List Node)) → filled item 0 content ≡ Ok groups → IsLeft item old count rest now k items groups
-
-pub begins : {item : Judge (List Node)} {content : List ℕ} {old : List Node} {count : ℕ} → GoesOn item content old count content old count 0
-begins {old = old} {count = count} =
-    record { left = λ groups e. record { done = []; more = groups; fills = e; all = refl; number = refl; grows = grows_none (listing old count) } }
 
 filled_drop : (item : Judge (List Node)) (k : ℕ) (bytes : List ℕ) → filled item k bytes ≡ filled item 0 (drop k bytes)
 unfolding filled

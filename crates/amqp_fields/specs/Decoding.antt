@@ -4,7 +4,7 @@ use Rattle.amqp_types.specs.Methods.{Method, judge_payload}
 use Rattle.amqp_types.specs.declared.errors.ParserError.{ParserError}
 use Rattle.amqp_wire.specs.Frames.{Frame, Raw}
 use Rattle.amqp_wire.specs.Judgements.{JudgesFrame}
-use Rattle.amqp_wire.specs.Verdicts.{all_of, whole}
+use Rattle.amqp_wire.specs.Verdicts.{all_of, decode_raw}
 use Rattle.amqp_fields.specs.declared.decoding.Decoded.{Decoded}
 use Rattle.amqp_fields.specs.declared.node.Node.{Node}
 use Rattle.amqp_fields.specs.Finding.{Counts}
@@ -16,7 +16,7 @@ IsNoMethod payload = (m : Method) → all_of judge_payload payload ≡ Ok m → 
 
 -- the whole payload has a fault
 abbrev pub HasFault : Raw → Type 0
-HasFault raw = (frame : Frame) → whole raw ≡ Ok frame → ⊥
+HasFault raw = (frame : Frame) → decode_raw raw ≡ Ok frame → ⊥
 
 -- At which levels the payload is encoded, and its nodes, which are put after so many others; or its
 -- fault, and the list is left.

@@ -9,8 +9,8 @@ use Rattle.amqp_types.specs.declared.errors.ParserError.{ParserError}
 use Rattle.amqp_types.specs.declared.errors.ParserError.TheVariants as errors
 use Rattle.amqp_wire.specs.Frames.{Frame, Raw}
 use Rattle.amqp_wire.specs.Looks.{payload_place}
-use Rattle.amqp_wire.specs.Outer.{outer, payload_length}
-use Rattle.amqp_wire.specs.Verdicts.{verdict, whole}
+use Rattle.amqp_wire.specs.HeaderScan.{scan, payload_length}
+use Rattle.amqp_wire.specs.Verdicts.{judge_frame, decode_raw}
 use Rattle.amqp_fields.specs.declared.node.Node.{Node}
 use Rattle.amqp_fields.specs.declared.head.Head.{Head}
 use Rattle.amqp_fields.specs.declared.frames.FramesRead.{FramesRead}
@@ -48,9 +48,9 @@ SaysFault error judged = Refuses error judged
 -- no whole frame without a fault is in front of what is left, and why
 abbrev pub IsNoFrame : ℕ → List ℕ → FramesEnd → Type 0
 IsNoFrame m left (ends.Incomplete needed) =
-    (verdict plain (Some m) left ≡ past) × (needed ≡ least_length left)
-IsNoFrame m left ends.TooLarge = verdict plain (Some m) left ≡ fault too_large
-IsNoFrame m left (ends.Fault error) = SaysFault error (verdict plain (Some m) left)
+    (judge_frame plain (Some m) left ≡ past) × (needed ≡ least_length left)
+IsNoFrame m left ends.TooLarge = judge_frame plain (Some m) left ≡ fault too_large
+IsNoFrame m left (ends.Fault error) = SaysFault error (judge_frame plain (Some m) left)
 IsNoFrame m left ends.Done = ⊥
 IsNoFrame m left (ends.Full needed) = ⊥
 
@@ -61,8 +61,8 @@ pub record HasNoRoom (m : ℕ) (deep : Bool) (bytes : List ℕ)
   pub raw : Raw
   pub frame : Frame
   pub size : ℕ
-  pub found : outer (Some m) (drop read.used bytes) ≡ took raw size
-  pub is : whole raw ≡ Ok frame
+  pub found : scan (Some m) (drop read.used bytes) ≡ took raw size
+  pub is : decode_raw raw ≡ Ok frame
   pub needed_is : needed ≡ length (nodes_at raw deep (read.used + payload_place raw.kind))
   pub few : needed ≤ size
   pub no_room : read.heads < head_room → node_room < read.nodes + needed

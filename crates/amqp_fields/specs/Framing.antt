@@ -10,9 +10,9 @@ use Rattle.amqp_wire.specs.declared.outline.FrameOutline.TheVariants as outlines
 use Rattle.amqp_wire.specs.Frames.{Frame, Raw}
 use Rattle.amqp_wire.specs.Judgements.{IsPayloadFault}
 use Rattle.amqp_wire.specs.Looks.{BeginsAt, IsWithinBytes, laid_out, payload_place}
-use Rattle.amqp_wire.specs.Outer.{outer}
+use Rattle.amqp_wire.specs.HeaderScan.{scan}
 use Rattle.amqp_wire.specs.Outlines.{outline_of}
-use Rattle.amqp_wire.specs.Verdicts.{whole}
+use Rattle.amqp_wire.specs.Verdicts.{decode_raw}
 use Rattle.amqp_fields.specs.declared.node.Node.{Node}
 use Rattle.amqp_fields.specs.declared.head.Head.{Head}
 use Rattle.amqp_fields.specs.declared.frames.FramesEnd.{FramesEnd}
@@ -33,7 +33,7 @@ outlined head (outlines.Heartbeat channel) = head
 
 -- a whole frame lies so in front
 pub record IsFound (m : ℕ) (left : List ℕ) (layout : FrameLayout) : Type 0 where
-  pub found : outer (Some m) left ≡ took (laid_out layout left) layout.frame_len
+  pub found : scan (Some m) left ≡ took (laid_out layout left) layout.frame_len
   pub inside : IsWithinBytes (length left) layout
   pub placed : BeginsAt (payload_place layout.frame_type) layout
 
@@ -46,7 +46,7 @@ FindsFrame m left (Err end) = IsNoFrame m left end
 pub record IsRead (raw : Raw) (start : ℕ) (deep : Bool) (old : List Node)
     (first : ℕ) (new : List Node) (head : Head) : Type 0 where
   pub frame : Frame
-  pub is : whole raw ≡ Ok frame
+  pub is : decode_raw raw ≡ Ok frame
   pub count : ℕ
   pub counts : Counts
       (listed_payload raw.kind deep (start + length raw.payload) raw.payload) old first new count
@@ -56,7 +56,7 @@ pub record IsRead (raw : Raw) (start : ℕ) (deep : Bool) (old : List Node)
 abbrev pub Reads : Raw → ℕ → Bool → List Node → ℕ → List Node → Result Head ParserError → Type 0
 Reads raw start deep old first new (Ok head) = IsRead raw start deep old first new head
 Reads raw start deep old first new (Err error) =
-    IsPayloadFault error × RefusesWhole error (whole raw) × (new ≡ old)
+    IsPayloadFault error × RefusesWhole error (decode_raw raw) × (new ≡ old)
 
 -- a frame stands at a place of the bytes, and its nodes are put after so many others
 pub record IsNextFrame (m : ℕ) (deep : Bool) (bytes : List ℕ) (used : ℕ) (old : List Node)

@@ -7,10 +7,10 @@ use Rattle.amqp_wire.specs.declared.outline.FrameOutline.{FrameOutline}
 use Rattle.amqp_wire.specs.declared.outline.FrameOutline.TheVariants as outlines
 use Rattle.amqp_wire.specs.Frames.{Frame, Raw}
 use Rattle.amqp_wire.specs.Looks.{payload_place}
-use Rattle.amqp_wire.specs.Outer.{outer}
+use Rattle.amqp_wire.specs.HeaderScan.{scan}
 use Rattle.amqp_wire.specs.Outlines.{outline_of}
 use Rattle.amqp_wire.specs.Spelling.{byte_of}
-use Rattle.amqp_wire.specs.Verdicts.{is_at, whole}
+use Rattle.amqp_wire.specs.Verdicts.{is_at, decode_raw}
 use Rattle.amqp_fields.specs.declared.node.Node.{Node}
 use Rattle.amqp_fields.specs.declared.head.Head.{Head}
 use Rattle.amqp_fields.specs.Listed.{payload_nodes}
@@ -77,8 +77,8 @@ pub record SaysFrame (m : ℕ) (deep : Bool) (bytes : List ℕ) (at first : ℕ)
     (head : Head) (nodes : List Node) (size : ℕ) : Type 0 where
   pub raw : Raw
   pub frame : Frame
-  pub found : outer (Some m) (drop at bytes) ≡ took raw size
-  pub is : whole raw ≡ Ok frame
+  pub found : scan (Some m) (drop at bytes) ≡ took raw size
+  pub is : decode_raw raw ≡ Ok frame
   pub payload_is : IsSpan bytes head.start head.length raw.payload
   pub head_is : head
       ≡ head_of raw (outline_of frame) (at + payload_place raw.kind) first (length nodes)

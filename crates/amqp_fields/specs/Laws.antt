@@ -11,7 +11,7 @@ use Rattle.amqp_wire.specs.Fronts.{front, place}
 use Rattle.amqp_fields.specs.declared.head.Head.{Head}
 use Rattle.amqp_fields.specs.Heads.{SayFrames, SaysFrame}
 use Rattle.amqp_wire.specs.declared.frame_type.AMQPFrameType.{AMQPFrameType}
-use Rattle.amqp_wire.specs.Verdicts.{whole_as}
+use Rattle.amqp_wire.specs.Verdicts.{decode_payload}
 use Rattle.amqp_fields.specs.Contents.{entries_in, values_in}
 use Rattle.amqp_fields.specs.Listed.{entries_nodes, payload_nodes, values_nodes}
 use Rattle.amqp_fields.specs.Meaning.{AreNodes, AreNodesOf, IsSpan, IsTable}
@@ -26,7 +26,7 @@ pub record ListedNodesMean : Type 0 where
   pub payload : (deep : Bool) (bytes payload : List ℕ) (start : ℕ)
       (kind : AMQPFrameType) (channel : ℕ) (frame : Frame)
       → IsSpan bytes start (length payload) payload
-      → whole_as kind channel payload ≡ Ok frame
+      → decode_payload kind channel payload ≡ Ok frame
       → AreNodesOf deep bytes frame (payload_nodes kind deep (start + length payload) payload)
   pub entries : (content : List ℕ) (entries : List Entry)
       → entries_in content ≡ Ok entries

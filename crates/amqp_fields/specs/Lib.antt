@@ -18,6 +18,7 @@ pub mod Made
 pub mod MadeFields
 pub mod MadeFrames
 pub mod Makes
+pub mod Quick
 pub mod Making
 pub mod Meant
 pub mod Canonical

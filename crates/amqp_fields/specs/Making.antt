@@ -1,5 +1,5 @@
 -- What writing returns, and what it leaves in the buffer.
-use Rattle.std.specs.Prelude.{◌≡◌, ◌⊎◌, ◌≤◌, ◌<◌, ◌+◌, ◌-◌, ◌^◌, ℕ, List, []}
+use Rattle.std.specs.Prelude.{◌≡◌, ◌⊎◌, ◌≤◌, ◌<◌, ◌+◌, ◌-◌, ◌^◌, ℕ, Bool, List, []}
 use Rattle.std.specs.Prelude.{◌∷◌, ◌++◌, length, take, drop}
 use Rattle.std.specs.Prelude.{if◌then◌else◌, Option, Some, None, Result, Ok, Err}
 use Rattle.amqp_types.specs.Levels.{Level, plain}
@@ -107,6 +107,11 @@ made_entries pool nodes =
 abbrev pub made_values : List ℕ → List Node → Result (List ℕ) WriteError
 made_values pool nodes =
     at_head 0 (made_whole (made_each (made_value pool inner_depth) (length nodes) 0 nodes))
+
+-- the one content or the other
+abbrev pub made_alone : Bool → List ℕ → List Node → Result (List ℕ) WriteError
+made_alone entries pool nodes =
+    if entries then made_entries pool nodes else made_values pool nodes
 
 -- ---- what is not refused
 

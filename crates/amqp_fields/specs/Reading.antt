@@ -5,7 +5,7 @@ use Rattle.amqp_types.specs.Answers.{RefusesWhole}
 use Rattle.amqp_wire.specs.declared.frame_type.AMQPFrameType.{AMQPFrameType}
 use Rattle.amqp_wire.specs.Frames.{Raw, raw_as}
 use Rattle.amqp_wire.specs.Judgements.{IsPayloadFault}
-use Rattle.amqp_wire.specs.Verdicts.{is_at, whole}
+use Rattle.amqp_wire.specs.Verdicts.{is_at, decode_raw}
 use Rattle.amqp_fields.specs.declared.node.Node.{Node}
 use Rattle.amqp_fields.specs.declared.reading.FieldsRead.{FieldsRead}
 use Rattle.amqp_fields.specs.declared.reading.FieldsError.{FieldsError}
@@ -18,7 +18,7 @@ payload_as kind payload = raw_as kind 0 payload
 
 -- the payload encodes a frame
 abbrev pub IsWhole : AMQPFrameType → List ℕ → Type 0
-IsWhole kind payload = IsOk (whole (payload_as kind payload))
+IsWhole kind payload = IsOk (decode_raw (payload_as kind payload))
 
 -- the nodes of a payload that stands alone
 abbrev pub fields_nodes : AMQPFrameType → Bool → List ℕ → List Node
@@ -44,6 +44,6 @@ pub record NeedsMore (nodes : List Node) (room needed : ℕ) : Type 0 where
 -- the fault of a payload, or a list that is too short for the nodes of its frame
 abbrev pub RefusesFields : AMQPFrameType → List ℕ → Bool → ℕ → FieldsError → Type 0
 RefusesFields kind payload deep room (errors.Payload error) =
-    IsPayloadFault error × RefusesWhole error (whole (payload_as kind payload))
+    IsPayloadFault error × RefusesWhole error (decode_raw (payload_as kind payload))
 RefusesFields kind payload deep room (errors.TooFew needed) =
     IsWhole kind payload × NeedsMore (fields_nodes kind deep payload) room needed

@@ -6,7 +6,7 @@ ghost use Rattle.amqp_canonical.specs.Shapes.{property_of, slots_of};
 ghost use Rattle.amqp_wire.specs.declared.frame_type.AMQPFrameType.{AMQPFrameType};
 ghost use Rattle.amqp_wire.specs.Frames.{Frame};
 ghost use Rattle.amqp_wire.specs.Outlines.{outline_of};
-ghost use Rattle.amqp_wire.specs.Verdicts.{whole_as};
+ghost use Rattle.amqp_wire.specs.Verdicts.{decode_payload};
 ghost use Rattle.amqp_fields.specs.Counting.{count_of, method_count, set_at, set_count, total};
 ghost use Rattle.amqp_fields.specs.Meaning.{fields_of};
 
@@ -87,7 +87,7 @@ fn count_by(outline: FrameOutline, payload: &[u8]) -> u8
 /// fields alone. Of a payload that encodes no frame the number means nothing.
 pub fn count_fields(outline: FrameOutline, payload: &[u8]) -> u8
     ensures { (kind : AMQPFrameType) (channel : ℕ) (frame : Frame)
-        → whole_as kind channel payload.now ≡ Ok frame → outline ≡ outline_of frame
+        → decode_payload kind channel payload.now ≡ Ok frame → outline ≡ outline_of frame
         → result ≡ length (fields_of frame) }
 {
     count_by(outline, payload)

@@ -153,7 +153,7 @@ pub fn least_length(bytes: &[u8]) -> u64
 }
 
 /// Where the frame in front lies, or why there is none.
-#[tactic(auto, unfolding(amqp_wire::specs::Verdicts::verdict))]
+#[tactic(auto, unfolding(amqp_wire::specs::Verdicts::judge_frame))]
 fn find(max_payload: u32, left: &[u8]) -> Result<FrameLayout, FramesEnd>
     ensures { FindsFrame (payload_limit max_payload) left.now result }
 {

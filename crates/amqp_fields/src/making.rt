@@ -1,7 +1,8 @@
 //! Writing frames and contents that heads and nodes mean, without memory. They are made where a refusal does no harm, and
 //! then stand in the caller's buffer.
 
-ghost use Rattle.std.specs.Prelude.{◌≡◌, ◌∷◌, List, None, Some, length, take, IfOk, IfSome};
+ghost use Rattle.std.specs.Prelude.{◌≡◌, ◌∷◌, ◌<◌, ◌^◌, List, None, Some, length, take};
+ghost use Rattle.std.specs.Prelude.{IfOk, IfSome};
 ghost use Rattle.amqp_types.specs.Levels.{plain};
 ghost use Rattle.amqp_types.specs.Values.{Entry, FieldValue};
 ghost use Rattle.amqp_wire.specs.Frames.{Frame};
@@ -9,13 +10,17 @@ ghost use Rattle.amqp_wire.specs.Spelling.{SpellsFrames};
 ghost use Rattle.amqp_fields.specs.Canonical.{AreCanonicalInOrder};
 ghost use Rattle.amqp_fields.specs.MadeFrames.{made_frames};
 ghost use Rattle.amqp_fields.specs.Makes.{Makes};
+ghost use Rattle.amqp_fields.specs.Quick.{IsWhole, Lays};
 ghost use Rattle.amqp_fields.specs.Making.{EncodesEntries, EncodesFrames, EncodesUnless};
 ghost use Rattle.amqp_fields.specs.Making.{EncodesValues, RefusesFirst, RefusesLong};
 ghost use Rattle.amqp_fields.specs.Making.{SpellsEntries, SpellsValues, TellEntries, TellValues};
-ghost use Rattle.amqp_fields.specs.Making.{Writes, made_entries, made_values};
+ghost use Rattle.amqp_fields.specs.Making.{Writes, made_alone, made_entries, made_values};
 ghost use Rattle.amqp_fields.specs.Meant.{TellFrames};
 
 use crate::head::Head;
+use crate::laying::{Counting, NONE, Putting, Sink};
+use crate::laying_frames::lay_frames;
+use crate::laying_values::{lay_entries, lay_values};
 use crate::making_frames::make_frame;
 use crate::making_values::{make_entries, make_values};
 use crate::node::Node;
@@ -23,8 +28,21 @@ use crate::putting::plus;
 use crate::refusals::{Refusal, WriteError, WriteRefusal};
 use amqp_types::{INNER_DEPTH, are_bytes, put_bytes};
 
-/// How many bytes are made beside the buffer at first, where a refusal leaves nothing. Frames that have more are made twice.
-const SCRATCH: usize = 1024;
+/// How many bytes are made beside the buffer of one frame or two, where a refusal leaves nothing: most messages have no more
+/// without their bodies.
+const FEW: usize = 224;
+
+/// How many heads are made so, and from how many nodes: their bytes are mostly few.
+const FEW_HEADS: usize = 2;
+
+const FEW_NODES: usize = 16;
+
+/// The same of some more frames; with so many the frame of the call on the stack needs no probe.
+const SOME: usize = 2816;
+
+const SOME_HEADS: usize = 48;
+
+const SOME_NODES: usize = 256;
 
 /// The most bytes of a content, which a length of 4 bytes counts.
 const LONGEST: usize = u32::MAX as usize;
@@ -42,7 +60,7 @@ fn within(head: usize, bad: Refusal) -> WriteError
 
 /// The first of some heads, and the others.
 #[inline(always)]
-fn first_head(heads: &[Head]) -> Option<(&Head, &[Head])>
+pub(crate) fn first_head(heads: &[Head]) -> Option<(&Head, &[Head])>
     ensures found { IfSome result (λ found. heads.now ≡ found.0.now ∷ found.1.now) }
     ensures none { result ≡ None → length heads.now ≡ 0 }
 {
@@ -81,7 +99,94 @@ fn make_frames(
     Ok(made)
 }
 
-/// Writes frames, or says why not: from a scratch that holds small ones, and else by making them once more. Split for the proof.
+/// Writes frames, or says why not: whatever they are. Split for the proof.
+#[inline(never)]
+fn fill_any(
+    out: &mut [u8],
+    pool: &[u8],
+    nodes: &[Node],
+    heads: &[Head],
+    max_payload: u32,
+) -> Result<usize, WriteError>
+    ensures { Writes (made_frames pool.now nodes.now max_payload 0 heads.now)
+        out.old out.new result }
+{
+    let needed = match make_frames(&mut [], pool, nodes, heads, max_payload) {
+        Ok(needed) => needed,
+        Err(error) => return Err(error),
+    };
+    if needed > out.len() {
+        return Err(WriteError::TooSmall {
+            needed: needed as u64,
+        });
+    }
+    make_frames(out, pool, nodes, heads, max_payload)
+}
+
+/// Fills a buffer with frames that have as many bytes.
+fn fill_front(front: &mut [u8], pool: &[u8], nodes: &[Node], heads: &[Head], max_payload: u32)
+    ensures { IsWhole (made_frames pool.now nodes.now max_payload 0 heads.now)
+        front.old front.new }
+{
+    if lay_frames::<Putting>(front, pool, nodes, heads, max_payload) == front.len() {
+        return;
+    }
+    let _filled = make_frames(front, pool, nodes, heads, max_payload);
+}
+
+/// Writes frames that are counted first.
+#[inline(never)]
+fn fill_many(
+    out: &mut [u8],
+    pool: &[u8],
+    nodes: &[Node],
+    heads: &[Head],
+    max_payload: u32,
+) -> Result<usize, WriteError>
+    ensures { Writes (made_frames pool.now nodes.now max_payload 0 heads.now)
+        out.old out.new result }
+{
+    let needed = lay_frames::<Counting>(&mut [], pool, nodes, heads, max_payload);
+    if needed == NONE {
+        return fill_any(out, pool, nodes, heads, max_payload);
+    }
+    if needed > out.len() {
+        return Err(WriteError::TooSmall {
+            needed: needed as u64,
+        });
+    }
+    fill_front(&mut out[..needed], pool, nodes, heads, max_payload);
+    Ok(needed)
+}
+
+/// Writes frames that are put beside the buffer first, in one walk, where they have at most N bytes.
+#[inline(always)]
+fn fill_beside<const N: usize>(
+    out: &mut [u8],
+    pool: &[u8],
+    nodes: &[Node],
+    heads: &[Head],
+    max_payload: u32,
+) -> Result<usize, WriteError>
+    requires few { N < 2 ^ 32 }
+    ensures { Writes (made_frames pool.now nodes.now max_payload 0 heads.now)
+        out.old out.new result }
+{
+    let mut beside = [0; N];
+    let needed = lay_frames::<Putting>(&mut beside, pool, nodes, heads, max_payload);
+    if needed > N {
+        return fill_many(out, pool, nodes, heads, max_payload);
+    }
+    if needed > out.len() {
+        return Err(WriteError::TooSmall {
+            needed: needed as u64,
+        });
+    }
+    put_bytes(out, 0, &beside[..needed]);
+    Ok(needed)
+}
+
+/// Writes frames, or says why not.
 fn fill_frames(
     out: &mut [u8],
     pool: &[u8],
@@ -92,21 +197,13 @@ fn fill_frames(
     ensures { Writes (made_frames pool.now nodes.now max_payload 0 heads.now)
         out.old out.new result }
 {
-    let mut scratch = [0; SCRATCH];
-    let needed = match make_frames(&mut scratch, pool, nodes, heads, max_payload) {
-        Ok(needed) => needed,
-        Err(error) => return Err(error),
-    };
-    if needed > out.len() {
-        return Err(WriteError::TooSmall {
-            needed: needed as u64,
-        });
+    if heads.len() <= FEW_HEADS && nodes.len() <= FEW_NODES {
+        return fill_beside::<FEW>(out, pool, nodes, heads, max_payload);
     }
-    if needed <= SCRATCH {
-        put_bytes(out, 0, &scratch[..needed]);
-        return Ok(needed);
+    if heads.len() <= SOME_HEADS && nodes.len() <= SOME_NODES {
+        return fill_beside::<SOME>(out, pool, nodes, heads, max_payload);
     }
-    make_frames(out, pool, nodes, heads, max_payload)
+    fill_many(out, pool, nodes, heads, max_payload)
 }
 
 /// Writes the frames that heads and nodes mean, one after another, and returns how many bytes they have. Reserved fields
@@ -141,12 +238,23 @@ pub fn write_frames(
     fill_frames(out, pool, nodes, heads, max_payload)
 }
 
-/// Entries one after another, as far as a buffer has room, and how many bytes they have, or that they are too many.
+/// Entries, or else values, one after another, as far as a buffer has room, and how many bytes they have, or that they are too
+/// many.
 #[tactic(auto, using(crate::proofs::HeadsInLoops::whole_made, crate::proofs::HeadsInLoops::whole_long, crate::proofs::HeadsInLoops::whole_refused))]
-fn make_all_entries(buf: &mut [u8], nodes: &[Node], pool: &[u8]) -> Result<usize, WriteError>
-    ensures { Makes (made_entries pool.now nodes.now) buf.old buf.new 0 result }
+fn make_content(
+    buf: &mut [u8],
+    nodes: &[Node],
+    pool: &[u8],
+    entries: bool,
+) -> Result<usize, WriteError>
+    ensures { Makes (made_alone entries pool.now nodes.now) buf.old buf.new 0 result }
 {
-    match make_entries(buf, 0, pool, nodes.len(), nodes, INNER_DEPTH) {
+    let made = if entries {
+        make_entries(buf, 0, pool, nodes.len(), nodes, INNER_DEPTH)
+    } else {
+        make_values(buf, 0, pool, nodes.len(), nodes, INNER_DEPTH)
+    };
+    match made {
         Ok(n) => {
             if n > LONGEST {
                 return Err(within(0, Refusal::of_head(WriteRefusal::TooLong)));
@@ -157,11 +265,33 @@ fn make_all_entries(buf: &mut [u8], nodes: &[Node], pool: &[u8]) -> Result<usize
     }
 }
 
-/// Writes entries, or says why not. Split for the proof.
-fn fill_entries(out: &mut [u8], nodes: &[Node], pool: &[u8]) -> Result<usize, WriteError>
-    ensures { Writes (made_entries pool.now nodes.now) out.old out.new result }
+/// The same in the walk of `laying`: how many bytes they have; none where one is refused, or is not made there, or the buffer has
+/// no room, or they are too many.
+fn lay_content<S: Sink>(buf: &mut [u8], nodes: &[Node], pool: &[u8], entries: bool) -> usize
+    ensures { Lays S.puts (made_alone entries pool.now nodes.now) buf.old buf.new 0 result }
 {
-    let needed = match make_all_entries(&mut [], nodes, pool) {
+    let made = if entries {
+        lay_entries::<S>(buf, 0, pool, nodes.len(), nodes, INNER_DEPTH)
+    } else {
+        lay_values::<S>(buf, 0, pool, nodes.len(), nodes, INNER_DEPTH)
+    };
+    if made > LONGEST {
+        return NONE;
+    }
+    made
+}
+
+/// Writes entries, or else values, or says why not: whatever they are. Split for the proof.
+#[inline(never)]
+fn fill_content_any(
+    out: &mut [u8],
+    nodes: &[Node],
+    pool: &[u8],
+    entries: bool,
+) -> Result<usize, WriteError>
+    ensures { Writes (made_alone entries pool.now nodes.now) out.old out.new result }
+{
+    let needed = match make_content(&mut [], nodes, pool, entries) {
         Ok(needed) => needed,
         Err(error) => return Err(error),
     };
@@ -170,7 +300,39 @@ fn fill_entries(out: &mut [u8], nodes: &[Node], pool: &[u8]) -> Result<usize, Wr
             needed: needed as u64,
         });
     }
-    make_all_entries(out, nodes, pool)
+    make_content(out, nodes, pool, entries)
+}
+
+/// Fills a buffer with entries, or else values, that have as many bytes.
+fn fill_content_front(front: &mut [u8], nodes: &[Node], pool: &[u8], entries: bool)
+    ensures { IsWhole (made_alone entries pool.now nodes.now) front.old front.new }
+{
+    if lay_content::<Putting>(front, nodes, pool, entries) == front.len() {
+        return;
+    }
+    let _filled = make_content(front, nodes, pool, entries);
+}
+
+/// Writes entries, or else values, or says why not. They are counted first.
+fn fill_content(
+    out: &mut [u8],
+    nodes: &[Node],
+    pool: &[u8],
+    entries: bool,
+) -> Result<usize, WriteError>
+    ensures { Writes (made_alone entries pool.now nodes.now) out.old out.new result }
+{
+    let needed = lay_content::<Counting>(&mut [], nodes, pool, entries);
+    if needed == NONE {
+        return fill_content_any(out, nodes, pool, entries);
+    }
+    if needed > out.len() {
+        return Err(WriteError::TooSmall {
+            needed: needed as u64,
+        });
+    }
+    fill_content_front(&mut out[..needed], nodes, pool, entries);
+    Ok(needed)
 }
 
 /// Writes the content of a table alone, without its length: the entries that nodes mean, in their order. Tables and arrays
@@ -185,39 +347,7 @@ pub fn write_entries(nodes: &[Node], pool: &[u8], out: &mut [u8]) -> Result<usiz
         SpellsEntries entries out.new result }
 {
     are_bytes(pool);
-    fill_entries(out, nodes, pool)
-}
-
-/// Values one after another, as far as a buffer has room, and how many bytes they have, or that they are too many.
-#[tactic(auto, using(crate::proofs::HeadsInLoops::whole_made, crate::proofs::HeadsInLoops::whole_long, crate::proofs::HeadsInLoops::whole_refused))]
-fn make_all_values(buf: &mut [u8], nodes: &[Node], pool: &[u8]) -> Result<usize, WriteError>
-    ensures { Makes (made_values pool.now nodes.now) buf.old buf.new 0 result }
-{
-    match make_values(buf, 0, pool, nodes.len(), nodes, INNER_DEPTH) {
-        Ok(n) => {
-            if n > LONGEST {
-                return Err(within(0, Refusal::of_head(WriteRefusal::TooLong)));
-            }
-            Ok(n)
-        }
-        Err(bad) => Err(within(0, bad)),
-    }
-}
-
-/// Writes values, or says why not. Split for the proof.
-fn fill_values(out: &mut [u8], nodes: &[Node], pool: &[u8]) -> Result<usize, WriteError>
-    ensures { Writes (made_values pool.now nodes.now) out.old out.new result }
-{
-    let needed = match make_all_values(&mut [], nodes, pool) {
-        Ok(needed) => needed,
-        Err(error) => return Err(error),
-    };
-    if needed > out.len() {
-        return Err(WriteError::TooSmall {
-            needed: needed as u64,
-        });
-    }
-    make_all_values(out, nodes, pool)
+    fill_content(out, nodes, pool, true)
 }
 
 /// Writes the content of an array alone, without its length: the values that nodes mean, whose keys are not looked at.
@@ -231,5 +361,5 @@ pub fn write_values(nodes: &[Node], pool: &[u8], out: &mut [u8]) -> Result<usize
         SpellsValues values out.new result }
 {
     are_bytes(pool);
-    fill_values(out, nodes, pool)
+    fill_content(out, nodes, pool, false)
 }

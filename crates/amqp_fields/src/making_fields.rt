@@ -102,7 +102,7 @@ fn make_field(
 
 /// Whether a node is a flag at a place.
 #[inline(always)]
-fn is_flag(place: u8, node: &Node) -> bool
+pub(crate) fn is_flag(place: u8, node: &Node) -> bool
     ensures { result ≡ is_flag place node.now }
 {
     is_field(place, Form::Flags(1), node) && node.inside == 0 && node.number < 2
@@ -198,7 +198,7 @@ pub(crate) fn node_count(slot: Slot, nodes: &[Node]) -> usize
 
 /// The first of some shapes, and the others.
 #[inline(always)]
-fn first_shape(shapes: &[Slot]) -> Option<(Slot, &[Slot])>
+pub(crate) fn first_shape(shapes: &[Slot]) -> Option<(Slot, &[Slot])>
     ensures found { IfSome result (λ found. shapes.now ≡ found.0 ∷ found.1.now) }
     ensures none { result ≡ None → length shapes.now ≡ 0 }
 {
@@ -248,7 +248,7 @@ pub(crate) fn make_slots(
 /// The bit and the form of the property that a node is, at a place or after it.
 #[inline(always)]
 #[tactic(auto, using(crate::proofs::PropertiesMade::property_stands, crate::proofs::PropertiesMade::property_before, crate::proofs::PropertiesMade::property_beyond, crate::proofs::PropertiesMade::property_other))]
-fn property_of(place: u8, node: &Node) -> Option<(u16, Form)>
+pub(crate) fn property_of(place: u8, node: &Node) -> Option<(u16, Form)>
     ensures found { IfSome result (λ shape. IsProperty place node.now (property_of shape)) }
     ensures none { result ≡ None → IsNoProperty place node.now }
 {
@@ -271,7 +271,7 @@ fn property_of(place: u8, node: &Node) -> Option<(u16, Form)>
 /// What a bit adds to a mask.
 #[inline(always)]
 #[tactic(auto, using(crate::proofs::FieldsMade::bit_below))]
-fn worth(bit: u16) -> u16
+pub(crate) fn worth(bit: u16) -> u16
     requires few { 2 ^ bit < 2 ^ 16 }
     ensures { result ≡ 2 ^ bit }
 {

@@ -29,7 +29,7 @@ pub(crate) fn nodes_of<'a>(nodes: &'a [Node], head: &Head) -> Option<&'a [Node]>
 {
     let first = head.first as usize;
     let count = head.nodes as usize;
-    if first <= nodes.len() && count <= nodes.len() - first {
+    if first + count <= nodes.len() {
         Some(&nodes[first..first + count])
     } else {
         None
@@ -69,7 +69,7 @@ pub(crate) fn unknown(class: u16) -> ParserError
 
 /// Both ids of a method.
 #[inline(always)]
-fn id_bytes(head: &Head) -> [u8; 4]
+pub(crate) fn id_bytes(head: &Head) -> [u8; 4]
     ensures { result
         ≡ number_bytes bytes2 head.now.class_id ++ number_bytes bytes2 head.now.method_id }
 {
@@ -112,7 +112,7 @@ fn make_method(
 
 /// What stands in front of the properties of a content header: a class id, a weight of 0, and the size of the body.
 #[inline(always)]
-fn front_bytes(head: &Head) -> [u8; 12]
+pub(crate) fn front_bytes(head: &Head) -> [u8; 12]
     ensures { result ≡ header_front head.now }
 {
     let class = head.class_id.to_be_bytes();

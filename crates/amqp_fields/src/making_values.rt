@@ -82,7 +82,7 @@ pub(crate) fn make_long_long(
 
 /// Whether a number in two's complement of 64 bits is a signed one of a width that has twice as many numbers.
 #[inline(always)]
-fn is_signed(number: u64, half: u64) -> bool
+pub(crate) fn is_signed(number: u64, half: u64) -> bool
     requires some { 0 < half }
     ensures { result
         ≡ (nat_lt number half || (nat_le (2 ^ 64 - half) number && nat_lt number (2 ^ 64))) }

@@ -27,6 +27,23 @@ pub(crate) fn first_group(nodes: &[Node]) -> Option<(&Node, &[Node], &[Node])>
     }
 }
 
+/// The same where nothing lies inside the first one; there is nothing where something does.
+#[inline(always)]
+pub(crate) fn first_alone(nodes: &[Node]) -> Option<(&Node, &[Node], &[Node])>
+    ensures { IfSome result
+        (λ group. StandsFirst nodes.now group.0.now group.1.now group.2.now) }
+{
+    match nodes {
+        [] => None,
+        [node, others @ ..] => {
+            if node.inside != 0 {
+                return None;
+            }
+            Some((node, &[], others))
+        }
+    }
+}
+
 /// The nodes after so many.
 #[inline(always)]
 pub(crate) fn nodes_from(nodes: &[Node], count: usize) -> &[Node]

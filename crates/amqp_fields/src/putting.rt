@@ -1,7 +1,7 @@
 //! Putting bytes where a buffer has room for them, while all of them are counted.
 
 ghost use Rattle.std.specs.Prelude.{◌≡◌, ◌+◌, length, nat_le, option_copied};
-ghost use Rattle.amqp_types.specs.Numbers.{bytes2, bytes4, bytes8, number_bytes};
+ghost use Rattle.amqp_types.specs.Numbers.{bytes2, bytes4, number_bytes};
 ghost use Rattle.amqp_fields.specs.Made.{made_if, made_long, made_text, span_in};
 ghost use Rattle.amqp_fields.specs.Makes.{ArePut, Closes, Makes, cut_long};
 
@@ -19,13 +19,10 @@ pub(crate) fn plus(a: usize, b: usize) -> usize
 
 /// Whether so many bytes at a place end within a buffer of this length.
 #[inline(always)]
-fn has_room(length: usize, at: usize, count: usize) -> bool
+pub(crate) fn has_room(length: usize, at: usize, count: usize) -> bool
     ensures { result ≡ nat_le (at + count) length }
 {
-    match at.checked_add(count) {
-        Some(end) => end <= length,
-        None => false,
-    }
+    at <= length && count <= length - at
 }
 
 /// Puts bytes at a place, where the buffer has room for them, and returns how many they are.
@@ -69,14 +66,6 @@ fn put_count(buf: &mut [u8], at: usize, n: u32) -> usize
 #[inline(always)]
 pub(crate) fn put_short(buf: &mut [u8], at: usize, n: u16) -> usize
     ensures { ArePut buf.old buf.new at (number_bytes bytes2 n) result }
-{
-    put(buf, at, &n.to_be_bytes())
-}
-
-/// Puts a number of 8 bytes.
-#[inline(always)]
-pub(crate) fn put_long_long(buf: &mut [u8], at: usize, n: u64) -> usize
-    ensures { ArePut buf.old buf.new at (number_bytes bytes8 n) result }
 {
     put(buf, at, &n.to_be_bytes())
 }
@@ -154,10 +143,7 @@ pub(crate) fn span(pool: &[u8], start: u32, count: u32) -> Option<&[u8]>
 {
     let start = start as usize;
     let count = count as usize;
-    if start > pool.len() {
-        return None;
-    }
-    if count > pool.len() - start {
+    if start + count > pool.len() {
         return None;
     }
     Some(&pool[start..start + count])

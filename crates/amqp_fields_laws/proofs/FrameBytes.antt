@@ -9,17 +9,18 @@ use Rattle.amqp_wire.specs.declared.frame_type.AMQPFrameType.{AMQPFrameType}
 use Rattle.amqp_wire.specs.declared.frame_type.AMQPFrameType.TheVariants as kinds
 use Rattle.amqp_wire.specs.Frames.{Frame, Proto, Meth, Head, Body, Beat, BadBeat, Raw, length_around, raw_as}
 use Rattle.amqp_wire.specs.Looks.{payload_place}
-use Rattle.amqp_wire.specs.Outer.{behind_type, judge_version, outer}
+use Rattle.amqp_wire.specs.HeaderScan.{behind_type, judge_version, scan}
 use Rattle.amqp_wire.specs.Spelling.{IsWithin, Spells, byte_of, bytes_as, proto}
-use Rattle.amqp_wire.specs.Verdicts.{judged, verdict, whole}
-use Rattle.amqp_wire.proofs.Encoded.{judged_frame-is}
+use Rattle.amqp_wire.specs.Verdicts.{judge_scanned, judge_frame, decode_raw}
+use Rattle.amqp_wire.proofs.Encoded.{judge_decoded-is}
 use Rattle.amqp_wire.proofs.Sizes.{framed_length}
-use Rattle.amqp_wire.proofs.Spelled.{outer-beat, outer-body, outer-header, outer-method}
+use Rattle.amqp_wire.proofs.Spelled.{scan-beat, scan-body, scan-header, scan-method}
 use Rattle.amqp_fields.specs.declared.head.Head as given
 use Rattle.amqp_fields.specs.declared.node.Node.{Node}
 use Rattle.amqp_fields.specs.declared.refusals.Refusal.{Refusal}
 use Rattle.amqp_fields.specs.Made.{Made}
 use Rattle.amqp_fields.specs.Meant.{TellsTyped}
+use Rattle.amqp_fields.proofs.HeadsTold.{scan_version}
 use Rattle.amqp_fields.proofs.MeantValuesMade.{Fits}
 
 -- a frame is as long as its payload and what stands around it
@@ -49,31 +50,27 @@ spelled_eight (Body channel content) rest s = absurd (let e = s.bytes_are in cc)
 spelled_eight Beat rest s = absurd (let e = s.is_framed.bytes_are in cc)
 spelled_eight (BadBeat channel) rest s = absurd (let e = s.1.is_framed.bytes_are in cc)
 
-outer_version : (k : Option ℕ) (a b c : ℕ) → outer k (proto a b c) ≡ took (raw_as kinds.ProtocolHeader 0 (a ∷ b ∷ c ∷ [])) 8
-unfolding outer behind_type judge_version
-outer_version k a b c = refl
-
 -- the header scan finds the payload that was made
-pub outer_made : (k : ℕ) (kind : AMQPFrameType) (channel : ℕ) (payload : List ℕ) → channel < 2 ^ 16 → length payload < 2 ^ 32
+pub scan_made : (k : ℕ) (kind : AMQPFrameType) (channel : ℕ) (payload : List ℕ) → channel < 2 ^ 16 → length payload < 2 ^ 32
     → IsWithin (Some k) (bytes_as kind channel payload) → (kind ≡ kinds.ProtocolHeader → (channel ≡ 0) × (length payload ≡ 3))
-    → outer (Some k) (bytes_as kind channel payload) ≡ took (raw_as kind channel payload) (length (bytes_as kind channel payload))
-outer_made k kinds.ProtocolHeader channel (a ∷ b ∷ c ∷ []) on few within version =
-    outer_version (Some k) a b c ∙ ap (λ n. took (raw_as kinds.ProtocolHeader n (a ∷ b ∷ c ∷ [])) 8) (sym (version refl).0)
-outer_made k kinds.ProtocolHeader channel [] on few within version = absurd (omega (arith, (version refl).1))
-outer_made k kinds.ProtocolHeader channel (a ∷ []) on few within version = absurd (omega (arith, (version refl).1))
-outer_made k kinds.ProtocolHeader channel (a ∷ b ∷ []) on few within version = absurd (omega (arith, (version refl).1))
-outer_made k kinds.ProtocolHeader channel (a ∷ b ∷ c ∷ d ∷ more) on few within version = absurd (omega (arith, (version refl).1))
-outer_made k kinds.Method channel payload on few within version =
-    outer-method (Some k) (bytes_as kinds.Method channel payload) channel payload
+    → scan (Some k) (bytes_as kind channel payload) ≡ took (raw_as kind channel payload) (length (bytes_as kind channel payload))
+scan_made k kinds.ProtocolHeader channel (a ∷ b ∷ c ∷ []) on few within version =
+    scan_version (Some k) a b c ∙ ap (λ n. took (raw_as kinds.ProtocolHeader n (a ∷ b ∷ c ∷ [])) 8) (sym (version refl).0)
+scan_made k kinds.ProtocolHeader channel [] on few within version = absurd (omega (arith, (version refl).1))
+scan_made k kinds.ProtocolHeader channel (a ∷ []) on few within version = absurd (omega (arith, (version refl).1))
+scan_made k kinds.ProtocolHeader channel (a ∷ b ∷ []) on few within version = absurd (omega (arith, (version refl).1))
+scan_made k kinds.ProtocolHeader channel (a ∷ b ∷ c ∷ d ∷ more) on few within version = absurd (omega (arith, (version refl).1))
+scan_made k kinds.Method channel payload on few within version =
+    scan-method (Some k) (bytes_as kinds.Method channel payload) channel payload
     (record { channel_fits = on; length_fits = few; bytes_are = refl }) within
-outer_made k kinds.Header channel payload on few within version =
-    outer-header (Some k) (bytes_as kinds.Header channel payload) channel payload
+scan_made k kinds.Header channel payload on few within version =
+    scan-header (Some k) (bytes_as kinds.Header channel payload) channel payload
     (record { channel_fits = on; length_fits = few; bytes_are = refl }) within
-outer_made k kinds.Body channel payload on few within version =
-    outer-body (Some k) (bytes_as kinds.Body channel payload) channel payload
+scan_made k kinds.Body channel payload on few within version =
+    scan-body (Some k) (bytes_as kinds.Body channel payload) channel payload
     (record { channel_fits = on; length_fits = few; bytes_are = refl }) within
-outer_made k kinds.Heartbeat channel payload on few within version =
-    outer-beat (Some k) (bytes_as kinds.Heartbeat channel payload) channel payload
+scan_made k kinds.Heartbeat channel payload on few within version =
+    scan-beat (Some k) (bytes_as kinds.Heartbeat channel payload) channel payload
     (record { channel_fits = on; length_fits = few; bytes_are = refl }) within
 
 -- the payload stands at its place
@@ -134,10 +131,10 @@ body_kind kinds.Body is = refl
 body_kind kinds.Heartbeat is = absurd (omega (arith, is))
 
 -- where the header scan finds a frame, its payload is decoded as the verdict has it
-pub whole_is : (k : ℕ) (bytes : List ℕ) (raw : Raw) (n : ℕ) (frame : Frame) → outer (Some k) bytes ≡ took raw n
-    → verdict plain (Some k) bytes ≡ took frame n → whole raw ≡ Ok frame
-unfolding verdict
-whole_is k bytes raw n frame found is = (judged_frame-is true (whole raw) n frame n (sym (ap (judged plain) found) ∙ is)).1
+pub whole_is : (k : ℕ) (bytes : List ℕ) (raw : Raw) (n : ℕ) (frame : Frame) → scan (Some k) bytes ≡ took raw n
+    → judge_frame plain (Some k) bytes ≡ took frame n → decode_raw raw ≡ Ok frame
+unfolding judge_frame
+whole_is k bytes raw n frame found is = (judge_decoded-is true (decode_raw raw) n frame n (sym (ap (judge_scanned plain) found) ∙ is)).1
 
 -- such bytes are made of what was made
 pub made_as : {Why : Refusal → Type 0} {P : List ℕ → Type 0} (made : Made) (bytes : List ℕ) → made ≡ Ok bytes → Fits Why made P → P bytes

@@ -12,7 +12,7 @@ use Rattle.amqp_wire.specs.declared.frame_type.AMQPFrameType.TheVariants as kind
 use Rattle.amqp_wire.specs.Frames.{Frame, Proto, Meth, Head, Body, Beat, BadBeat, beat_on, length_around, raw_as}
 use Rattle.amqp_wire.specs.Outlines.{outline_of}
 use Rattle.amqp_wire.specs.Spelling.{bytes_as, framed}
-use Rattle.amqp_wire.specs.Verdicts.{all_of, whole_as}
+use Rattle.amqp_wire.specs.Verdicts.{all_of, decode_payload}
 use Rattle.amqp_wire.proofs.Encoded.{read_as}
 use Rattle.amqp_wire.proofs.Sizes.{framed_length}
 use Rattle.amqp_fields.specs.declared.head.Head as given
@@ -24,19 +24,11 @@ use Rattle.amqp_fields.specs.Made.{after, misfit_head, refuse_head}
 use Rattle.amqp_fields.specs.MadeFields.{made_properties, made_slots}
 use Rattle.amqp_fields.specs.MadeFrames.{has_no_ids, header_front, made_around, made_beat, made_body, made_bytes, made_payload, made_typed, nodes_in}
 use Rattle.amqp_fields.specs.Meaning.{IsSpan}
-use Rattle.amqp_fields.proofs.Answering.{filled_took}
+use Rattle.amqp_fields.proofs.Answering.{filled_took, span_stands}
 use Rattle.amqp_fields.proofs.FramesMade.{frame_parts, header_parts, method_parts, version_parts}
 use Rattle.amqp_fields.proofs.Spans.{Stands}
 use Rattle.amqp_fields_laws.proofs.Twins.{AreSame, none_same}
 use Rattle.amqp_fields_laws.proofs.Payloads.{header_round, method_round, version_round}
-
--- a span stands where it ends
-pub span_stands : (bytes payload : List ℕ) (start : ℕ) → IsSpan bytes start (length payload) payload → Stands bytes (start + length payload) payload
-span_stands bytes payload start span = record {
-  within = span.within;
-  fits = omega arith;
-  is = ap (λ s. take (length payload) (drop s bytes)) {x = start + length payload - length payload} {y = start} (omega arith) ∙ span.bytes_are;
-}
 
 -- a payload within the limit is framed
 around_made : (k : ℕ) (head : given.Head) (payload : List ℕ) → length payload ≤ k
@@ -189,9 +181,9 @@ module _ (pool : List ℕ) (fits : IsBytes pool) (deep : Bool) (nodes : List Nod
 
   -- a frame of any type
   pub frame_round : (kind : AMQPFrameType) (payload : List ℕ) (frame : Frame) → (kind ≡ kinds.ProtocolHeader → channel ≡ 0)
-      → IsSpan pool start (length payload) payload → whole_as kind channel payload ≡ Ok frame → OwnNodes kind payload
+      → IsSpan pool start (length payload) payload → decode_payload kind channel payload ≡ Ok frame → OwnNodes kind payload
       → nodes_in nodes (HeadOf kind payload frame) ≡ Some own → IsFrame kind payload (HeadOf kind payload frame)
-  unfolding whole_as
+  unfolding decode_payload
   frame_round kinds.ProtocolHeader [] frame free span h own_is there = absurd cc
   frame_round kinds.ProtocolHeader (a ∷ []) frame free span h own_is there = absurd cc
   frame_round kinds.ProtocolHeader (a ∷ b ∷ []) frame free span h own_is there = absurd cc

@@ -11,12 +11,12 @@ use Rattle.amqp_wire.specs.declared.frame_type.AMQPFrameType.TheVariants as kind
 use Rattle.amqp_wire.specs.Frames.{Frame, length_around, raw_as}
 use Rattle.amqp_wire.specs.Fronts.{front}
 use Rattle.amqp_wire.specs.Looks.{payload_place}
-use Rattle.amqp_wire.specs.Outer.{outer}
+use Rattle.amqp_wire.specs.HeaderScan.{scan}
 use Rattle.amqp_wire.specs.Outlines.{outline_of}
 use Rattle.amqp_wire.specs.Spelling.{IsWithin, Spells, byte_of, bytes_as}
 use Rattle.amqp_wire.proofs.Cuts.{front-got}
-use Rattle.amqp_wire.proofs.Encoded.{outer-beside, verdict-spells}
-use Rattle.amqp_wire.proofs.OuterLook.{outer-exact, outer-in_bounds}
+use Rattle.amqp_wire.proofs.Encoded.{scan-beside, verdict-spells}
+use Rattle.amqp_wire.proofs.HeaderScan.{scan-exact, scan-in_bounds}
 use Rattle.amqp_wire.proofs.Spelled.{verdict-spelled}
 use Rattle.amqp_fields.specs.declared.head.Head as given
 use Rattle.amqp_fields.specs.declared.node.Node.{Node}
@@ -32,10 +32,11 @@ use Rattle.amqp_fields.proofs.HeadsTold.{heads_told}
 use Rattle.amqp_fields.proofs.MeantFramesMade.{frame_fits}
 use Rattle.amqp_fields.proofs.Ordered.{plain_order}
 use Rattle.amqp_fields.proofs.Spans.{Stands}
+use Rattle.amqp_fields.proofs.Answering.{span_stands}
 use Rattle.amqp_fields_laws.specs.RoundTrips.{IsReadAgain, IsSameHead, SameHeads, ReadAgainHasSameNodes, ReadIsAccepted}
-use Rattle.amqp_fields_laws.proofs.Frames.{HeadOf, frame_round, span_stands}
+use Rattle.amqp_fields_laws.proofs.Frames.{HeadOf, frame_round}
 use Rattle.amqp_fields_laws.proofs.Twins.{AreSame, as_many, both_same, none_same}
-use Rattle.amqp_fields_laws.proofs.FrameBytes.{around_fits, body_kind, made_as, outer_made, payload_at, payload_few, payload_within, spelled_few}
+use Rattle.amqp_fields_laws.proofs.FrameBytes.{around_fits, body_kind, made_as, scan_made, payload_at, payload_few, payload_within, spelled_few}
 use Rattle.amqp_fields_laws.proofs.FrameBytes.{version_channel, version_size, whole_is}
 
 -- ---- one frame
@@ -90,10 +91,10 @@ module _ (m : ℕ) (deep : Bool) (pool : List ℕ) (fits : IsBytes pool) (nodes 
       let raw = raw_as kind channel payload in
       let start = at + payload_place kind in
       let three : kind ≡ kinds.ProtocolHeader → length payload ≡ 3 = version_size kind channel payload frame spelled in
-      let found = outer_made k kind channel payload on (payload_few kind channel payload few three) within (λ version. (free version, three version)) in
+      let found = scan_made k kind channel payload on (payload_few kind channel payload few three) within (λ version. (free version, three version)) in
       let behind : drop at whole_bytes ≡ made ++ rest = drop_at before (made ++ rest) at refl in
-      let front_is : outer (Some k) (made ++ rest) ≡ took raw (length made) =
-      ap (λ bs. outer (Some k) (bs ++ rest)) (sym (take_all (length made) made (omega arith))) ∙ outer-exact (Some k) made rest raw (length made) found in
+      let front_is : scan (Some k) (made ++ rest) ≡ took raw (length made) =
+      ap (λ bs. scan (Some k) (bs ++ rest)) (sym (take_all (length made) made (omega arith))) ∙ scan-exact (Some k) made rest raw (length made) found in
       let span : IsSpan whole_bytes start (length payload) payload = record {
         within = omega (arith, length-append before (made ++ rest), length-append made rest, payload_within kind channel payload);
         bytes_are =
@@ -108,7 +109,7 @@ module _ (m : ℕ) (deep : Bool) (pool : List ℕ) (fits : IsBytes pool) (nodes 
         says = record {
           raw = raw;
           frame = frame;
-          found = ap (outer (Some k)) behind ∙ front_is;
+          found = ap (scan (Some k)) behind ∙ front_is;
           is = whole_is k made raw (length made) frame found (verdict-spelled plain (Some k) made frame spelled within);
           payload_is = span;
           head_is = refl;
@@ -139,10 +140,10 @@ module _ (m : ℕ) (deep : Bool) (pool : List ℕ) (fits : IsBytes pool) (nodes 
       let payload = raw.payload in
       let left = drop at pool in
       let start = at + payload_place kind in
-      let bounds = outer-in_bounds (Some m) left raw size says.found in
+      let bounds = scan-in_bounds (Some m) left raw size says.found in
       let limit : size ≤ m + 8 = bounds.limit m refl in
       let around : length_around kind (length payload) ≤ size =
-      around_fits kind (length payload) size bounds.least (λ other. outer-beside (Some m) left raw size says.found other) in
+      around_fits kind (length payload) size bounds.least (λ other. scan-beside (Some m) left raw size says.found other) in
       let spelled = verdict-spells plain (Some m) left frame size (IsBytes-drop at pool fits) (verdict_whole m left raw size frame says.found says.is) in
       let few : size < 2 ^ 32 + 8 =
       omega (arith, spelled_few frame (take size left) spelled.0, length-take-le size left bounds.within) in

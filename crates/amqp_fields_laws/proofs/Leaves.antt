@@ -33,15 +33,10 @@ use Rattle.amqp_fields.proofs.AtLevel.{truth_at}
 use Rattle.amqp_fields.proofs.SignedNumbers.{signed_bits}
 use Rattle.amqp_fields.proofs.Spans.{Stands, long_part, short_part}
 use Rattle.amqp_fields.proofs.ValuesFound.{IsFresh, Keeps}
+use Rattle.amqp_fields.proofs.MadeOfParts.{mod_small}
 use Rattle.amqp_fields_laws.proofs.Twins.{AreAlike, IsRound, leaf_round, no_bytes, span_round}
 
 -- ---- what is made
-
-mod_small : (width : NumberWidth) (n : ℕ) → n < number_limit width → n % number_limit width ≡ n
-mod_small bytes1 n few = omega (arith, few)
-mod_small bytes2 n few = omega (arith, few)
-mod_small bytes4 n few = omega (arith, few)
-mod_small bytes8 n few = omega (arith, few)
 
 -- a number within its width makes its bytes
 number_made : (width : NumberWidth) (index n : ℕ) → n < number_limit width → made_number width index n ≡ Ok (number_bytes width n)

@@ -11,7 +11,7 @@ use Rattle.amqp_wire.specs.declared.outline.FrameOutline.{FrameOutline}
 use Rattle.amqp_wire.specs.declared.outline.FrameOutline.TheVariants as outlines
 use Rattle.amqp_wire.specs.Frames.{Raw, Frame, Proto, Meth, Head, Body, channel_id_of, beat_on}
 use Rattle.amqp_wire.specs.Outlines.{outline_of, outline_front, outline_at}
-use Rattle.amqp_wire.specs.Verdicts.{whole, whole_as, all_of}
+use Rattle.amqp_wire.specs.Verdicts.{decode_raw, decode_payload, all_of}
 use Rattle.amqp_wire.proofs.Encoded.{read_as}
 use Rattle.amqp_turns.specs.declared.fault.ContentFault.{ContentFault}
 use Rattle.amqp_turns.specs.declared.mark.Mark.{Mark}
@@ -38,8 +38,8 @@ data IsPlaced (channel : ℕ) (frame : Frame) : Type 0 where
   here : channel_id_of frame ≡ channel → IsPlaced channel frame
   outside : is_content (outline_of frame) ≡ false → IsPlaced channel frame
 
-proto_placed : (channel : ℕ) (payload : List ℕ) (frame : Frame) → whole_as kinds.ProtocolHeader channel payload ≡ Ok frame → IsPlaced channel frame
-unfolding whole_as
+proto_placed : (channel : ℕ) (payload : List ℕ) (frame : Frame) → decode_payload kinds.ProtocolHeader channel payload ≡ Ok frame → IsPlaced channel frame
+unfolding decode_payload
 proto_placed channel [] frame h = absurd cc
 proto_placed channel (a ∷ []) frame h = absurd cc
 proto_placed channel (a ∷ b ∷ []) frame h = absurd cc
@@ -54,17 +54,18 @@ beat_outside channel = elim (cases_eq channel 0) [
   | inr some ↦ rw (ne_eqb channel 0 some) refl
 ]
 
-beat_of : (channel : ℕ) (payload : List ℕ) (frame : Frame) → whole_as kinds.Heartbeat channel payload ≡ Ok frame → is_content (outline_of frame) ≡ false
-unfolding whole_as
+beat_of : (channel : ℕ) (payload : List ℕ) (frame : Frame) → decode_payload kinds.Heartbeat channel payload ≡ Ok frame → is_content (outline_of frame) ≡ false
+unfolding decode_payload
 beat_of channel payload frame h = let is : beat_on channel ≡ frame = cc in ap (λ f. is_content (outline_of f)) (sym is) ∙ beat_outside channel
 
 -- a heartbeat stands outside of all content, also one on a channel
-pub beat_passed : (raw : Raw) (frame : Frame) → raw.kind ≡ kinds.Heartbeat → whole raw ≡ Ok frame → mark_after greatest None (outline_of frame) ≡ marks.Passed
+pub beat_passed : (raw : Raw) (frame : Frame) → raw.kind ≡ kinds.Heartbeat → decode_raw raw ≡ Ok frame
+    → mark_after greatest None (outline_of frame) ≡ marks.Passed
 beat_passed raw frame is h =
-    passed_mark None frame (beat_of raw.channel raw.payload frame (subst (λ kind. whole_as kind raw.channel raw.payload ≡ Ok frame) is h))
+    passed_mark None frame (beat_of raw.channel raw.payload frame (subst (λ kind. decode_payload kind raw.channel raw.payload ≡ Ok frame) is h))
 
-placed_as : (kind : AMQPFrameType) (channel : ℕ) (payload : List ℕ) (frame : Frame) → whole_as kind channel payload ≡ Ok frame → IsPlaced channel frame
-unfolding whole_as
+placed_as : (kind : AMQPFrameType) (channel : ℕ) (payload : List ℕ) (frame : Frame) → decode_payload kind channel payload ≡ Ok frame → IsPlaced channel frame
+unfolding decode_payload
 placed_as kinds.ProtocolHeader channel payload frame h = proto_placed channel payload frame h
 placed_as kinds.Method channel payload frame h =
     let read = read_as (λ x. Meth channel x) (all_of judge_payload payload) frame h in
@@ -75,14 +76,14 @@ placed_as kinds.Header channel payload frame h =
 placed_as kinds.Body channel payload frame h = let is : Body channel payload ≡ frame = cc in here (ap channel_id_of (sym is))
 placed_as kinds.Heartbeat channel payload frame h = outside (beat_of channel payload frame h)
 
-placed : (raw : Raw) (frame : Frame) → whole raw ≡ Ok frame → IsPlaced raw.channel frame
+placed : (raw : Raw) (frame : Frame) → decode_raw raw ≡ Ok frame → IsPlaced raw.channel frame
 placed raw frame h = placed_as raw.kind raw.channel raw.payload frame h
 
 -- ---- marks, by the outline that stands in the payload
 
 -- the outline is that of the frame, where the payload is one
 abbrev pub IsOutlineOf : Raw → FrameOutline → Type 0
-IsOutlineOf raw outline = (frame : Frame) → whole raw ≡ Ok frame → Some outline ≡ Some (outline_of frame)
+IsOutlineOf raw outline = (frame : Frame) → decode_raw raw ≡ Ok frame → Some outline ≡ Some (outline_of frame)
 
 same_outline : (outline other : FrameOutline) → Some outline ≡ Some other → outline ≡ other
 same_outline outline other e = cc
@@ -96,7 +97,7 @@ progress_raw s raw outline = progress_after greatest (progress_in (held_at s raw
 
 -- it is that of the frame
 marked_by : (s : MessageFilter) (raw : Raw) (outline : FrameOutline) (mark : Mark) (frame : Frame) → IsOutlineOf raw outline
-    → mark ≡ mark_raw s raw outline → whole raw ≡ Ok frame → mark_held (held_at s (channel_id_of frame)) frame ≡ mark
+    → mark ≡ mark_raw s raw outline → decode_raw raw ≡ Ok frame → mark_held (held_at s (channel_id_of frame)) frame ≡ mark
 marked_by s raw outline mark frame is e h = by_place (placed raw frame h)
   where
     same : mark_held (held_at s raw.channel) frame ≡ mark
@@ -109,7 +110,7 @@ marked_by s raw outline mark frame is e h = by_place (placed raw frame h)
 
 -- a frame that is not passed is on that channel
 channel_by : (s : MessageFilter) (raw : Raw) (mark : Mark) (frame : Frame) → mark_held (held_at s (channel_id_of frame)) frame ≡ mark
-    → mark ≢ marks.Passed → whole raw ≡ Ok frame → channel_id_of frame ≡ raw.channel
+    → mark ≢ marks.Passed → decode_raw raw ≡ Ok frame → channel_id_of frame ≡ raw.channel
 channel_by s raw mark frame e other h = by_place (placed raw frame h)
   where
     by_place : IsPlaced raw.channel frame → channel_id_of frame ≡ raw.channel
@@ -125,13 +126,13 @@ given_by (Err e) h = absurd cc
 
 -- A frame that is not in turn is refused with its fault.
 pub refused_steps : (s : MessageFilter) (raw : Raw) (outline : FrameOutline) (bad : ContentFault) → IsOutlineOf raw outline
-    → marks.Fault bad ≡ mark_raw s raw outline → (frame : Frame) → whole raw ≡ Ok frame → step_filtering s frame ≡ Err (refusals.BadContent bad)
+    → marks.Fault bad ≡ mark_raw s raw outline → (frame : Frame) → decode_raw raw ≡ Ok frame → step_filtering s frame ≡ Err (refusals.BadContent bad)
 refused_steps s raw outline bad is e frame h =
     ap (step_marked s (held_at s (channel_id_of frame)) frame) (marked_by s raw outline (marks.Fault bad) frame is e h)
 
 -- what is decided of the frame that a payload is
 abbrev pub IsDecided : MessageFilter → Raw → Bool → Type 0
-IsDecided s raw kept = (frame : Frame) → whole raw ≡ Ok frame → kept ≡ decides s.rules (outline_of frame)
+IsDecided s raw kept = (frame : Frame) → decode_raw raw ≡ Ok frame → kept ≡ decides s.rules (outline_of frame)
 
 -- a frame of no message is decided of by itself, and all stays
 passed_step : (s : MessageFilter) (frame : Frame) (kept : Bool) → mark_held (held_at s (channel_id_of frame)) frame ≡ marks.Passed
@@ -148,7 +149,7 @@ passed_steps s raw outline kept is e decided frame h = passed_step s frame kept 
 
 -- the same where no message has begun
 pub alone_steps : (s : MessageFilter) (raw : Raw) (kept empty : Bool) → empty ≡ eqb (finite.len s.messages) 0 → empty ≡ true
-    → ((frame : Frame) → whole raw ≡ Ok frame → mark_after greatest None (outline_of frame) ≡ marks.Passed) → IsDecided s raw kept → StepsTo s s raw kept
+    → ((frame : Frame) → decode_raw raw ≡ Ok frame → mark_after greatest None (outline_of frame) ≡ marks.Passed) → IsDecided s raw kept → StepsTo s s raw kept
 alone_steps s raw kept empty is none passed decided frame h =
     let here : held_at s (channel_id_of frame) ≡ None = none_held s.messages (eqb-true (finite.len s.messages) 0 (sym is ∙ none)) (channel_id_of frame) in
     let mark : mark_held (held_at s (channel_id_of frame)) frame ≡ marks.Passed =

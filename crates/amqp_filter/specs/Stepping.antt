@@ -7,7 +7,7 @@ use Rattle.amqp_wire.specs.declared.frame_type.AMQPFrameType.TheVariants as kind
 use Rattle.amqp_wire.specs.declared.outline.FrameOutline.{FrameOutline}
 use Rattle.amqp_wire.specs.Frames.{Raw, Frame, channel_id_of}
 use Rattle.amqp_wire.specs.Outlines.{outline_of}
-use Rattle.amqp_wire.specs.Verdicts.{whole}
+use Rattle.amqp_wire.specs.Verdicts.{decode_raw}
 use Rattle.amqp_turns.specs.declared.mark.Mark.{Mark}
 use Rattle.amqp_turns.specs.declared.mark.Mark.TheVariants as marks
 use Rattle.amqp_turns.specs.Steps.{mark_after, progress_after}
@@ -83,7 +83,7 @@ step_filtering s frame =
 -- A step that gives a frame, where it is kept, and keeps this of its channel.
 abbrev pub StepsTo : MessageFilter → MessageFilter → Raw → Bool → Type 0
 StepsTo s t raw kept =
-    (frame : Frame) → whole raw ≡ Ok frame → step_filtering s frame ≡ Ok (given kept frame, t)
+    (frame : Frame) → decode_raw raw ≡ Ok frame → step_filtering s frame ≡ Ok (given kept frame, t)
 
 -- ---- a stream
 

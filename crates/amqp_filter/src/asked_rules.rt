@@ -3,7 +3,7 @@
 ghost use Rattle.std.specs.Prelude.{◌≡◌, Ok, IsOk, Some, true};
 ghost use Rattle.amqp_wire.specs.Frames.{Frame, raw_of};
 ghost use Rattle.amqp_wire.specs.Outlines.{outline_of};
-ghost use Rattle.amqp_wire.specs.Verdicts.{whole, whole_as};
+ghost use Rattle.amqp_wire.specs.Verdicts.{decode_raw, decode_payload};
 ghost use Rattle.amqp_select.specs.Matching.{decides};
 
 use amqp_select::Rules;
@@ -53,8 +53,8 @@ fn decide_read(
     channel_id: ChannelId,
     payload: &[u8],
 ) -> bool
-    requires { IsOk (whole_as frame_type channel_id payload.now) }
-    ensures { (frame : Frame) → whole_as frame_type channel_id payload.now ≡ Ok frame
+    requires { IsOk (decode_payload frame_type channel_id payload.now) }
+    ensures { (frame : Frame) → decode_payload frame_type channel_id payload.now ≡ Ok frame
         → result ≡ decides rules.now (outline_of frame) }
 {
     let raw = AMQPRawFrame {
@@ -91,8 +91,8 @@ impl<'a> AskedRules<'a> {
     /// Whether a whole frame is kept. Its outline is read only where the rules ask for it.
     #[inline(always)]
     pub(crate) fn decide(&self, raw: AMQPRawFrame<'_>) -> bool
-        requires { IsOk (whole (raw_of raw)) }
-        ensures { (frame : Frame) → whole (raw_of raw.entry) ≡ Ok frame
+        requires { IsOk (decode_raw (raw_of raw)) }
+        ensures { (frame : Frame) → decode_raw (raw_of raw.entry) ≡ Ok frame
             → result ≡ decides self.now (outline_of frame) }
     {
         match self.all {

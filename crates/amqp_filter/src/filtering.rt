@@ -2,7 +2,9 @@
 
 ghost use Rattle.std.specs.Prelude.{◌≢◌, ◌⊎◌, Err};
 ghost use Rattle.amqp_select.specs.Matching.{decides};
-ghost use Rattle.amqp_stream.specs.Transcribing.{NeverBegan};
+ghost use Rattle.amqp_stream.specs.Changes.{◌⇒◌};
+ghost use Rattle.amqp_stream.specs.Calls.{call_of};
+ghost use Rattle.amqp_stream.specs.Causes.{NeverBegan};
 ghost use Rattle.amqp_stream.specs.Reports.{NeverBeganReport, unreported};
 ghost use Rattle.amqp_filter.specs.Filtering.{FilterReport, FilterRun};
 
@@ -27,9 +29,9 @@ pub fn filter_reported<S: Source, K: Sink>(
     budget: u64,
 ) -> Result<(), RunReport<FilterError>>
     ensures run { FilterReport (decides rules.now) S.supply K.store
-        max_payload budget source.old source.new sink.old sink.new result
-        ⊎ NeverBeganReport source.old source.new sink.old sink.new
-        (FilterError.Stream StreamError.NoMemory) result }
+        (call_of max_payload budget (source.old ⇒ source.new) (sink.old ⇒ sink.new)) result
+        ⊎ NeverBeganReport (source.old ⇒ source.new)
+        (sink.old ⇒ sink.new) (FilterError.Stream StreamError.NoMemory) result }
     ensures never_untidy { unreported result ≢ Err (FilterError.Stream StreamError.NotTidy) }
     ensures never_too_large { unreported result
         ≢ Err (FilterError.BadContent ContentFault.BodyTooLarge) }
@@ -50,9 +52,9 @@ pub fn filter<S: Source, K: Sink>(
     budget: u64,
 ) -> Result<(), FilterError>
     ensures run { FilterRun (decides rules.now) S.supply K.store
-        max_payload budget source.old source.new sink.old sink.new result
-        ⊎ NeverBegan source.old source.new sink.old sink.new
-        (FilterError.Stream StreamError.NoMemory) result }
+        (call_of max_payload budget (source.old ⇒ source.new) (sink.old ⇒ sink.new)) result
+        ⊎ NeverBegan (source.old ⇒ source.new)
+        (sink.old ⇒ sink.new) (FilterError.Stream StreamError.NoMemory) result }
     ensures never_untidy { result ≢ Err (FilterError.Stream StreamError.NotTidy) }
     ensures never_too_large { result ≢ Err (FilterError.BadContent ContentFault.BodyTooLarge) }
     ensures never_faulted { result ≢ Err (FilterError.BadContent ContentFault.Faulted) }

@@ -3,7 +3,7 @@
 ghost use Rattle.std.specs.Prelude.{◌≡◌, None, Ok, IsOk, IsTrue};
 ghost use Rattle.amqp_wire.specs.Frames.{Frame, raw_of};
 ghost use Rattle.amqp_wire.specs.Outlines.{outline_of};
-ghost use Rattle.amqp_wire.specs.Verdicts.{whole};
+ghost use Rattle.amqp_wire.specs.Verdicts.{decode_raw};
 ghost use Rattle.amqp_turns.specs.Steps.{mark_after};
 ghost use Rattle.amqp_turns.specs.InTurn.{greatest};
 
@@ -38,8 +38,8 @@ fn is_passed(outline: FrameOutline) -> bool
 /// Whether a whole frame is a method or a heartbeat of no message, where none has begun.
 #[inline(always)]
 fn stands_alone(raw: AMQPRawFrame<'_>) -> bool
-    requires { IsOk (whole (raw_of raw)) }
-    ensures { (frame : Frame) → whole (raw_of raw.entry) ≡ Ok frame → IsTrue result
+    requires { IsOk (decode_raw (raw_of raw)) }
+    ensures { (frame : Frame) → decode_raw (raw_of raw.entry) ≡ Ok frame → IsTrue result
         → mark_after greatest None (outline_of frame) ≡ Mark.Passed }
 {
     match raw.frame_type {
@@ -62,7 +62,7 @@ impl<'a> MessageFilter<'a> {
     ghost use Rattle.amqp_wire.specs.Frames.{Frame, Raw, raw_of};
     ghost use Rattle.amqp_wire.specs.Judgements.{IsJudged};
     ghost use Rattle.amqp_wire.specs.Outlines.{outline_of, outline_front};
-    ghost use Rattle.amqp_wire.specs.Verdicts.{whole, whole_as};
+    ghost use Rattle.amqp_wire.specs.Verdicts.{decode_raw, decode_payload};
     ghost use Rattle.amqp_stream.specs.Decisions.{DecidesBy, PassesBy};
     ghost use Rattle.amqp_in_turn.specs.Judging.{JudgesKept};
     ghost use Rattle.amqp_filter.specs.Held.{held_with};
@@ -131,9 +131,9 @@ impl<'a> MessageFilter<'a> {
         raw: AMQPRawFrame<'_>,
         outline: FrameOutline,
     ) -> Result<bool, RunError<Refusal>>
-        requires is_whole { IsOk (whole (raw_of raw)) }
+        requires is_whole { IsOk (decode_raw (raw_of raw)) }
         requires front { outline ≡ outline_front (raw_of raw) }
-        requires whole { (frame : Frame) → whole (raw_of raw) ≡ Ok frame
+        requires whole { (frame : Frame) → decode_raw (raw_of raw) ≡ Ok frame
             → Some outline ≡ Some (outline_of frame) }
         ensures { KeepsBy self.old self.new (raw_of raw.entry) result }
     {
@@ -165,7 +165,7 @@ impl<'a> MessageFilter<'a> {
         channel_id: ChannelId,
         payload: &[u8],
     ) -> Result<bool, RunError<Refusal>>
-        requires { IsOk (whole_as frame_type channel_id payload.now) }
+        requires { IsOk (decode_payload frame_type channel_id payload.now) }
         ensures { KeepsBy self.old self.new
             (record { kind = frame_type; channel = channel_id; payload = payload.now }) result }
     {
@@ -181,7 +181,7 @@ impl<'a> MessageFilter<'a> {
     /// nowhere.
     #[inline(always)]
     fn keep(&mut self, raw: AMQPRawFrame<'_>) -> Result<bool, RunError<Refusal>>
-        requires { IsOk (whole (raw_of raw)) }
+        requires { IsOk (decode_raw (raw_of raw)) }
         ensures { KeepsBy self.old self.new (raw_of raw.entry) result }
     {
         if self.messages.is_empty() && stands_alone(raw) {
@@ -194,7 +194,7 @@ impl<'a> MessageFilter<'a> {
     /// Whether a whole frame is kept, and what is kept of messages stays as it is. May return false for other such frames.
     #[inline(always)]
     fn keeps_alone(&self, raw: AMQPRawFrame<'_>) -> bool
-        requires { IsOk (whole (raw_of raw)) }
+        requires { IsOk (decode_raw (raw_of raw)) }
         ensures { result ≡ true → StepsTo self.now self.now (raw_of raw.entry) true }
     {
         if !self.rules.keep_all() {

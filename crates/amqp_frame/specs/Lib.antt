@@ -2,7 +2,7 @@
 pub mod Frames
 pub use Rattle.amqp_wire.specs.Channels
 pub use Rattle.amqp_wire.specs.Display
-pub use Rattle.amqp_wire.specs.Outer
+pub use Rattle.amqp_wire.specs.HeaderScan
 pub use Rattle.amqp_wire.specs.Looks
 pub use Rattle.amqp_wire.specs.Verdicts
 pub use Rattle.amqp_wire.specs.Spelling

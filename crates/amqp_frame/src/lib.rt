@@ -17,9 +17,9 @@ pub use amqp_wire::{
     Look, ProtocolVersion, canonical_bytes_are_shortest, canonical_bytes_read_back, channel,
     equal_bytes_are_equal_frames, equal_channels, equal_frame_types, equal_judgements,
     equal_layouts, equal_looks, equal_outlines, equal_raw_frames, equal_versions, frame_type,
-    front_is_longest, is_tidy, judge_frame, judging, levels_nest, look_at, looking,
-    no_frame_begins_another, one_canonical_spelling, one_meaning, outer_look_is_its_parts,
-    put_canonical, raw_frame, verdicts_are_spellings, verdicts_are_stable, version, written_again,
+    front_is_longest, header_scan_is_its_parts, is_tidy, judge_frame, judging, levels_nest,
+    look_at, looking, no_frame_begins_another, one_canonical_spelling, one_meaning, put_canonical,
+    raw_frame, verdicts_are_spellings, verdicts_are_stable, version, written_again,
 };
 pub use content_header::{AMQPContentHeader, parse_content_header};
 pub use equality::{equal_content_headers, equal_frames};

@@ -8,8 +8,9 @@ ghost use Rattle.amqp_types.specs.Methods.{judge_payload};
 ghost use Rattle.amqp_types.specs.ContentHeaders.{judge_content_header};
 ghost use Rattle.amqp_protocol.specs.Classes.{method_of};
 ghost use Rattle.amqp_wire.specs.Canonical.{canon, size_of};
-ghost use Rattle.amqp_wire.specs.Outer.{BeginsWith};
-ghost use Rattle.amqp_wire.specs.Verdicts.{IsPayloadError, all_of, verdict, whole, whole_as};
+ghost use Rattle.amqp_wire.specs.HeaderScan.{BeginsWith};
+ghost use Rattle.amqp_wire.specs.Verdicts.{IsPayloadError, all_of};
+ghost use Rattle.amqp_wire.specs.Verdicts.{judge_frame, decode_raw, decode_payload};
 ghost use Rattle.amqp_frame.specs.Frames.{frame_of, header_of, raw_of, beat_on, OwnsMemory};
 
 use crate::content_header::AMQPContentHeader;
@@ -59,14 +60,15 @@ fn parse_header(alloc: Global, payload: &[u8]) -> Result<AMQPContentHeader, Pars
 }
 
 /// Decodes the frame that a whole payload of this type encodes.
-#[tactic(auto, using(amqp_wire::proofs::Payloads::refused_map), unfolding(amqp_wire::specs::Verdicts::whole_as))]
+#[tactic(auto, using(amqp_wire::proofs::Payloads::refused_map), unfolding(amqp_wire::specs::Verdicts::decode_payload))]
 fn read_as(
     alloc: Global,
     frame_type: AMQPFrameType,
     channel_id: ChannelId,
     payload: &[u8],
 ) -> Result<AMQPFrame, ParserError>
-    ensures whole { AnswersWhole frame_of result (whole_as frame_type channel_id payload.now) }
+    ensures whole { AnswersWhole frame_of result
+        (decode_payload frame_type channel_id payload.now) }
     ensures memory { result ≡ Err ParserError.NoMemory → OwnsMemory frame_type }
 {
     match frame_type {
@@ -97,7 +99,8 @@ fn read_whole(
     channel_id: ChannelId,
     payload: &[u8],
 ) -> Result<AMQPFrame, ParserError>
-    ensures whole { AnswersWhole frame_of result (whole_as frame_type channel_id payload.now) }
+    ensures whole { AnswersWhole frame_of result
+        (decode_payload frame_type channel_id payload.now) }
     ensures inside { IfErr result IsPayloadError }
     ensures memory { result ≡ Err ParserError.NoMemory → OwnsMemory frame_type }
     ensures within { length payload.now < 2 ^ 32
@@ -110,7 +113,7 @@ fn read_whole(
 
 /// Decodes a whole payload. A body is copied; a heartbeat's payload is dropped.
 pub fn parse_payload(alloc: Global, raw: AMQPRawFrame<'_>) -> Result<AMQPFrame, ParserError>
-    ensures whole { AnswersWhole frame_of result (whole (raw_of raw.entry)) }
+    ensures whole { AnswersWhole frame_of result (decode_raw (raw_of raw.entry)) }
     ensures inside { IfErr result IsPayloadError }
     ensures memory { result ≡ Err ParserError.NoMemory → OwnsMemory raw.entry.frame_type }
 
@@ -124,9 +127,9 @@ pub fn parse_payload(alloc: Global, raw: AMQPRawFrame<'_>) -> Result<AMQPFrame, 
 }
 
 /// Decodes the frame at the front. Split for the proof.
-#[tactic(auto, using(amqp_wire::proofs::Payloads::refused_frame, amqp_wire::proofs::OuterLook::never_large), unfolding(amqp_wire::specs::Verdicts::verdict))]
+#[tactic(auto, using(amqp_wire::proofs::Payloads::refused_frame, amqp_wire::proofs::HeaderScan::never_large), unfolding(amqp_wire::specs::Verdicts::judge_frame))]
 fn read_frame(alloc: Global, i: &[u8]) -> Result<(usize, AMQPFrame), ParserError>
-    ensures judged { Answers frame_of result (verdict plain None i.now) }
+    ensures judged { Answers frame_of result (judge_frame plain None i.now) }
     ensures used { IfOk result (λ found. found.0 ≤ length i.now) }
     ensures memory { result ≡ Err ParserError.NoMemory → BeginsWith OwnsMemory None i.now }
 {
@@ -147,7 +150,7 @@ fn read_frame(alloc: Global, i: &[u8]) -> Result<(usize, AMQPFrame), ParserError
 /// Decodes one frame at the front, with no limit on its payload: `Ok` has the frame that the bytes there spell, and how
 /// many they are, and an error is the first fault from left to right. No bytes are `Incomplete`.
 pub fn parse_frame(alloc: Global, i: &[u8]) -> Result<(usize, AMQPFrame), ParserError>
-    ensures judged { Answers frame_of result (verdict plain None i.now) }
+    ensures judged { Answers frame_of result (judge_frame plain None i.now) }
     ensures used { IfOk result (λ found. found.0 ≤ length i.now) }
     ensures memory { result ≡ Err ParserError.NoMemory → BeginsWith OwnsMemory None i.now }
 

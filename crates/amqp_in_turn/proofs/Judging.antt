@@ -5,7 +5,7 @@ use Rattle.amqp_wire.specs.Verdicts.{is_at}
 use Rattle.amqp_wire.specs.Frames.{Raw, Frame, Proto, Meth, Head, Body, Beat, BadBeat}
 use Rattle.amqp_wire.specs.Canonical.{canon}
 use Rattle.amqp_wire.specs.Outlines.{outline_of}
-use Rattle.amqp_wire.specs.Verdicts.{whole}
+use Rattle.amqp_wire.specs.Verdicts.{decode_raw}
 use Rattle.amqp_turns.specs.declared.fault.ContentFault.{ContentFault}
 use Rattle.amqp_turns.specs.declared.mark.Mark.TheVariants as marks
 use Rattle.amqp_turns.specs.declared.progress.Progress.{Progress}
@@ -57,7 +57,7 @@ module _ {S : Type 0} (w : Manner S Refusal) (level : w.level ≡ plain) (compac
   at_plain raw = ap (λ l. is_at l raw) level
 
   refused_as : (s : S) (raw : Raw) (bad : ContentFault) (ending : Ending Refusal) (a : Store) (x y : List ℕ)
-      → y ≡ x → ((frame : Frame) → whole raw ≡ Ok frame → w.step s frame ≡ Err (refusals.BadContent bad))
+      → y ≡ x → ((frame : Frame) → decode_raw raw ≡ Ok frame → w.step s frame ≡ Err (refusals.BadContent bad))
       → RefusesFrame raw bad ending → WritesBy w s s raw a a x y ending
   refused_as s raw bad (refused_by (refusals.BadContent other)) a x y same steps h = (
     record { frame = h.0; is_whole = h.1; at_level = at_plain _; refuses = steps h.0 h.1 ∙ ap (λ f. Err (refusals.BadContent f)) (sym h.2) },
@@ -75,13 +75,14 @@ module _ {S : Type 0} (w : Manner S Refusal) (level : w.level ≡ plain) (compac
 
   -- a frame that is not in turn, before anything is written for it
   pub turn_refuses : (s : S) (raw : Raw) (bad : ContentFault) (error : RunError Refusal)
-      → ((frame : Frame) → whole raw ≡ Ok frame → w.step s frame ≡ Err (refusals.BadContent bad))
+      → ((frame : Frame) → decode_raw raw ≡ Ok frame → w.step s frame ≡ Err (refusals.BadContent bad))
       → RefusesFrame raw bad (error_ending error) → RefusesTo w s s raw error
   turn_refuses s raw bad error steps h = λ store pending. refused_as s raw bad (error_ending error) store pending pending refl steps h
 
   -- a frame that was taken, and what is kept then
   pub judged_takes : (s t u : S) (keep : Bool) (raw : Raw) (decision : Decision) → u ≡ t
-      → ((frame : Frame) → whole raw ≡ Ok frame → w.step s frame ≡ Ok (given keep frame, t)) → JudgesKept keep raw (Ok decision) → TakesTo w s u raw decision
+      → ((frame : Frame) → decode_raw raw ≡ Ok frame → w.step s frame ≡ Ok (given keep frame, t)) → JudgesKept keep raw (Ok decision)
+      → TakesTo w s u raw decision
   judged_takes s t u keep raw (decisions.Kept judged) is steps h = record {
     is_judged = h.1;
     step =

@@ -17,9 +17,11 @@ use Rattle.amqp_stream.specs.declared.errors.RunError.{RunError}
 use Rattle.amqp_stream.specs.declared.errors.RunError.TheVariants as runs_end
 use Rattle.amqp_stream.specs.declared.report.RunReport.{RunReport}
 use Rattle.amqp_stream.specs.Errors.{Cause, faulty, cut_short, budget_spent, read_failed, write_failed, out_of_memory, cause_of}
+use Rattle.amqp_stream.specs.Changes.{Change}
 use Rattle.amqp_stream.specs.Ends.{Supply, Store}
+use Rattle.amqp_stream.specs.Calls.{Call, as_reported}
 use Rattle.amqp_stream.specs.Steps.{Manner}
-use Rattle.amqp_stream.specs.Transcribing.{IsSequence}
+use Rattle.amqp_stream.specs.Causes.{IsSequence}
 use Rattle.amqp_stream.specs.Streaming.{stopped_by, error_ending, refused_of, state_of}
 use Rattle.amqp_stream.specs.Resuming.{IsRefusedThere}
 use Rattle.amqp_stream.specs.Reports.{channel_in, IsRestBy, IsReportBy, IsAtStart, WriterReport, NeverRanReport, NeverBeganReport, unreported}
@@ -135,10 +137,10 @@ module _ {S : Type 0} {step : S → Frame → Result (List ℕ × S) Refusal} {e
       absurd (never_refused_open m rest (state_of w s m sequence) (frames_at m sequence) channel (stands_after s m sequence new none) there)
   next_named s m taken sequence rest (runs_end.Refused (refusals.OpenContent channel)) next new none (inr h) is = ap channel_in (sym h.0)
 
-  reports_in_turn : (s : S) (m : ℕ) (a b : Supply) (r : Result (Unit {0}) (RunReport (RunError Refusal)))
-      → StandsFor s [] → IfErr r (IsReportBy w s m a b) → IfErr (as_turned_report r) (IsTurnReport wants m a b)
-  reports_in_turn s m a b (Ok done) new h = tt
-  reports_in_turn s m a b (Err report) new h = record {
+  reports_in_turn : (s : S) (m : ℕ) (source : Change Supply) (r : Result (Unit {0}) (RunReport (RunError Refusal)))
+      → StandsFor s [] → IfErr r (IsReportBy w s m source) → IfErr (as_turned_report r) (IsTurnReport wants m source)
+  reports_in_turn s m source (Ok done) new h = tt
+  reports_in_turn s m source (Err report) new h = record {
     taken = h.taken;
     reads = h.reads;
     takes = h.takes;
@@ -156,25 +158,22 @@ module _ {S : Type 0} {step : S → Frame → Result (List ℕ × S) Refusal} {e
   }
 
   -- a call that ran, or never began, with its report
-  abbrev pub ReportedOrNever : {A K : Type 0} → S → S → (A → Supply) → (K → Store) → ℕ
-      → ℕ → A → A → K → K → Result (Unit {0}) (RunReport (RunError Refusal)) → Type 0
-  ReportedOrNever s t supply store m budget source source' sink sink' r =
-      WriterReport w s t supply store m budget source source' sink sink' r ⊎ NeverRanReport s t source source' sink sink' r
+  abbrev pub ReportedOrNever : {A K : Type 0} → Change S → (A → Supply) → (K → Store)
+      → Call A K → Result (Unit {0}) (RunReport (RunError Refusal)) → Type 0
+  ReportedOrNever writer supply store call r = WriterReport w writer supply store call r ⊎ NeverRanReport writer call.source call.sink r
 
   -- From a new writer, a run with its report writes for the frames in turn and reports where it ended, or never began, out of memory.
-  pub reported_run : {A K : Type 0} (s t : S) {supply : A → Supply} {store : K → Store} {m budget : ℕ}
-      {source source' : A} {sink sink' : K} (r : Result (Unit {0}) (RunReport (RunError Refusal)))
-      → StandsFor s [] → ReportedOrNever s t supply store m budget source source' sink sink' r
-      → TurnReport (after []) wants supply store m budget source source' sink sink' (as_turned_report r)
-      ⊎ NeverBeganReport source source' sink sink' (errors.Stream streams.NoMemory) (as_turned_report r)
-  reported_run s t {supply = supply} {store = store} {m = m} {budget = budget}
-      {source = source} {source' = source'} {sink = sink} {sink' = sink'} r new (inl run) =
-      let Run : Result (Unit {0}) TurnError → Type 0 = λ x. TurnRun (after []) wants supply store m budget source source' sink sink' x in
+  pub reported_run : {A K : Type 0} (writer : Change S) {supply : A → Supply} {store : K → Store} {call : Call A K}
+      (r : Result (Unit {0}) (RunReport (RunError Refusal))) → StandsFor writer.old [] → ReportedOrNever writer supply store call r
+      → TurnReport (after []) wants supply store call (as_turned_report r)
+      ⊎ NeverBeganReport call.source call.sink (errors.Stream streams.NoMemory) (as_turned_report r)
+  reported_run writer {supply = supply} {store = store} {call = call} r new (inl run) =
+      let Run : Result (Unit {0}) TurnError → Type 0 = λ x. TurnRun (after []) wants supply store call x in
       inl (
-        subst Run (sym (unreported_turned r)) (turn_run wants compact by s t (unreported r) new run.0),
-        reports_in_turn s m (supply source) (supply source') r new run.1,
+        subst Run (sym (unreported_turned r)) (turn_run wants compact by writer (unreported r) new run.0),
+        reports_in_turn writer.old call.limit (as_reported supply store call).source r new run.1,
       )
-  reported_run s t r new (inr h) =
+  reported_run writer r new (inr h) =
       inr (
         record { no_memory = unreported_turned r ∙ ap as_turned h.0.0.no_memory; source_stays = h.0.0.source_stays; sink_stays = h.0.0.sink_stays },
         started r h.0.0.no_memory h.1,

@@ -21,11 +21,14 @@ use Rattle.amqp_stream.specs.declared.errors.StreamError.TheVariants as streams
 use Rattle.amqp_stream.specs.declared.errors.RunError.{RunError}
 use Rattle.amqp_stream.specs.declared.errors.RunError.TheVariants as runs_end
 use Rattle.amqp_stream.specs.Errors.{Cause, faulty, cut_short, budget_spent, read_failed, write_failed, out_of_memory, cause_of}
+use Rattle.amqp_stream.specs.Changes.{Change}
 use Rattle.amqp_stream.specs.Ends.{Supply, Store}
+use Rattle.amqp_stream.specs.Calls.{Call, as_reported}
 use Rattle.amqp_stream.specs.Steps.{Manner, text, refused, state, text_at, refused_at, state_at}
 use Rattle.amqp_stream.specs.Writing.{IsPrefix}
-use Rattle.amqp_stream.specs.Transcribing.{NeverBegan, answer_to}
-use Rattle.amqp_stream.specs.Streaming.{Ending, finished, refused_by, stopped_by, ending_of, text_of, refused_of, state_of, AtWanting, HasWrittenBy, HasCauseBy}
+use Rattle.amqp_stream.specs.Causes.{NeverBegan, answer_to, IsWrittenUnless}
+use Rattle.amqp_stream.specs.Streaming.{Ending, finished, refused_by, stopped_by, ending_of, text_of, refused_of, state_of, plan_of}
+use Rattle.amqp_stream.specs.Streaming.{AtWanting, HasWritten, HasCause}
 use Rattle.amqp_stream.specs.Streaming.{Streams, answer_at_end, answer_of, IsExactRun, UnlessStoppedBy, StreamsExactly, IsWelcome, IsDoneOrWanting}
 use Rattle.amqp_stream.specs.Runs.{WriterRun, NeverRan}
 use Rattle.amqp_stream.proofs.Transcribing.{error_by, error_by-cause, unless, caused_by, written_unless}
@@ -332,13 +335,14 @@ module _ {S : Type 0} {step : S → Frame → Result (List ℕ × S) Refusal} {e
       }
 
   writes_by : (s : S) (m : ℕ) (taken written text_is : List ℕ) (r : Result (Unit {0}) (RunError Refusal))
-      → HasWrittenBy w s m taken written (ending_of r) → text_of w s m taken ≡ text_is → HasWrittenInTurn text_is written (as_turned r)
+      → HasWritten (plan_of w s m) taken written (ending_of r) → text_of w s m taken ≡ text_is → HasWrittenInTurn text_is written (as_turned r)
   writes_by s m taken written text_is (Ok done) h e = h.text_is ∙ e
-  writes_by s m taken written text_is (Err (runs_end.Stream error)) h e = written_unless w s m taken text_is written (cause_of error) e h
+  writes_by s m taken written text_is (Err (runs_end.Stream error)) h e =
+      subst (λ (text_is : List ℕ). IsWrittenUnless text_is written (cause_of error)) e (written_unless (plan_of w s m) taken written (cause_of error) h)
   writes_by s m taken written text_is (Err (runs_end.Refused (refusals.BadContent bad))) h e = h ∙ e
   writes_by s m taken written text_is (Err (runs_end.Refused (refusals.OpenContent channel))) h e = h ∙ e
 
-  in_turn_by : (s : S) (m : ℕ) (taken written : List ℕ) (frames : List Frame) (cause : Cause) → HasWrittenBy w s m taken written (stopped_by cause)
+  in_turn_by : (s : S) (m : ℕ) (taken written : List ℕ) (frames : List Frame) (cause : Cause) → HasWritten (plan_of w s m) taken written (stopped_by cause)
       → (refused_of w s m taken ≡ None → frames ≡ frames_at m taken) → IsAllInTurn (frames_at m taken) frames cause
   in_turn_by s m taken written frames write_failed h whole = tt
   in_turn_by s m taken written frames out_of_memory h whole = tt
@@ -347,7 +351,7 @@ module _ {S : Type 0} {step : S → Frame → Result (List ℕ × S) Refusal} {e
   in_turn_by s m taken written frames budget_spent h whole = whole h.none_refused
   in_turn_by s m taken written frames read_failed h whole = whole h.none_refused
 
-  at_wanted : (s : S) (m : ℕ) (taken written : List ℕ) → StandsFor s [] → AtWanting w s m taken written → AtWanted (after []) wants m taken written
+  at_wanted : (s : S) (m : ℕ) (taken written : List ℕ) → StandsFor s [] → AtWanting (plan_of w s m) m taken written → AtWanted (after []) wants m taken written
   at_wanted s m taken written new h =
       let whole = whole_in_turn s m h.sequence new h.none_refused in
       record {
@@ -360,38 +364,39 @@ module _ {S : Type 0} {step : S → Frame → Result (List ℕ × S) Refusal} {e
         written_is = h.written_is ∙ whole.text_is;
       }
 
-  cause_by : (s : S) (m budget : ℕ) (taken written : List ℕ) (a b : Supply) (k l : Store) (r : Result (Unit {0}) (RunError Refusal))
-      → StandsFor s [] → (ran : Ran s [] (frames_at m taken)) → HasWrittenBy w s m taken written (ending_of r)
-      → HasCauseBy w s m budget taken written a b k l (ending_of r) → HasCauseInTurn (after []) wants m budget taken written ran.front a b k l (as_turned r)
-  cause_by s m budget taken written a b k l (Ok done) new ran wrote h = (
+  cause_by : (s : S) (call : Call Supply Store) (taken written : List ℕ) (r : Result (Unit {0}) (RunError Refusal)) → StandsFor s []
+      → (ran : Ran s [] (frames_at call.limit taken)) → HasWritten (plan_of w s call.limit) taken written (ending_of r)
+      → HasCause (plan_of w s call.limit) call taken written (ending_of r)
+      → HasCauseInTurn (after []) wants call taken written ran.front (as_turned r)
+  cause_by s call taken written (Ok done) new ran wrote h = (
     h.0,
     h.1,
-    whole_by (frames_at m taken) ran.front ran.rest (refused_of w s m taken) ran.parts ran.ends wrote.none_refused,
-    by.ends_none (state_of w s m taken) ran.front ran.stands h.2,
+    whole_by (frames_at call.limit taken) ran.front ran.rest (refused_of w s call.limit taken) ran.parts ran.ends wrote.none_refused,
+    by.ends_none (state_of w s call.limit taken) ran.front ran.stands h.2,
   )
-  cause_by s m budget taken written a b k l (Err (runs_end.Stream error)) new ran wrote h = (
-    caused_by plain m budget taken a b k l (cause_of error) (at_wanted s m taken written new) h,
-    in_turn_by s m taken written ran.front (cause_of error) wrote (whole_by (frames_at m taken) ran.front ran.rest (refused_of w s m taken) ran.parts ran.ends),
+  cause_by s call taken written (Err (runs_end.Stream error)) new ran wrote h = (
+    caused_by plain call taken (cause_of error) (at_wanted s call.limit taken written new) h,
+    in_turn_by s call.limit taken written ran.front (cause_of error) wrote
+        (whole_by (frames_at call.limit taken) ran.front ran.rest (refused_of w s call.limit taken) ran.parts ran.ends),
   )
-  cause_by s m budget taken written a b k l (Err (runs_end.Refused (refusals.BadContent bad))) new ran wrote (inl is) =
-      next_by (frames_at m taken) ran.front ran.rest (refused_of w s m taken) bad ran.parts ran.ends is
-  cause_by s m budget taken written a b k l (Err (runs_end.Refused (refusals.BadContent bad))) new ran wrote (inr h) =
-      absurd (by.only_open _ bad h.ends)
-  cause_by s m budget taken written a b k l (Err (runs_end.Refused (refusals.OpenContent channel))) new ran wrote (inl is) =
-      absurd (never_open ran.front ran.rest (refused_of w s m taken) channel ran.ends is)
-  cause_by s m budget taken written a b k l (Err (runs_end.Refused (refusals.OpenContent channel))) new ran wrote (inr h) = (
+  cause_by s call taken written (Err (runs_end.Refused (refusals.BadContent bad))) new ran wrote (inl is) =
+      next_by (frames_at call.limit taken) ran.front ran.rest (refused_of w s call.limit taken) bad ran.parts ran.ends is
+  cause_by s call taken written (Err (runs_end.Refused (refusals.BadContent bad))) new ran wrote (inr h) = absurd (by.only_open _ bad h.ends)
+  cause_by s call taken written (Err (runs_end.Refused (refusals.OpenContent channel))) new ran wrote (inl is) =
+      absurd (never_open ran.front ran.rest (refused_of w s call.limit taken) channel ran.ends is)
+  cause_by s call taken written (Err (runs_end.Refused (refusals.OpenContent channel))) new ran wrote (inr h) = (
     h.sequence,
     h.empty,
-    whole_by (frames_at m taken) ran.front ran.rest (refused_of w s m taken) ran.parts ran.ends h.none_refused,
-    is_open ran.front channel (by.ends_open (state_of w s m taken) ran.front channel ran.stands h.ends),
+    whole_by (frames_at call.limit taken) ran.front ran.rest (refused_of w s call.limit taken) ran.parts ran.ends h.none_refused,
+    is_open ran.front channel (by.ends_open (state_of w s call.limit taken) ran.front channel ran.stands h.ends),
   )
 
-  goes : (s t : S) (m budget : ℕ) (a b : Supply) (k l : Store) (r : Result (Unit {0}) (RunError Refusal)) → StandsFor s []
-      → Streams w s t m budget a b k l (ending_of r) → GoesInTurn (after []) wants m budget a b k l (as_turned r)
-  goes s t m budget a b k l r new run =
-      let ran = ran_all s (frames_at m run.taken) new in
+  goes : (s : S) (call : Call Supply Store) (r : Result (Unit {0}) (RunError Refusal)) → StandsFor s []
+      → Streams (plan_of w s call.limit) call (ending_of r) → GoesInTurn (after []) wants call (as_turned r)
+  goes s call r new run =
+      let ran = ran_all s (frames_at call.limit run.taken) new in
       let short = run.short_by in
-      let behind = whole_in_turn s m short.sequence new short.none_refused in
+      let behind = whole_in_turn s call.limit short.sequence new short.none_refused in
       record {
         taken = run.taken;
         are_bytes = run.are_bytes;
@@ -402,9 +407,9 @@ module _ {S : Type 0} {step : S → Frame → Result (List ℕ × S) Refusal} {e
         written = run.written;
         gains = run.gains;
         frames = ran.front;
-        in_turn = longest_ran s (frames_at m run.taken) ran;
-        writes = writes_by s m run.taken run.written (after [] ran.front) r run.writes ran.text_is;
-        cause = cause_by s m budget run.taken run.written a b k l r new ran run.writes run.cause;
+        in_turn = longest_ran s (frames_at call.limit run.taken) ran;
+        writes = writes_by s call.limit run.taken run.written (after [] ran.front) r run.writes ran.text_is;
+        cause = cause_by s call run.taken run.written r new ran run.writes run.cause;
         behind = record {
           sequence = short.sequence;
           rest = short.rest;
@@ -419,43 +424,39 @@ module _ {S : Type 0} {step : S → Frame → Result (List ℕ × S) Refusal} {e
   -- ---- errors that never come
 
   -- a call that ran, or never began
-  abbrev pub RanOrNever : {A K : Type 0} → S → S → (A → Supply) → (K → Store) → ℕ → ℕ → A → A → K → K → Result (Unit {0}) (RunError Refusal) → Type 0
-  RanOrNever s t supply store m budget source source' sink sink' r =
-      WriterRun w s t supply store m budget source source' sink sink' r ⊎ NeverRan s t source source' sink sink' r
+  abbrev pub RanOrNever : {A K : Type 0} → Change S → (A → Supply) → (K → Store) → Call A K → Result (Unit {0}) (RunError Refusal) → Type 0
+  RanOrNever writer supply store call r = WriterRun w writer supply store call r ⊎ NeverRan writer call.source call.sink r
 
   -- No run ends with the error that an encoding is not tidy.
-  pub never_untidy : {A K : Type 0} {s t : S} {supply : A → Supply} {store : K → Store}
-      {m budget : ℕ} {source source' : A} {sink sink' : K} (r : Result (Unit {0}) (RunError Refusal))
-      → RanOrNever s t supply store m budget source source' sink sink' r → as_turned r ≢ Err (errors.Stream streams.NotTidy)
-  never_untidy r (inl run) e = run.stream.tidy_only (turns_by r streams.NotTidy e)
+  pub never_untidy : {A K : Type 0} {writer : Change S} {supply : A → Supply} {store : K → Store} {call : Call A K}
+      (r : Result (Unit {0}) (RunError Refusal)) → RanOrNever writer supply store call r → as_turned r ≢ Err (errors.Stream streams.NotTidy)
+  never_untidy r (inl run) e = run.stream.run.tidy_only (turns_by r streams.NotTidy e)
   never_untidy r (inr h) e = let other = sym (turns_by r streams.NotTidy e) ∙ ap ending_of h.0.no_memory in absurd cc
 
-  fresh_run : (s t : S) (m budget : ℕ) (a b : Supply) (k l : Store) (bad : ContentFault) → StandsFor s []
-      → Streams w s t m budget a b k l (refused_by (refusals.BadContent bad)) → (bad ≢ faults.BodyTooLarge) × (bad ≢ faults.Faulted)
-  fresh_run s t m budget a b k l bad new run = by_cause run.cause
+  fresh_run : (s : S) (call : Call Supply Store) (bad : ContentFault) → StandsFor s []
+      → Streams (plan_of w s call.limit) call (refused_by (refusals.BadContent bad)) → (bad ≢ faults.BodyTooLarge) × (bad ≢ faults.Faulted)
+  fresh_run s call bad new run = by_cause run.cause
     where
-      by_cause : HasCauseBy w s m budget run.taken run.written a b k l (refused_by (refusals.BadContent bad))
+      by_cause : HasCause (plan_of w s call.limit) call run.taken run.written (refused_by (refusals.BadContent bad))
           → (bad ≢ faults.BodyTooLarge) × (bad ≢ faults.Faulted)
       by_cause (inl is) =
-          let ran = ran_all s (frames_at m run.taken) new in
-          let sequence = front-is_sequence plain (Some m) run.taken run.are_bytes in
-          fresh_by (frames_at m run.taken) ran.front ran.rest (refused_of w s m run.taken) bad ran.parts
-          (sequence_fits (Some m) sequence.used (frames_at m run.taken) sequence.sequence) ran.ends is
+          let ran = ran_all s (frames_at call.limit run.taken) new in
+          let sequence = front-is_sequence plain (Some call.limit) run.taken run.are_bytes in
+          fresh_by (frames_at call.limit run.taken) ran.front ran.rest (refused_of w s call.limit run.taken) bad ran.parts
+          (sequence_fits (Some call.limit) sequence.used (frames_at call.limit run.taken) sequence.sequence) ran.ends is
       by_cause (inr h) = absurd (by.only_open _ bad h.ends)
 
   -- A fault of content that ends the run of a new writer is neither a body above the limit nor a fault that came before.
-  pub fresh : {A K : Type 0} {s t : S} {supply : A → Supply} {store : K → Store} {m budget : ℕ}
-      {source source' : A} {sink sink' : K} (r : Result (Unit {0}) (RunError Refusal)) (bad : ContentFault)
-      → StandsFor s [] → RanOrNever s t supply store m budget source source' sink sink' r
+  pub fresh : {A K : Type 0} {writer : Change S} {supply : A → Supply} {store : K → Store} {call : Call A K}
+      (r : Result (Unit {0}) (RunError Refusal)) (bad : ContentFault) → StandsFor writer.old [] → RanOrNever writer supply store call r
       → as_turned r ≡ Err (errors.BadContent bad) → (bad ≢ faults.BodyTooLarge) × (bad ≢ faults.Faulted)
   fresh (Ok done) bad new h e = absurd cc
   fresh (Err (runs_end.Stream error)) bad new h e = absurd cc
   fresh (Err (runs_end.Refused (refusals.OpenContent channel))) bad new h e = absurd cc
-  fresh {s = s} {t = t} {supply = supply} {store = store} {m = m} {budget = budget} {source = source} {source' = source'}
-      {sink = sink} {sink' = sink'} (Err (runs_end.Refused (refusals.BadContent worse))) bad new (inl run) e =
+  fresh {writer = writer} {supply = supply} {store = store} {call = call} (Err (runs_end.Refused (refusals.BadContent worse))) bad new (inl run) e =
       let same : worse ≡ bad = cc in
       subst (λ (f : ContentFault). (f ≢ faults.BodyTooLarge) × (f ≢ faults.Faulted)) same
-      (fresh_run s t m budget (supply source) (supply source') (store sink) (store sink') worse new run.stream)
+      (fresh_run writer.old (as_reported supply store call) worse new run.stream.run)
   fresh (Err (runs_end.Refused (refusals.BadContent worse))) bad new (inr h) e = let other = h.0.no_memory in absurd cc
 
   -- ---- the result by all of the bytes
@@ -480,7 +481,7 @@ module _ {S : Type 0} {step : S → Frame → Result (List ℕ × S) Refusal} {e
       absurd (never_open front rest (Some (refusals.OpenContent channel)) channel ends refl)
 
   exactly : (s : S) (m : ℕ) (bytes written : List ℕ) (r : Result (Unit {0}) (RunError Refusal)) → StandsFor s []
-      → IsExactRun w s m bytes written (ending_of r) → IsExactlyInTurn (after []) m bytes written (as_turned r)
+      → IsExactRun (plan_of w s m) m bytes written (ending_of r) → IsExactlyInTurn (after []) m bytes written (as_turned r)
   exactly s m bytes written r new h =
       let ran = ran_all s (frames_at m bytes) new in
       record {
@@ -492,14 +493,14 @@ module _ {S : Type 0} {step : S → Frame → Result (List ℕ × S) Refusal} {e
         written_is = h.text_is ∙ ran.text_is;
       }
 
-  goes_exactly : (s : S) (m : ℕ) (bytes : List ℕ) (k l : Store) (r : Result (Unit {0}) (RunError Refusal))
-      → StandsFor s [] → StreamsExactly w s m bytes k l (ending_of r) → GoesExactly (after []) m bytes k l (as_turned r)
-  goes_exactly s m bytes k l r new run =
-      record { written = run.written; gains = run.gains; answer = unless_turned r (exactly s m bytes run.written r new) run.answer }
+  goes_exactly : (s : S) (call : Call Supply Store) (bytes : List ℕ) (r : Result (Unit {0}) (RunError Refusal))
+      → StandsFor s [] → StreamsExactly (plan_of w s call.limit) call bytes (ending_of r) → GoesExactly (after []) call bytes (as_turned r)
+  goes_exactly s call bytes r new run =
+      record { written = run.written; gains = run.gains; answer = unless_turned r (exactly s call.limit bytes run.written r new) run.answer }
 
   -- ---- input that is complete
 
-  welcome : (s : S) (m : ℕ) (bytes : List ℕ) → StandsFor s [] → IsComplete m bytes → IsWelcome w s m bytes
+  welcome : (s : S) (m : ℕ) (bytes : List ℕ) → StandsFor s [] → IsComplete m bytes → IsWelcome (plan_of w s m) bytes
   welcome s m bytes new h =
       let ran = ran_all s (frames_at m bytes) new in
       let none = refused_never (frames_at m bytes) ran.front ran.rest (refused_of w s m bytes) ran.parts h.in_turn ran.ends in
@@ -514,20 +515,17 @@ module _ {S : Type 0} {step : S → Frame → Result (List ℕ × S) Refusal} {e
   -- ---- a whole call
 
   -- From a new writer, a run writes for the frames in turn, and ends by the first that is not, by an open message, or by the stream.
-  pub turn_run : {A K : Type 0} (s t : S) {supply : A → Supply} {store : K → Store} {m budget : ℕ}
-      {source source' : A} {sink sink' : K} (r : Result (Unit {0}) (RunError Refusal))
-      → StandsFor s []
-      → WriterRun w s t supply store m budget source source' sink sink' r
-      → TurnRun (after []) wants supply store m budget source source' sink sink' (as_turned r)
-  turn_run s t {supply = supply} {store = store} {m = m} {budget = budget} {source = source} {source' = source'} {sink = sink} {sink' = sink'} r new run =
-      run_by (goes s t m budget (supply source) (supply source') (store sink) (store sink') r new)
-      (ap as_turned) (λ bytes. goes_exactly s m bytes (store sink) (store sink') r new)
-      (λ bytes accepted. (accepted.0, welcome s m bytes new accepted.1)) (λ goes. done_or_memory r) run
+  pub turn_run : {A K : Type 0} (writer : Change S) {supply : A → Supply} {store : K → Store} {call : Call A K}
+      (r : Result (Unit {0}) (RunError Refusal)) → StandsFor writer.old []
+      → WriterRun w writer supply store call r → TurnRun (after []) wants supply store call (as_turned r)
+  turn_run writer {supply = supply} {store = store} {call = call} r new run =
+      let ran = as_reported supply store call in
+      run_by (λ stream. goes writer.old ran r new stream.run) (ap as_turned) (λ bytes. goes_exactly writer.old ran bytes r new)
+      (λ bytes accepted. (accepted.0, welcome writer.old call.limit bytes new accepted.1)) (λ goes. done_or_memory r) run
 
-  pub goes_run : {A K : Type 0} (s t : S) {supply : A → Supply} {store : K → Store} {m budget : ℕ}
-      {source source' : A} {sink sink' : K} (r : Result (Unit {0}) (RunError Refusal))
-      → StandsFor s [] → RanOrNever s t supply store m budget source source' sink sink' r
-      → TurnRun (after []) wants supply store m budget source source' sink sink' (as_turned r)
-      ⊎ NeverBegan source source' sink sink' (errors.Stream streams.NoMemory) (as_turned r)
-  goes_run s t r new (inl run) = inl (turn_run s t r new run)
-  goes_run s t r new (inr h) = inr (record { no_memory = ap as_turned h.0.no_memory; source_stays = h.0.source_stays; sink_stays = h.0.sink_stays })
+  pub goes_run : {A K : Type 0} (writer : Change S) {supply : A → Supply} {store : K → Store} {call : Call A K}
+      (r : Result (Unit {0}) (RunError Refusal)) → StandsFor writer.old [] → RanOrNever writer supply store call r
+      → TurnRun (after []) wants supply store call (as_turned r) ⊎ NeverBegan call.source call.sink (errors.Stream streams.NoMemory) (as_turned r)
+  goes_run writer r new (inl run) = inl (turn_run writer r new run)
+  goes_run writer r new (inr h) =
+      inr (record { no_memory = ap as_turned h.0.no_memory; source_stays = h.0.source_stays; sink_stays = h.0.sink_stays })

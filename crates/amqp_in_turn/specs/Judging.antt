@@ -4,7 +4,7 @@ use Rattle.amqp_types.specs.Levels.{plain}
 use Rattle.amqp_wire.specs.Frames.{Raw, Frame}
 use Rattle.amqp_wire.specs.Canonical.{canon}
 use Rattle.amqp_wire.specs.Judgements.{IsJudged}
-use Rattle.amqp_wire.specs.Verdicts.{whole}
+use Rattle.amqp_wire.specs.Verdicts.{decode_raw}
 use Rattle.amqp_turns.specs.declared.fault.ContentFault.{ContentFault}
 use Rattle.amqp_stream.specs.declared.decision.Decision.{Decision}
 use Rattle.amqp_stream.specs.declared.decision.Decision.TheVariants as decisions
@@ -29,13 +29,13 @@ IsFaultyBy raw cause = ⊥
 abbrev pub JudgesKept : Bool → Raw → Result Decision StreamError → Type 0
 JudgesKept kept raw (Ok (decisions.Kept judged)) = (kept ≡ true) × IsJudged raw judged
 JudgesKept kept raw (Ok decisions.Dropped) =
-    (kept ≡ false) × ((frame : Frame) × (whole raw ≡ Ok frame))
+    (kept ≡ false) × ((frame : Frame) × (decode_raw raw ≡ Ok frame))
 JudgesKept kept raw (Err error) = IsFaultyBy raw (cause_of error)
 
 -- A frame is refused for this fault, or for a fault of its payload.
 abbrev pub RefusesFrame : Raw → ContentFault → Ending Refusal → Type 0
 RefusesFrame raw fault (refused_by (refusals.BadContent bad)) =
-    (frame : Frame) × (whole raw ≡ Ok frame) × (bad ≡ fault)
+    (frame : Frame) × (decode_raw raw ≡ Ok frame) × (bad ≡ fault)
 RefusesFrame raw fault (refused_by (refusals.OpenContent channel)) = ⊥
 RefusesFrame raw fault (stopped_by (faulty bad)) = IsFaulty plain raw bad
 RefusesFrame raw fault (stopped_by cause) = ⊥

@@ -5,11 +5,13 @@ use Rattle.amqp_types.specs.Levels.{plain}
 use Rattle.amqp_wire.specs.declared.frame_type.AMQPFrameType.{AMQPFrameType}
 use Rattle.amqp_wire.specs.Frames.{Frame}
 use Rattle.amqp_wire.specs.Fronts.{place}
-use Rattle.amqp_wire.specs.Outer.{BeginsWith}
+use Rattle.amqp_wire.specs.HeaderScan.{BeginsWith}
 use Rattle.amqp_stream.specs.declared.errors.RunError.{RunError}
 use Rattle.amqp_stream.specs.declared.errors.RunError.TheVariants as runs
 use Rattle.amqp_stream.specs.declared.report.RunReport.{RunReport}
 use Rattle.amqp_stream.specs.Errors.{Cause, write_failed, out_of_memory, cause_of}
+use Rattle.amqp_stream.specs.Changes.{Change}
+use Rattle.amqp_stream.specs.Calls.{Call, as_reported}
 use Rattle.amqp_stream.specs.Ends.{Supply, Store}
 use Rattle.amqp_stream.specs.Reports.{EndsAt, unreported}
 use Rattle.amqp_turns.specs.InTurn.{AreInTurn, IsNextFault, EndsBegun}
@@ -56,10 +58,10 @@ next_channel (errors.BadContent fault) named = named
 next_channel (errors.Stream error) named = named
 
 -- the report of a run that writes for frames as far as they are in turn: the frames in front are
-abbrev pub IsTurnReport : (AMQPFrameType → Bool) → ℕ
-    → Supply → Supply → RunReport TurnError → Type 0
-IsTurnReport wants m a b report =
-    EndsAt plain m a b
+abbrev pub IsTurnReport : (AMQPFrameType → Bool)
+    → ℕ → Change Supply → RunReport TurnError → Type 0
+IsTurnReport wants m source report =
+    EndsAt plain m source
     (λ taken sequence rest. AreInTurn (frames_at m sequence)
     × IsRestInTurn wants m taken sequence rest report.channel report.error)
     report.place (next_channel report.error report.channel)
@@ -82,9 +84,8 @@ as_turned_report (Err report) = Err (record {
 })
 
 -- a run that writes this text for the frames in turn, with its report
-abbrev pub TurnReport : {S K : Type 0} → (List Frame → List ℕ)
-    → (AMQPFrameType → Bool) → (S → Supply) → (K → Store) → ℕ → ℕ → S → S → K → K
-    → Result (Unit {0}) (RunReport TurnError) → Type 0
-TurnReport text wants supply store m budget source source' sink sink' result =
-    TurnRun text wants supply store m budget source source' sink sink' (unreported result)
-    × IfErr result (IsTurnReport wants m (supply source) (supply source'))
+abbrev pub TurnReport : {S K : Type 0} → (List Frame → List ℕ) → (AMQPFrameType → Bool)
+    → (S → Supply) → (K → Store) → Call S K → Result (Unit {0}) (RunReport TurnError) → Type 0
+TurnReport text wants supply store call result =
+    TurnRun text wants supply store call (unreported result)
+    × IfErr result (IsTurnReport wants call.limit (as_reported supply store call).source)

@@ -9,14 +9,15 @@ use Rattle.amqp_types.specs.Judging.{IsBytes}
 use Rattle.amqp_wire.specs.declared.frame_type.AMQPFrameType.{AMQPFrameType}
 use Rattle.amqp_wire.specs.Frames.{Frame}
 use Rattle.amqp_wire.specs.Fronts.{front}
-use Rattle.amqp_wire.specs.Outer.{BeginsWith}
+use Rattle.amqp_wire.specs.HeaderScan.{BeginsWith}
 use Rattle.amqp_stream.specs.declared.errors.StreamError.TheVariants as streams
 use Rattle.amqp_stream.specs.Errors.{Cause, write_failed, out_of_memory, cause_of}
+use Rattle.amqp_stream.specs.Calls.{Call, as_reported}
 use Rattle.amqp_stream.specs.Ends.{Supply, Store, Takes, Gains, IsEmpty}
 use Rattle.amqp_stream.specs.Writing.{IsPrefix}
-use Rattle.amqp_stream.specs.Transcribing.{IsSequence, IsCausedBy, IsValid, UnlessStopped}
-use Rattle.amqp_stream.specs.Transcribing.{IsOutOfMemory, answer_to, IsWrittenUnless}
-use Rattle.amqp_stream.specs.Runs.{Runs}
+use Rattle.amqp_stream.specs.Causes.{IsSequence, IsCausedBy, IsValid, UnlessStopped}
+use Rattle.amqp_stream.specs.Causes.{IsOutOfMemory, answer_to, IsWrittenUnless}
+use Rattle.amqp_stream.specs.Runs.{Claims, Runs}
 use Rattle.amqp_in_turn.specs.declared.errors.TurnError.{TurnError}
 use Rattle.amqp_in_turn.specs.declared.errors.TurnError.TheVariants as errors
 use Rattle.amqp_turns.specs.InTurn.{IsLongestInTurn, IsNextFault, IsOpen, NoneIsOpen, AreInTurn}
@@ -58,17 +59,18 @@ IsAllInTurn all frames cause = frames ≡ all
 -- When each result comes. `frames` is the longest prefix in turn of the frames at the front of
 -- the bytes taken.
 abbrev pub HasCauseInTurn : (List Frame → List ℕ) → (AMQPFrameType → Bool)
-    → ℕ → ℕ → List ℕ → List ℕ → List Frame → Supply → Supply → Store → Store
-    → Result (Unit {0}) TurnError → Type 0
-HasCauseInTurn text wants m budget taken written frames a b k l (Ok done) =
-    IsSequence plain m taken × IsEmpty b.left × (frames ≡ frames_at m taken) × NoneIsOpen frames
-HasCauseInTurn text wants m budget taken written frames a b k l (Err (errors.BadContent fault)) =
-    IsNextFault (frames_at m taken) frames fault
-HasCauseInTurn text wants m budget taken written frames a b k l (Err errors.OpenContent) =
-    IsSequence plain m taken × IsEmpty b.left × (frames ≡ frames_at m taken) × IsOpen frames
-HasCauseInTurn text wants m budget taken written frames a b k l (Err (errors.Stream error)) =
-    IsCausedBy plain m budget taken a b k l (AtWanted text wants m taken written) (cause_of error)
-    × IsAllInTurn (frames_at m taken) frames (cause_of error)
+    → Call Supply Store → List ℕ → List ℕ → List Frame → Result (Unit {0}) TurnError → Type 0
+HasCauseInTurn text wants call taken written frames (Ok done) =
+    IsSequence plain call.limit taken × IsEmpty call.source.new.left
+    × (frames ≡ frames_at call.limit taken) × NoneIsOpen frames
+HasCauseInTurn text wants call taken written frames (Err (errors.BadContent fault)) =
+    IsNextFault (frames_at call.limit taken) frames fault
+HasCauseInTurn text wants call taken written frames (Err errors.OpenContent) =
+    IsSequence plain call.limit taken × IsEmpty call.source.new.left
+    × (frames ≡ frames_at call.limit taken) × IsOpen frames
+HasCauseInTurn text wants call taken written frames (Err (errors.Stream error)) =
+    IsCausedBy plain call taken (AtWanted text wants call.limit taken written) (cause_of error)
+    × IsAllInTurn (frames_at call.limit taken) frames (cause_of error)
 
 -- what was written of all that is to be, by the result: all of it, unless a write or memory failed
 abbrev pub HasWrittenInTurn : List ℕ → List ℕ → Result (Unit {0}) TurnError → Type 0
@@ -78,23 +80,22 @@ HasWrittenInTurn all written (Err errors.OpenContent) = written ≡ all
 HasWrittenInTurn all written (Err (errors.Stream error)) =
     IsWrittenUnless all written (cause_of error)
 
--- A whole call: a is the source before it and b after it, k and l the sink.
-pub record GoesInTurn (text : List Frame → List ℕ)
-    (wants : AMQPFrameType → Bool) (m budget : ℕ) (a b : Supply) (k l : Store)
-    (result : Result (Unit {0}) TurnError) : Type 0 where
+-- a whole call
+pub record GoesInTurn (text : List Frame → List ℕ) (wants : AMQPFrameType → Bool)
+    (call : Call Supply Store) (result : Result (Unit {0}) TurnError) : Type 0 where
   pub taken : List ℕ
   pub are_bytes : IsBytes taken
   pub reads : ℕ
-  pub takes : Takes a b taken reads
-  pub at_most : reads ≤ budget
-  pub all_spent : result ≡ Err (errors.Stream streams.TurnsSpent) → reads ≡ budget
+  pub takes : Takes call.source.old call.source.new taken reads
+  pub at_most : reads ≤ call.budget
+  pub all_spent : result ≡ Err (errors.Stream streams.TurnsSpent) → reads ≡ call.budget
   pub written : List ℕ
-  pub gains : Gains k l written
+  pub gains : Gains call.sink.old call.sink.new written
   pub frames : List Frame
-  pub in_turn : IsLongestInTurn (frames_at m taken) frames
+  pub in_turn : IsLongestInTurn (frames_at call.limit taken) frames
   pub writes : HasWrittenInTurn (text frames) written result
-  pub cause : HasCauseInTurn text wants m budget taken written frames a b k l result
-  pub behind : IsTextBehindBy text m taken written (m + 8)
+  pub cause : HasCauseInTurn text wants call taken written frames result
+  pub behind : IsTextBehindBy text call.limit taken written (call.limit + 8)
 
 -- What is returned for all the bytes of a source: the fault of the first frame that is not in turn;
 -- or else the result of canonicalizing them, and where that is Ok, whether content is open.
@@ -124,11 +125,11 @@ UnlessStoppedInTurn (Err errors.OpenContent) So = So
 UnlessStoppedInTurn (Err (errors.Stream error)) So = UnlessStopped (cause_of error) So
 
 -- what a call returns over a source that reports its bytes
-pub record GoesExactly (text : List Frame → List ℕ) (m : ℕ) (bytes : List ℕ)
-    (k l : Store) (result : Result (Unit {0}) TurnError) : Type 0 where
+pub record GoesExactly (text : List Frame → List ℕ) (call : Call Supply Store)
+    (bytes : List ℕ) (result : Result (Unit {0}) TurnError) : Type 0 where
   pub written : List ℕ
-  pub gains : Gains k l written
-  pub answer : UnlessStoppedInTurn result (IsExactlyInTurn text m bytes written result)
+  pub gains : Gains call.sink.old call.sink.new written
+  pub answer : UnlessStoppedInTurn result (IsExactlyInTurn text call.limit bytes written result)
 
 -- the frames at the front of the bytes are in turn, and at their end no content is open
 pub record IsComplete (m : ℕ) (bytes : List ℕ) : Type 0 where
@@ -142,15 +143,19 @@ IsOkOrNoMemory (Err (errors.BadContent fault)) = ⊥
 IsOkOrNoMemory (Err errors.OpenContent) = ⊥
 IsOkOrNoMemory (Err (errors.Stream error)) = IsOutOfMemory (cause_of error)
 
--- a run that writes this text for the frames in turn
-abbrev pub TurnRun : {S K : Type 0} → (List Frame → List ℕ)
-    → (AMQPFrameType → Bool) → (S → Supply) → (K → Store) → ℕ → ℕ → S → S → K → K
-    → Result (Unit {0}) TurnError → Type 0
-TurnRun text wants supply store m budget source source' sink sink' result =
-    Runs supply store budget source source' sink sink'
-    (GoesInTurn text wants m budget (supply source)
-    (supply source') (store sink) (store sink') result)
-    (result ≡ Err (errors.Stream streams.TurnsSpent))
-    (λ bytes. GoesExactly text m bytes (store sink) (store sink') result)
-    (λ bytes. IsValid plain m budget bytes × IsComplete m bytes)
-    (IsOkOrNoMemory result)
+-- what is claimed of a run that writes this text for the frames in turn
+abbrev pub turn_claims : (List Frame → List ℕ) → (AMQPFrameType → Bool)
+    → Call Supply Store → Result (Unit {0}) TurnError → Claims
+turn_claims text wants call result = record {
+  Goes = GoesInTurn text wants call result;
+  IsSpent = result ≡ Err (errors.Stream streams.TurnsSpent);
+  Exactly = λ bytes. GoesExactly text call bytes result;
+  Accepts = λ bytes. IsValid plain call.limit call.budget bytes × IsComplete call.limit bytes;
+  IsDone = IsOkOrNoMemory result;
+}
+
+-- such a run
+abbrev pub TurnRun : {S K : Type 0} → (List Frame → List ℕ) → (AMQPFrameType → Bool)
+    → (S → Supply) → (K → Store) → Call S K → Result (Unit {0}) TurnError → Type 0
+TurnRun text wants supply store call result =
+    Runs supply store call (turn_claims text wants (as_reported supply store call) result)

@@ -2,7 +2,7 @@
 use Rattle.std.proofs.Common.{◌≡◌, ℕ, ◌+◌, ◌≤◌, List, [], ◌++◌, length, sym, ap, ◌∙◌, append-nil, append_assoc, arith}
 use Rattle.std.proofs.lemmas.List.{length-append}
 use Rattle.amqp_types.specs.Writing.{written, Puts}
-use Rattle.amqp_types.proofs.Written.{written-length, written-written}
+use Rattle.amqp_types.proofs.WrittenParts.{written-length, written-written}
 
 -- done is written from at on, and left is to follow from place on
 pub record IsPut (before now : List ℕ) (at place : ℕ) (done left all : List ℕ) : Type 0 where

@@ -12,41 +12,42 @@ use Rattle.amqp_wire.specs.declared.frame_type.AMQPFrameType.TheVariants as kind
 use Rattle.amqp_wire.specs.Frames.{Frame, Proto, Meth, Head, Body, beat_on}
 use Rattle.amqp_wire.specs.Canonical.{canon}
 use Rattle.amqp_wire.specs.Spelling.{framed, proto}
-use Rattle.amqp_wire.specs.Verdicts.{all_of, filling, whole_as}
+use Rattle.amqp_wire.specs.Verdicts.{all_of, filling, decode_payload}
 use Rattle.amqp_wire.proofs.Payloads.{filled_took}
 use Rattle.amqp_wire.proofs.Rewritten.{canon_beat, mapped}
 
 -- The canonical bytes of the method in a payload, framed, are those of the frame that the payload is decoded to.
-pub method_canon : (channel : ℕ) (payload : List ℕ) (frame : Frame) → whole_as kinds.Method channel payload ≡ Ok frame
+pub method_canon : (channel : ℕ) (payload : List ℕ) (frame : Frame) → decode_payload kinds.Method channel payload ≡ Ok frame
     → IsRead (judge_payload payload) × (framed 1 channel (canonical_of payload_bytes (judge_payload payload)) ≡ canon frame)
-unfolding whole_as canon
+unfolding decode_payload canon
 method_canon channel payload frame h =
     let one = mapped (λ m. Meth channel m) (all_of judge_payload payload) frame h in
     let is = filled_took (length payload) (judge_payload payload) one.0 one.1 in
     (is_read (judge_payload payload) one.0 (length payload) is, ap (λ j. framed 1 channel (canonical_of payload_bytes j)) is ∙ ap canon one.2)
 
 -- The canonical bytes of the content header in a payload, framed, are those of the frame that the payload is decoded to.
-pub header_canon : (channel : ℕ) (payload : List ℕ) (frame : Frame) → whole_as kinds.Header channel payload ≡ Ok frame
+pub header_canon : (channel : ℕ) (payload : List ℕ) (frame : Frame) → decode_payload kinds.Header channel payload ≡ Ok frame
     → IsRead (judge_content_header payload) × (framed 2 channel (canonical_of content_header_bytes (judge_content_header payload)) ≡ canon frame)
-unfolding whole_as canon
+unfolding decode_payload canon
 header_canon channel payload frame h =
     let one = mapped (λ header. Head channel header) (all_of judge_content_header payload) frame h in
     let is = filled_took (length payload) (judge_content_header payload) one.0 one.1 in
     (is_read (judge_content_header payload) one.0 (length payload) is, ap (λ j. framed 2 channel (canonical_of content_header_bytes j)) is ∙ ap canon one.2)
 
 -- The bytes of a body, framed, are the canonical bytes of the frame that it is decoded to.
-pub body_canon : (channel : ℕ) (content : List ℕ) (frame : Frame) → whole_as kinds.Body channel content ≡ Ok frame → framed 3 channel content ≡ canon frame
-unfolding whole_as canon
+pub body_canon : (channel : ℕ) (content : List ℕ) (frame : Frame) → decode_payload kinds.Body channel content ≡ Ok frame
+    → framed 3 channel content ≡ canon frame
+unfolding decode_payload canon
 body_canon channel content frame h = let same : Body channel content ≡ frame = cc in ap canon same
 
 -- A protocol header with the three bytes of its version is the canonical bytes of the frame that it is decoded to.
-pub version_canon : (channel a b c : ℕ) (frame : Frame) → whole_as kinds.ProtocolHeader channel (a ∷ b ∷ c ∷ []) ≡ Ok frame → proto a b c ≡ canon frame
-unfolding whole_as canon
+pub version_canon : (channel a b c : ℕ) (frame : Frame) → decode_payload kinds.ProtocolHeader channel (a ∷ b ∷ c ∷ []) ≡ Ok frame → proto a b c ≡ canon frame
+unfolding decode_payload canon
 version_canon channel a b c frame h = let same : Proto a b c ≡ frame = cc in ap canon same
 
 -- An empty heartbeat, framed, is the canonical bytes of the frame that it is decoded to.
-pub beat_canon : (channel : ℕ) (frame : Frame) → whole_as kinds.Heartbeat channel [] ≡ Ok frame → framed 8 channel [] ≡ canon frame
-unfolding whole_as
+pub beat_canon : (channel : ℕ) (frame : Frame) → decode_payload kinds.Heartbeat channel [] ≡ Ok frame → framed 8 channel [] ≡ canon frame
+unfolding decode_payload
 beat_canon channel frame h = let same : beat_on channel ≡ frame = cc in canon_beat channel ∙ ap canon same
 
 -- ---- what a payload is that is a frame
@@ -61,8 +62,8 @@ pub is_ok : {A : Type 0} (r : Result A Fault) (x : A) → r ≡ Ok x → IsOk r
 is_ok r x h = subst IsOk (sym h) refl
 
 -- a protocol header has its version alone
-pub version_long : (channel : ℕ) (payload : List ℕ) (frame : Frame) → whole_as kinds.ProtocolHeader channel payload ≡ Ok frame → length payload ≡ 3
-unfolding whole_as
+pub version_long : (channel : ℕ) (payload : List ℕ) (frame : Frame) → decode_payload kinds.ProtocolHeader channel payload ≡ Ok frame → length payload ≡ 3
+unfolding decode_payload
 version_long channel [] frame h = absurd cc
 version_long channel (a ∷ []) frame h = absurd cc
 version_long channel (a ∷ b ∷ []) frame h = absurd cc
@@ -70,8 +71,8 @@ version_long channel (a ∷ b ∷ c ∷ []) frame h = refl
 version_long channel (a ∷ b ∷ c ∷ d ∷ more) frame h = absurd cc
 
 -- on whatever channel
-pub version_any : (one other : ℕ) (payload : List ℕ) → whole_as kinds.ProtocolHeader one payload ≡ whole_as kinds.ProtocolHeader other payload
-unfolding whole_as
+pub version_any : (one other : ℕ) (payload : List ℕ) → decode_payload kinds.ProtocolHeader one payload ≡ decode_payload kinds.ProtocolHeader other payload
+unfolding decode_payload
 version_any one other [] = refl
 version_any one other (a ∷ []) = refl
 version_any one other (a ∷ b ∷ []) = refl
@@ -79,22 +80,22 @@ version_any one other (a ∷ b ∷ c ∷ []) = refl
 version_any one other (a ∷ b ∷ c ∷ d ∷ more) = refl
 
 -- the payload of a heartbeat means nothing
-pub beat_any : (channel : ℕ) (one other : List ℕ) → whole_as kinds.Heartbeat channel one ≡ whole_as kinds.Heartbeat channel other
-unfolding whole_as
+pub beat_any : (channel : ℕ) (one other : List ℕ) → decode_payload kinds.Heartbeat channel one ≡ decode_payload kinds.Heartbeat channel other
+unfolding decode_payload
 beat_any channel one other = refl
 
 -- a method has its two ids
-pub method_long : (channel : ℕ) (payload : List ℕ) (frame : Frame) → whole_as kinds.Method channel payload ≡ Ok frame → 4 ≤ length payload
+pub method_long : (channel : ℕ) (payload : List ℕ) (frame : Frame) → decode_payload kinds.Method channel payload ≡ Ok frame → 4 ≤ length payload
 method_long channel payload frame h = payload_long payload (method_canon channel payload frame h).0
 
 -- a content header has its front
-pub header_long : (channel : ℕ) (payload : List ℕ) (frame : Frame) → whole_as kinds.Header channel payload ≡ Ok frame → 12 ≤ length payload
+pub header_long : (channel : ℕ) (payload : List ℕ) (frame : Frame) → decode_payload kinds.Header channel payload ≡ Ok frame → 12 ≤ length payload
 header_long channel payload frame h = let put = header_put payload (header_canon channel payload frame h).0 in put.long
 
 -- payloads of one length of which the same header is read are the same frame
 pub header_whole : (channel : ℕ) (one other : List ℕ) → judge_content_header one ≡ judge_content_header other
-    → length one ≡ length other → whole_as kinds.Header channel one ≡ whole_as kinds.Header channel other
-unfolding whole_as
+    → length one ≡ length other → decode_payload kinds.Header channel one ≡ decode_payload kinds.Header channel other
+unfolding decode_payload
 header_whole channel one other same long =
     ap (λ j. read_map (λ header. Head channel header) (filling (length one) j)) same
     ∙ ap (λ n. read_map (λ header. Head channel header) (filling n (judge_content_header other))) long

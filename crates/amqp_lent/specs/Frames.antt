@@ -7,7 +7,7 @@ use Rattle.amqp_types.specs.declared.errors.ParserError.TheVariants as errors
 use Rattle.amqp_wire.specs.declared.frame_type.AMQPFrameType.TheVariants as kinds
 use Rattle.amqp_wire.specs.declared.version.ProtocolVersion.{ProtocolVersion}
 use Rattle.amqp_wire.specs.Frames.{Frame, Raw, raw_as}
-use Rattle.amqp_wire.specs.Verdicts.{whole}
+use Rattle.amqp_wire.specs.Verdicts.{decode_raw}
 use Rattle.amqp_canonical.specs.Payloads.{header_payload, method_payload}
 use Rattle.amqp_lent.specs.declared.frame.LentFrame.{LentFrame}
 use Rattle.amqp_lent.specs.declared.frame.LentFrame.TheVariants as frames
@@ -30,7 +30,7 @@ payload_of lent = (raw_of lent).payload
 
 -- a borrowed frame stands for the frame that its payload is
 abbrev pub StandsFor : LentFrame → Frame → Type 0
-StandsFor lent frame = whole (raw_of lent) ≡ Ok frame
+StandsFor lent frame = decode_raw (raw_of lent) ≡ Ok frame
 
 -- it stands for a frame
 abbrev pub IsFrame : LentFrame → Type 0

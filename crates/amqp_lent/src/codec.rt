@@ -2,8 +2,10 @@
 
 ghost use Rattle.std.specs.Prelude.{◌≡◌, ◌≢◌, ◌⊎◌, Err, IfOk};
 ghost use Rattle.amqp_types.specs.Levels.{plain};
+ghost use Rattle.amqp_stream.specs.Changes.{◌⇒◌};
+ghost use Rattle.amqp_stream.specs.Calls.{call_of};
 ghost use Rattle.amqp_stream.specs.Runs.{CanonicalRun};
-ghost use Rattle.amqp_stream.specs.Transcribing.{NeverBegan};
+ghost use Rattle.amqp_stream.specs.Causes.{NeverBegan};
 ghost use Rattle.amqp_stream.specs.Reports.{CanonicalReport, NeverBeganReport, unreported};
 ghost use Rattle.amqp_lent.specs.Errors.{as_stream, as_stream_reported, codec_error};
 
@@ -103,8 +105,9 @@ impl LentCodec {
         budget: u64,
     ) -> Result<(), RunReport<LentError>>
         ensures limit { self.new ≡ self.old }
-        ensures run { CanonicalReport plain S.supply K.store self.old budget
-            source.old source.new sink.old sink.new (as_stream_reported result) }
+        ensures run { CanonicalReport plain S.supply K.store
+            (call_of self.old budget (source.old ⇒ source.new) (sink.old ⇒ sink.new))
+            (as_stream_reported result) }
     {
         lent_reported(
             self.codec
@@ -120,8 +123,9 @@ impl LentCodec {
         budget: u64,
     ) -> Result<(), LentError>
         ensures limit { self.new ≡ self.old }
-        ensures run { CanonicalRun plain S.supply K.store self.old budget
-            source.old source.new sink.old sink.new (as_stream result) }
+        ensures run { CanonicalRun plain S.supply K.store
+            (call_of self.old budget (source.old ⇒ source.new) (sink.old ⇒ sink.new))
+            (as_stream result) }
     {
         unreported(self.canonicalize_reported(source, sink, budget))
     }
@@ -136,9 +140,10 @@ pub fn canonicalize_lent_reported<S: Source, K: Sink>(
     max_payload: ChunkSize,
     budget: u64,
 ) -> Result<(), RunReport<StreamError>>
-    ensures run { CanonicalReport plain S.supply K.store max_payload
-        budget source.old source.new sink.old sink.new result
-        ⊎ NeverBeganReport source.old source.new sink.old sink.new StreamError.NoMemory result }
+    ensures run { CanonicalReport plain S.supply K.store
+        (call_of max_payload budget (source.old ⇒ source.new) (sink.old ⇒ sink.new)) result
+        ⊎ NeverBeganReport (source.old ⇒ source.new)
+        (sink.old ⇒ sink.new) StreamError.NoMemory result }
     ensures never_untidy { unreported result ≢ Err StreamError.NotTidy }
 {
     match LentCodec::open(alloc, max_payload) {
@@ -158,9 +163,10 @@ pub fn canonicalize_lent<S: Source, K: Sink>(
     max_payload: ChunkSize,
     budget: u64,
 ) -> Result<(), StreamError>
-    ensures run { CanonicalRun plain S.supply K.store max_payload
-        budget source.old source.new sink.old sink.new result
-        ⊎ NeverBegan source.old source.new sink.old sink.new StreamError.NoMemory result }
+    ensures run { CanonicalRun plain S.supply K.store
+        (call_of max_payload budget (source.old ⇒ source.new) (sink.old ⇒ sink.new)) result
+        ⊎ NeverBegan (source.old ⇒ source.new)
+        (sink.old ⇒ sink.new) StreamError.NoMemory result }
     ensures never_untidy { result ≢ Err StreamError.NotTidy }
 {
     unreported(canonicalize_lent_reported(alloc, source, sink, max_payload, budget))

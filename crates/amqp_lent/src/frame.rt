@@ -3,7 +3,7 @@
 ghost use Rattle.std.specs.Prelude.{◌≡◌, ◌≤◌, [], length, IfOk, IsOk};
 ghost use Rattle.amqp_wire.specs.declared.frame_type.AMQPFrameType.TheVariants as kinds;
 ghost use Rattle.amqp_wire.specs.Frames.{raw_of, raw_as};
-ghost use Rattle.amqp_wire.specs.Verdicts.{whole, whole_as};
+ghost use Rattle.amqp_wire.specs.Verdicts.{decode_raw, decode_payload};
 ghost use Rattle.amqp_lent.specs.Frames.{Lends, payload_of, raw_of as raw_of_lent};
 
 use amqp_canonical::{header_parts, method_parts};
@@ -73,7 +73,8 @@ fn method_in<'a>(channel: ChannelId, payload: &'a [u8]) -> LentFrame<'a>
 /// The content header in a payload, without its weight.
 fn header_in<'a>(channel: ChannelId, payload: &'a [u8]) -> LentFrame<'a>
     requires { 12 ≤ length payload.now }
-    ensures same { whole (raw_of_lent result) ≡ whole_as kinds.Header channel payload.now }
+    ensures same { decode_raw (raw_of_lent result)
+        ≡ decode_payload kinds.Header channel payload.now }
     ensures as_many { length (payload_of result) ≡ length payload.now }
 {
     let (class_id, body_size, properties) = header_parts(payload);
@@ -110,8 +111,8 @@ fn heartbeat_on<'a>(channel: ChannelId) -> LentFrame<'a>
 
 /// Borrows the frame that a payload of this type is, once it was decoded.
 fn lent_as<'a>(frame_type: AMQPFrameType, channel: ChannelId, payload: &'a [u8]) -> LentFrame<'a>
-    requires whole { IsOk (whole_as frame_type channel payload.now) }
-    ensures same { whole (raw_of_lent result) ≡ whole_as frame_type channel payload.now }
+    requires whole { IsOk (decode_payload frame_type channel payload.now) }
+    ensures same { decode_raw (raw_of_lent result) ≡ decode_payload frame_type channel payload.now }
     ensures within { length (payload_of result) ≤ length payload.now }
 {
     match frame_type {
@@ -125,7 +126,7 @@ fn lent_as<'a>(frame_type: AMQPFrameType, channel: ChannelId, payload: &'a [u8])
 
 /// Borrows a frame from its whole payload, and refuses it as `parse_payload` does. No memory is taken.
 pub fn lent_frame<'a>(frame: AMQPRawFrame<'a>) -> Result<LentFrame<'a>, ParserError>
-    ensures judged { Lends result (whole (raw_of frame.entry)) }
+    ensures judged { Lends result (decode_raw (raw_of frame.entry)) }
     ensures within { IfOk result
         (λ lent. length (payload_of lent) ≤ length frame.entry.payload.now) }
 {

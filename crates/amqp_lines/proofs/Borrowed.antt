@@ -23,7 +23,7 @@ use Rattle.amqp_wire.specs.Outlines.{outline_of}
 use Rattle.amqp_wire.specs.Spelling.{framed}
 use Rattle.amqp_wire.specs.Canonical.{canon, payload_of}
 use Rattle.amqp_wire.specs.Judgements.{IsJudged, IsPayloadFault}
-use Rattle.amqp_wire.specs.Verdicts.{IsPayloadError, all_of, is_written_for, whole, whole_as}
+use Rattle.amqp_wire.specs.Verdicts.{IsPayloadError, all_of, is_written_for, decode_raw, decode_payload}
 use Rattle.amqp_wire.proofs.Encoded.{read_as}
 use Rattle.amqp_wire.proofs.Typed.{method_spells, header_spells}
 use Rattle.amqp_stream.specs.declared.errors.StreamError.{StreamError}
@@ -84,8 +84,8 @@ beat_payload channel = elim (cases_eq channel 0) [
 ]
 
 payload_as : (kind : AMQPFrameType) (channel : ℕ) (payload : List ℕ) (frame : Frame)
-    → IsBytes payload → whole_as kind channel payload ≡ Ok frame → IsPayload (payload_of frame) frame
-unfolding whole_as
+    → IsBytes payload → decode_payload kind channel payload ≡ Ok frame → IsPayload (payload_of frame) frame
+unfolding decode_payload
 payload_as kinds.ProtocolHeader channel [] frame fits h = absurd cc
 payload_as kinds.ProtocolHeader channel (a ∷ []) frame fits h = absurd cc
 payload_as kinds.ProtocolHeader channel (a ∷ b ∷ []) frame fits h = absurd cc
@@ -105,7 +105,7 @@ payload_as kinds.Heartbeat channel payload frame fits h =
 
 -- a frame that was read, by its outline and its canonical payload
 pub canonical_in : (raw : Raw) (outline : FrameOutline) (payload : List ℕ) (frame : Frame) → IsBytes raw.payload
-    → whole raw ≡ Ok frame → outline ≡ outline_of frame → payload ≡ payload_of frame → IsIn outline payload frame
+    → decode_raw raw ≡ Ok frame → outline ≡ outline_of frame → payload ≡ payload_of frame → IsIn outline payload frame
 canonical_in raw outline payload frame fits is h e = record {
   outline_is = h;
   is_payload = subst (λ bytes. IsPayload bytes frame) (sym e) (payload_as raw.kind raw.channel raw.payload frame fits is);
@@ -123,13 +123,13 @@ stands_in raw found outline fits h canonical is =
 
 -- A borrowed frame whose payload is refused has no line, for that fault.
 pub unrendered : (raw : Raw) (error : ParserError) → IsPayloadError error → refusing error ≢ Err parses.NoMemory
-    → RefusesWhole error (whole raw) → HasNoLine raw (cause_of (payload_fault error))
+    → RefusesWhole error (decode_raw raw) → HasNoLine raw (cause_of (payload_fault error))
 unrendered raw error inside some h =
     let none = is_none raw error inside some h in
     subst (λ cause. HasNoLine raw cause) none.tells (is_faulty plain raw none.bad none.is_whole none.other)
 
 pub unrendered_judged : (raw : Raw) (error : ParserError) → IsPayloadFault error
-    → RefusesWhole error (whole raw) → HasNoLine raw (cause_of (payload_fault error))
+    → RefusesWhole error (decode_raw raw) → HasNoLine raw (cause_of (payload_fault error))
 unrendered_judged raw error fault h = unrendered raw error fault.0 (λ e. fault.1 (let same : error ≡ parses.NoMemory = cc in same)) h
 
 pub unless_memory : (raw : Raw) (error : StreamError) → error ≡ errors.NoMemory → HasNoLine raw (cause_of error)
@@ -144,7 +144,7 @@ line_alone raw canonical text (Err error) h = h
 
 -- Where the canonical bytes of a borrowed frame are put, and the line of the frame that they encode strictly, both are those of this frame.
 pub both_put : (raw : Raw) (outline : FrameOutline) (payload canonical text : List ℕ) (done : Unit {0}) (r : Result (Unit {0}) StreamError)
-    → IsBytes raw.payload → PutsCanonical raw canonical (Ok done) → ((frame : Frame) → whole raw ≡ Ok frame → outline ≡ outline_of frame)
+    → IsBytes raw.payload → PutsCanonical raw canonical (Ok done) → ((frame : Frame) → decode_raw raw ≡ Ok frame → outline ≡ outline_of frame)
     → ((frame : Frame) → outline ≡ outline_of frame → canonical ≡ canon frame → payload ≡ payload_of frame)
     → OnOk r ((frame : Frame) → IsIn outline payload frame → text ≡ line frame) → IfErr r (λ error. error ≡ errors.NoMemory) → PutsBoth raw canonical text r
 both_put raw outline payload canonical text done (Ok u) fits read outlined inside lined memory =
@@ -154,7 +154,7 @@ both_put raw outline payload canonical text done (Err error) fits read outlined 
 
 -- Where a borrowed frame is canonical, the line of its outline and its payload is the line of the frame.
 pub line_put : (raw : Raw) (found : FrameJudgement) (outline : FrameOutline) (text : List ℕ) (r : Result (Unit {0}) StreamError)
-    → IsBytes raw.payload → IsJudged raw found → found.canonical ≡ true → ((frame : Frame) → whole raw ≡ Ok frame → outline ≡ outline_of frame)
+    → IsBytes raw.payload → IsJudged raw found → found.canonical ≡ true → ((frame : Frame) → decode_raw raw ≡ Ok frame → outline ≡ outline_of frame)
     → OnOk r ((frame : Frame) → IsIn outline raw.payload frame → text ≡ line frame) → IfErr r (λ error. error ≡ errors.NoMemory) → PutsLine raw text r
 line_put raw found outline text (Ok u) fits judged canonical outlined lined memory =
     (judged.frame, judged.is, lined judged.frame (stands_in raw found outline fits judged canonical (outlined judged.frame judged.is)))

@@ -4,8 +4,10 @@ use Rattle.std.proofs.Common.{append_assoc, append-nil, arith}
 use Rattle.std.specs.List.{flat_map}
 use Rattle.std.proofs.lemmas.List.{length-append}
 use Rattle.amqp_wire.specs.Frames.{Frame}
+use Rattle.amqp_stream.specs.Changes.{◌⇒◌}
+use Rattle.amqp_stream.specs.Calls.{call_of}
 use Rattle.amqp_stream.specs.Ends.{Supply, Store, prepended, IsEmpty}
-use Rattle.amqp_stream.specs.Transcribing.{NoFaults}
+use Rattle.amqp_stream.specs.Causes.{NoFaults}
 use Rattle.amqp_stream.proofs.Adding.{taken_of}
 use Rattle.amqp_lines.specs.Lines.{line, lines}
 use Rattle.amqp_lines.specs.Undumping.{AreStrict, HoldsNewline, Undumps, IsValidText, IsOkOrNoMemory}
@@ -90,10 +92,10 @@ after_text m bytes taken more rest frames valid strict text parts is =
 
 -- Over a source that reports the bytes of a valid text, without faults of source or sink, the call returns no error but out of memory.
 pub complete : {m budget : ℕ} {a b : Supply} {k l : Store} {r : Result (Unit {0}) UndumpError} (bytes : List ℕ)
-    → Undumps m budget a b k l r → a.left ≡ Some bytes → IsValidText m budget bytes → NoFaults a b k l → IsOkOrNoMemory r
+    → Undumps (call_of m budget (a ⇒ b) (k ⇒ l)) r → a.left ≡ Some bytes → IsValidText m budget bytes → NoFaults (a ⇒ b) (k ⇒ l) → IsOkOrNoMemory r
 complete {m = m} {budget = budget} {a = a} {b = b} {k = k} {l = l} {r = r} bytes run left valid faults = by_answer r run
   where
-    by_answer : (r : Result (Unit {0}) UndumpError) → Undumps m budget a b k l r → IsOkOrNoMemory r
+    by_answer : (r : Result (Unit {0}) UndumpError) → Undumps (call_of m budget (a ⇒ b) (k ⇒ l)) r → IsOkOrNoMemory r
     by_answer (Ok done) u = tt
     by_answer (Err errors.NoMemory) u = tt
     by_answer (Err errors.BadText) u =

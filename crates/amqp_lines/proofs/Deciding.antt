@@ -11,7 +11,7 @@ use Rattle.amqp_types.proofs.Took.{value_took}
 use Rattle.amqp_wire.specs.Frames.{Frame, Raw, channel_id_of}
 use Rattle.amqp_wire.specs.Spelling.{Spells, raw_bytes}
 use Rattle.amqp_wire.specs.Canonical.{canon, payload_of}
-use Rattle.amqp_wire.specs.Verdicts.{verdict}
+use Rattle.amqp_wire.specs.Verdicts.{judge_frame}
 use Rattle.amqp_wire.proofs.Spelled.{verdict-spelled}
 use Rattle.amqp_wire.proofs.Encoded.{verdict-spells}
 use Rattle.amqp_stream.proofs.Adding.{IsBytes-append, IsBytes-nil}
@@ -72,14 +72,15 @@ pub record IsALine (m : ℕ) (text : List ℕ) : Type 0 where
 judged_line : (m : ℕ) (text : List ℕ) (f : Frame) → IsStrictWithin m f → text ≡ line f → raw_bytes (read_words (take (length text - 1) text)) ≡ canon f
 judged_line m text f good e = ap raw_bytes (line_back f text good.is_strict e) ∙ raw_canon f
 
-verdict_line : (m : ℕ) (f : Frame) → IsStrictWithin m f → verdict strict (Some m) (canon f) ≡ took f (length (canon f))
+verdict_line : (m : ℕ) (f : Frame) → IsStrictWithin m f → judge_frame strict (Some m) (canon f) ≡ took f (length (canon f))
 verdict_line m f good = verdict-spelled strict (Some m) (canon f) f good.is_strict.encodes good.within
 
 by_verdict : (m : ℕ) (text : List ℕ) (v : Judged Frame)
-    → verdict strict (Some m) (raw_bytes (read_words (take (length text - 1) text))) ≡ v → IsALine m text ⊎ IsNoLine m text
-by_verdict m text past h = inr (λ f good e. absurd (let x = sym h ∙ ap (verdict strict (Some m)) (judged_line m text f good e) ∙ verdict_line m f good in cc))
+    → judge_frame strict (Some m) (raw_bytes (read_words (take (length text - 1) text))) ≡ v → IsALine m text ⊎ IsNoLine m text
+by_verdict m text past h =
+    inr (λ f good e. absurd (let x = sym h ∙ ap (judge_frame strict (Some m)) (judged_line m text f good e) ∙ verdict_line m f good in cc))
 by_verdict m text (fault bad) h =
-    inr (λ f good e. absurd (let x = sym h ∙ ap (verdict strict (Some m)) (judged_line m text f good e) ∙ verdict_line m f good in cc))
+    inr (λ f good e. absurd (let x = sym h ∙ ap (judge_frame strict (Some m)) (judged_line m text f good e) ∙ verdict_line m f good in cc))
 by_verdict m text (took g n) h =
     let bytes = raw_bytes (read_words (take (length text - 1) text)) in
     elim (bytes_or bytes) [
@@ -89,7 +90,7 @@ by_verdict m text (took g n) h =
             inr (λ f good e.
             absurd (different (e
             ∙ ap line
-            (value_took f g (length (canon f)) n (sym (verdict_line m f good) ∙ ap (verdict strict (Some m)) (sym (judged_line m text f good e)) ∙ h)))))
+            (value_took f g (length (canon f)) n (sym (verdict_line m f good) ∙ ap (judge_frame strict (Some m)) (sym (judged_line m text f good e)) ∙ h)))))
         | inl same ↦
             let spelled = verdict-spells strict (Some m) bytes g n fits h in
             let is = first_is_canon (take n bytes) g spelled.0 in
@@ -107,7 +108,7 @@ by_verdict m text (took g n) h =
     ]
 
 decide_line : (m : ℕ) (text : List ℕ) → IsALine m text ⊎ IsNoLine m text
-decide_line m text = by_verdict m text (verdict strict (Some m) (raw_bytes (read_words (take (length text - 1) text)))) refl
+decide_line m text = by_verdict m text (judge_frame strict (Some m) (raw_bytes (read_words (take (length text - 1) text)))) refl
 
 -- ---- the first line of a text
 

@@ -4,16 +4,18 @@ use Rattle.std.specs.declared.string.ParseError.{Infallible}
 use Rattle.amqp_types.specs.Levels.{plain}
 use Rattle.amqp_wire.specs.Frames.{Frame, Raw}
 use Rattle.amqp_wire.specs.Fronts.{front}
-use Rattle.amqp_wire.specs.Verdicts.{whole}
+use Rattle.amqp_wire.specs.Verdicts.{decode_raw}
 use Rattle.amqp_stream.specs.declared.errors.StreamError.{StreamError}
 use Rattle.amqp_stream.specs.declared.errors.StreamError.TheVariants as errors
 use Rattle.amqp_stream.specs.Errors.{Cause, faulty, cut_short, budget_spent, read_failed, write_failed, out_of_memory, cause_of}
 use Rattle.std.specs.Prelude.{IfErr}
+use Rattle.amqp_stream.specs.Changes.{Change, ◌⇒◌}
+use Rattle.amqp_stream.specs.Calls.{Call, as_reported}
 use Rattle.amqp_stream.specs.Ends.{Supply, Store}
 use Rattle.amqp_stream.specs.Writing.{Gathered, GatherFails}
 use Rattle.amqp_stream.specs.Steps.{text, refused}
-use Rattle.amqp_stream.specs.Streaming.{finished, stopped_by, ending_of, as_run, IsStep, WritesBy, IsWelcome, IsDoneOrWanting}
-use Rattle.amqp_stream.specs.Transcribing.{IsOkOrNoMemory}
+use Rattle.amqp_stream.specs.Streaming.{finished, stopped_by, ending_of, as_run, plan_of, IsStep, WritesBy, IsWelcome, IsDoneOrWanting}
+use Rattle.amqp_stream.specs.Causes.{IsOkOrNoMemory}
 use Rattle.amqp_stream.specs.declared.report.RunReport.{RunReport}
 use Rattle.amqp_stream.specs.Runs.{WriterRun, NeverRan}
 use Rattle.amqp_stream.specs.Reports.{IsReportBy, WriterReport, NeverRanReport, NeverBeganReport, as_run_report, unreported}
@@ -27,7 +29,7 @@ use Rattle.amqp_lines.specs.Dumping.{dumping, WritesLines, DumpRun, IsDumpReport
 -- ---- one frame
 
 -- the line of a frame that was read
-line_step : (s t : Unit {0}) (raw : Raw) (frame : Frame) → whole raw ≡ Ok frame → IsStep dumping s t raw (line frame)
+line_step : (s t : Unit {0}) (raw : Raw) (frame : Frame) → decode_raw raw ≡ Ok frame → IsStep dumping s t raw (line frame)
 line_step s t raw frame is = record { frame = frame; is_whole = is; at_level = refl; steps = refl }
 
 pub line_gathered : (s t : Unit {0}) (raw : Raw) (text : List ℕ) (a b : Store) (before after : List ℕ) (done : Unit {0})
@@ -69,40 +71,40 @@ none_refused (f ∷ fs) = none_refused fs
 pub writes_lines : WritesLines
 writes_lines = record { text_is = lines_text; none_refused = none_refused }
 
-welcome : (m : ℕ) (bytes : List ℕ) → IsWelcome dumping tt m bytes
+welcome : (m : ℕ) (bytes : List ℕ) → IsWelcome (plan_of dumping tt m) bytes
 welcome m bytes = record { none_refused = none_refused (front plain (Some m) bytes); ends = refl }
 
 -- ---- a whole call
 
 -- a call that ran, or never began
-abbrev pub RanOrNever : {S K : Type 0} → (S → Supply) → (K → Store) → ℕ → ℕ → S → S → K → K → Result (Unit {0}) StreamError → Type 0
-RanOrNever supply store m budget source source' sink sink' r =
-    WriterRun dumping tt tt supply store m budget source source' sink sink' (as_run r)
-    ⊎ NeverRan {T = Unit {0}} tt tt source source' sink sink' (as_run {E = Infallible} r)
+abbrev pub RanOrNever : {S K : Type 0} → (S → Supply) → (K → Store) → Call S K → Result (Unit {0}) StreamError → Type 0
+RanOrNever supply store call r =
+    WriterRun dumping (tt ⇒ tt) supply store call (as_run r) ⊎ NeverRan {T = Unit {0}} (tt ⇒ tt) call.source call.sink (as_run {E = Infallible} r)
 
 ending_is : (r : Result (Unit {0}) StreamError) (error : StreamError) → r ≡ Err error → ending_of {E = Infallible} (as_run r) ≡ stopped_by (cause_of error)
 ending_is r error e = ap (λ x. ending_of (as_run x)) e
 
-never_untidy : {S K : Type 0} {supply : S → Supply} {store : K → Store} {m budget : ℕ} {source source' : S} {sink sink' : K} (r : Result (Unit {0}) StreamError)
-    → RanOrNever supply store m budget source source' sink sink' r → r ≢ Err errors.NotTidy
-never_untidy r (inl run) e = run.stream.tidy_only (ending_is r errors.NotTidy e)
+never_untidy : {S K : Type 0} {supply : S → Supply} {store : K → Store} {call : Call S K} (r : Result (Unit {0}) StreamError)
+    → RanOrNever supply store call r → r ≢ Err errors.NotTidy
+never_untidy r (inl run) e = run.stream.run.tidy_only (ending_is r errors.NotTidy e)
 never_untidy r (inr none) e = let other = sym (ending_is r errors.NotTidy e) ∙ ap ending_of none.0.no_memory in absurd cc
 
 done_or_wanting : (r : Result (Unit {0}) StreamError) → IsDoneOrWanting (ending_of {E = Infallible} (as_run r)) → IsOkOrNoMemory r
 done_or_wanting (Ok done) h = tt
 done_or_wanting (Err error) h = h
 
-dump_by : {S K : Type 0} {supply : S → Supply} {store : K → Store} {m budget : ℕ} {source source' : S} {sink sink' : K} (r : Result (Unit {0}) StreamError)
-    → WriterRun dumping tt tt supply store m budget source source' sink sink' (as_run r) → DumpRun supply store m budget source source' sink sink' r
-dump_by {m = m} r run =
-    run_by (λ goes. goes) (stream_error r errors.TurnsSpent) (λ bytes exact. exact) (λ bytes valid. (valid, welcome m bytes)) (λ goes. done_or_wanting r) run
+dump_by : {S K : Type 0} {supply : S → Supply} {store : K → Store} {call : Call S K} (r : Result (Unit {0}) StreamError)
+    → WriterRun dumping (tt ⇒ tt) supply store call (as_run r) → DumpRun supply store call r
+dump_by {call = call} r run =
+    run_by (λ goes. goes.run) (stream_error r errors.TurnsSpent) (λ bytes exact. exact)
+    (λ bytes valid. (valid, welcome call.limit bytes)) (λ goes. done_or_wanting r) run
 
 -- ---- its report
 
-report_of : (m : ℕ) (a b : Supply) (r : Result (Unit {0}) (RunReport StreamError))
-    → IfErr (as_run_report {E = Infallible} r) (IsReportBy dumping tt m a b) → IfErr r (IsDumpReport m a b)
-report_of m a b (Ok done) h = tt
-report_of m a b (Err report) h = record {
+report_of : (m : ℕ) (source : Change Supply) (r : Result (Unit {0}) (RunReport StreamError))
+    → IfErr (as_run_report {E = Infallible} r) (IsReportBy dumping tt m source) → IfErr r (IsDumpReport m source)
+report_of m source (Ok done) h = tt
+report_of m source (Err report) h = record {
   taken = h.taken;
   reads = h.reads;
   takes = h.takes;
@@ -117,28 +119,24 @@ report_of m a b (Err report) h = record {
 }
 
 -- a call that ran, or never began, with its report
-abbrev pub ReportedOrNever : {S K : Type 0} → (S → Supply) → (K → Store) → ℕ → ℕ → S → S → K → K → Result (Unit {0}) (RunReport StreamError) → Type 0
-ReportedOrNever supply store m budget source source' sink sink' r =
-    WriterReport dumping tt tt supply store m budget source source' sink sink' (as_run_report r)
-    ⊎ NeverRanReport {T = Unit {0}} tt tt source source' sink sink' (as_run_report {E = Infallible} r)
+abbrev pub ReportedOrNever : {S K : Type 0} → (S → Supply) → (K → Store) → Call S K → Result (Unit {0}) (RunReport StreamError) → Type 0
+ReportedOrNever supply store call r =
+    WriterReport dumping (tt ⇒ tt) supply store call (as_run_report r)
+    ⊎ NeverRanReport {T = Unit {0}} (tt ⇒ tt) call.source call.sink (as_run_report {E = Infallible} r)
 
-error_alone : {S K : Type 0} {supply : S → Supply} {store : K → Store} {m budget : ℕ}
-    {source source' : S} {sink sink' : K} (r : Result (Unit {0}) (RunReport StreamError))
-    → ReportedOrNever supply store m budget source source' sink sink' r → RanOrNever supply store m budget source source' sink sink' (unreported r)
+error_alone : {S K : Type 0} {supply : S → Supply} {store : K → Store} {call : Call S K} (r : Result (Unit {0}) (RunReport StreamError))
+    → ReportedOrNever supply store call r → RanOrNever supply store call (unreported r)
 error_alone r (inl run) = inl (rw unreported_as_run at run.0)
 error_alone r (inr never) = inr (rw unreported_as_run at never.0)
 
 -- No dump ends with the error that an encoding is not tidy.
-pub untidy_never : {S K : Type 0} {supply : S → Supply} {store : K → Store} {m budget : ℕ}
-    {source source' : S} {sink sink' : K} (r : Result (Unit {0}) (RunReport StreamError))
-    → ReportedOrNever supply store m budget source source' sink sink' r → unreported r ≢ Err errors.NotTidy
+pub untidy_never : {S K : Type 0} {supply : S → Supply} {store : K → Store} {call : Call S K} (r : Result (Unit {0}) (RunReport StreamError))
+    → ReportedOrNever supply store call r → unreported r ≢ Err errors.NotTidy
 untidy_never r h = never_untidy (unreported r) (error_alone r h)
 
 -- A dump with its report writes the lines of its stream and reports where it ended, or never began, out of memory.
-pub dump_report : {S K : Type 0} {supply : S → Supply} {store : K → Store} {m budget : ℕ}
-    {source source' : S} {sink sink' : K} (r : Result (Unit {0}) (RunReport StreamError))
-    → ReportedOrNever supply store m budget source source' sink sink' r
-    → DumpReport supply store m budget source source' sink sink' r ⊎ NeverBeganReport source source' sink sink' errors.NoMemory r
-dump_report {supply = supply} {m = m} {source = source} {source' = source'} r (inl run) =
-    inl (dump_by (unreported r) (rw unreported_as_run at run.0), report_of m (supply source) (supply source') r run.1)
+pub dump_report : {S K : Type 0} {supply : S → Supply} {store : K → Store} {call : Call S K} (r : Result (Unit {0}) (RunReport StreamError))
+    → ReportedOrNever supply store call r → DumpReport supply store call r ⊎ NeverBeganReport call.source call.sink errors.NoMemory r
+dump_report {supply = supply} {store = store} {call = call} r (inl run) =
+    inl (dump_by (unreported r) (rw unreported_as_run at run.0), report_of call.limit (as_reported supply store call).source r run.1)
 dump_report r (inr never) = inr (never_began_report r never)

@@ -2,6 +2,8 @@
 use Rattle.std.proofs.Common.{◌≡◌, ℕ, List, [], ◌∷◌, ◌++◌, ◌⊎◌, inr, Some, Result, Ok, Err, refl, sym, ap, subst, ◌∙◌, append_assoc, append-nil}
 use Rattle.amqp_wire.specs.Frames.{Frame}
 use Rattle.amqp_wire.specs.Canonical.{canon_frames}
+use Rattle.amqp_stream.specs.Changes.{◌⇒◌}
+use Rattle.amqp_stream.specs.Calls.{Call, call_of, as_reported}
 use Rattle.amqp_stream.specs.Ends.{Supply, Store}
 use Rattle.amqp_stream.specs.Writing.{IsPrefix}
 use Rattle.amqp_stream.proofs.Adding.{taken_of}
@@ -39,9 +41,11 @@ whole_part written all e = ([], append-nil written ∙ e)
 -- ---- the longest text in what was taken
 
 -- where a write or memory failed, lines of more frames may follow those that were decided
-followed : {m budget : ℕ} {a b : Supply} {k l : Store} {now : LinePlace} (r : Result (Unit {0}) UndumpError) (d : Decides m budget a b k l now r)
+followed : {m budget : ℕ} {a b : Supply} {k l : Store} {now : LinePlace}
+    (r : Result (Unit {0}) UndumpError) (d : Decides (call_of m budget (a ⇒ b) (k ⇒ l)) now r)
     → ((fs : List Frame) → IsPrefix d.written (canon_frames (d.frames ++ fs)) → HasWrittenUndumped (canon_frames (d.frames ++ fs)) d.written r)
-    → ((rest : List ℕ) → HasCauseUndumped budget d.taken rest a b k l r) → IsPrefix d.written (canon_frames d.frames) → Undumps m budget a b k l r
+    → ((rest : List ℕ) → HasCauseUndumped (call_of m budget (a ⇒ b) (k ⇒ l)) d.taken rest r)
+    → IsPrefix d.written (canon_frames d.frames) → Undumps (call_of m budget (a ⇒ b) (k ⇒ l)) r
 followed {m = m} r d writes cause part =
     let more = fronts_of m d.rest in
     record {
@@ -64,8 +68,9 @@ followed {m = m} r d writes cause part =
     }
 
 -- all of them were decided
-decided_all : {m budget : ℕ} {a b : Supply} {k l : Store} {now : LinePlace} (r : Result (Unit {0}) UndumpError) (d : Decides m budget a b k l now r)
-    → IsLongestText m d.taken d.frames d.rest → HasWrittenUndumped (canon_frames d.frames) d.written r → Undumps m budget a b k l r
+decided_all : {m budget : ℕ} {a b : Supply} {k l : Store} {now : LinePlace}
+    (r : Result (Unit {0}) UndumpError) (d : Decides (call_of m budget (a ⇒ b) (k ⇒ l)) now r)
+    → IsLongestText m d.taken d.frames d.rest → HasWrittenUndumped (canon_frames d.frames) d.written r → Undumps (call_of m budget (a ⇒ b) (k ⇒ l)) r
 decided_all r d text writes = record {
   taken = d.taken;
   are_bytes = d.are_bytes;
@@ -84,7 +89,7 @@ decided_all r d text writes = record {
 }
 
 undumps_of : {m budget : ℕ} {a b : Supply} {k l : Store} {now : LinePlace} (r : Result (Unit {0}) UndumpError)
-    → Decides m budget a b k l now r → Undumps m budget a b k l r
+    → Decides (call_of m budget (a ⇒ b) (k ⇒ l)) now r → Undumps (call_of m budget (a ⇒ b) (k ⇒ l)) r
 undumps_of (Ok done) d = decided_all (Ok done) d d.decided d.writes
 undumps_of (Err errors.BadText) d = decided_all (Err errors.BadText) d d.decided d.writes
 undumps_of (Err errors.CutShort) d = decided_all (Err errors.CutShort) d d.decided d.writes
@@ -96,8 +101,8 @@ undumps_of (Err errors.NoMemory) d =
 
 module _ {m budget : ℕ} {a b : Supply} {k l : Store} (bytes : List ℕ) where
   -- all bytes were taken
-  to_end : (r : Result (Unit {0}) UndumpError) (u : Undumps m budget a b k l r) → (is : Left bytes u.taken b.left)
-      → is.more ≡ [] → IsAnswerToText (canon_frames u.frames) u.rest u.written r → UndumpsExactly m bytes k l r
+  to_end : (r : Result (Unit {0}) UndumpError) (u : Undumps (call_of m budget (a ⇒ b) (k ⇒ l)) r) → (is : Left bytes u.taken b.left)
+      → is.more ≡ [] → IsAnswerToText (canon_frames u.frames) u.rest u.written r → UndumpsExactly (call_of m budget (a ⇒ b) (k ⇒ l)) bytes r
   to_end r u is none answer = record {
     frames = u.frames;
     rest = u.rest;
@@ -108,7 +113,8 @@ module _ {m budget : ℕ} {a b : Supply} {k l : Store} (bytes : List ℕ) where
   }
 
   -- no more of the bytes is a text
-  to_newline : (u : Undumps m budget a b k l (Err errors.BadText)) → (is : Left bytes u.taken b.left) → UndumpsExactly m bytes k l (Err errors.BadText)
+  to_newline : (u : Undumps (call_of m budget (a ⇒ b) (k ⇒ l)) (Err errors.BadText))
+      → (is : Left bytes u.taken b.left) → UndumpsExactly (call_of m budget (a ⇒ b) (k ⇒ l)) bytes (Err errors.BadText)
   to_newline u is = record {
     frames = u.frames;
     rest = u.rest ++ is.more;
@@ -120,9 +126,9 @@ module _ {m budget : ℕ} {a b : Supply} {k l : Store} (bytes : List ℕ) where
   }
 
   -- the call was stopped, and more of the bytes may be a text
-  stopped_at : (r : Result (Unit {0}) UndumpError) (u : Undumps m budget a b k l r) → (is : Left bytes u.taken b.left)
+  stopped_at : (r : Result (Unit {0}) UndumpError) (u : Undumps (call_of m budget (a ⇒ b) (k ⇒ l)) r) → (is : Left bytes u.taken b.left)
       → ((all rest : List ℕ) → IsPrefix u.written all → IsAnswerToText all rest u.written r)
-      → IsPrefix u.written (canon_frames u.frames) → UndumpsExactly m bytes k l r
+      → IsPrefix u.written (canon_frames u.frames) → UndumpsExactly (call_of m budget (a ⇒ b) (k ⇒ l)) bytes r
   stopped_at r u is answer part =
       let h = fronts_of m (u.rest ++ is.more) in
       let whole : bytes ≡ lines u.frames ++ (u.rest ++ is.more) =
@@ -139,10 +145,12 @@ module _ {m budget : ℕ} {a b : Supply} {k l : Store} (bytes : List ℕ) where
       }
 
   -- Over a source that reports its bytes, what is returned and written is determined by all of them.
-  pub exactly : (r : Result (Unit {0}) UndumpError) → Undumps m budget a b k l r → a.left ≡ Some bytes → UndumpsExactly m bytes k l r
+  pub exactly : (r : Result (Unit {0}) UndumpError) → Undumps (call_of m budget (a ⇒ b) (k ⇒ l)) r
+      → a.left ≡ Some bytes → UndumpsExactly (call_of m budget (a ⇒ b) (k ⇒ l)) bytes r
   exactly r u left = by_answer r u (left_of bytes u.taken b.left (taken_of left u.takes))
     where
-      by_answer : (r : Result (Unit {0}) UndumpError) (u : Undumps m budget a b k l r) → Left bytes u.taken b.left → UndumpsExactly m bytes k l r
+      by_answer : (r : Result (Unit {0}) UndumpError) (u : Undumps (call_of m budget (a ⇒ b) (k ⇒ l)) r)
+          → Left bytes u.taken b.left → UndumpsExactly (call_of m budget (a ⇒ b) (k ⇒ l)) bytes r
       by_answer (Ok done) u is = to_end (Ok done) u is (empty_left b.left is.more is.is u.cause.1) (u.cause.0, u.writes)
       by_answer (Err errors.BadText) u is = to_newline u is
       by_answer (Err errors.CutShort) u is = to_end (Err errors.CutShort) u is (empty_left b.left is.more is.is u.cause.2) (u.cause.0, u.cause.1, u.writes)
@@ -156,11 +164,10 @@ module _ {m budget : ℕ} {a b : Supply} {k l : Store} (bytes : List ℕ) where
 -- ---- a whole call
 
 -- what a call keeps that decided so
-pub undump_run : {S K : Type 0} {supply : S → Supply} {store : K → Store} {m budget : ℕ}
-    {source source' : S} {sink sink' : K} {now : LinePlace} {r : Result (Unit {0}) UndumpError}
-    → Decides m budget (supply source) (supply source') (store sink) (store sink') now r
-    → (budget ≡ 0 → source' ≡ source) → (budget ≡ 0 → sink' ≡ sink)
-    → (budget ≡ 0 → (r ≡ Err errors.TurnsSpent) ⊎ (r ≡ Err errors.NoMemory)) → UndumpRun supply store m budget source source' sink sink' r
+pub undump_run : {S K : Type 0} {supply : S → Supply} {store : K → Store} {call : Call S K} {now : LinePlace} {r : Result (Unit {0}) UndumpError}
+    → Decides (as_reported supply store call) now r
+    → (call.budget ≡ 0 → call.source.new ≡ call.source.old) → (call.budget ≡ 0 → call.sink.new ≡ call.sink.old)
+    → (call.budget ≡ 0 → (r ≡ Err errors.TurnsSpent) ⊎ (r ≡ Err errors.NoMemory)) → UndumpRun supply store call r
 undump_run {r = r} d unread unwritten spent =
     let undumps = undumps_of r d in
     record {
@@ -174,6 +181,6 @@ undump_run {r = r} d unread unwritten spent =
 
 -- memory ran out before the first read
 pub never_ran : {S K : Type 0} {supply : S → Supply} {store : K → Store} {m budget : ℕ} {source : S} {sink : K}
-    → UndumpRun supply store m budget source source sink sink (Err errors.NoMemory)
+    → UndumpRun supply store (call_of m budget (source ⇒ source) (sink ⇒ sink)) (Err errors.NoMemory)
 never_ran {supply = supply} {store = store} {m = m} {budget = budget} {source = source} {sink = sink} =
     undump_run (never_began m budget (supply source) (store sink)) (λ none. refl) (λ none. refl) (λ none. inr refl)

@@ -16,7 +16,7 @@ use Rattle.amqp_wire.specs.declared.frame_type.AMQPFrameType.TheVariants as kind
 use Rattle.amqp_wire.specs.Frames.{Frame, Proto, Meth, Head, Body, Beat, BadBeat, Raw}
 use Rattle.amqp_wire.specs.Spelling.{Spells, SpellsFrames, bytes_as}
 use Rattle.amqp_wire.specs.Canonical.{canon, payload_of}
-use Rattle.amqp_wire.specs.Verdicts.{whole, whole_as}
+use Rattle.amqp_wire.specs.Verdicts.{decode_raw, decode_payload}
 use Rattle.amqp_wire.proofs.Encoded.{spells_as}
 use Rattle.amqp_wire.proofs.Strictness.{one_strict}
 use Rattle.amqp_wire.proofs.Typed.{method_whole, header_whole}
@@ -33,8 +33,8 @@ use Rattle.amqp_lines.proofs.Deciding.{raw_in, line_back}
 
 -- ---- the payload of a strict frame is its own
 
-whole_back : (f : Frame) → Spells strict (canon f) f → whole (raw_in f) ≡ Ok f
-unfolding whole_as
+whole_back : (f : Frame) → Spells strict (canon f) f → decode_raw (raw_in f) ≡ Ok f
+unfolding decode_payload
 whole_back (Proto a b c) h = refl
 whole_back (Meth channel m) h =
     ap (read_map (λ x. Meth channel x)) (method_whole strict (payload_bytes m) m
@@ -78,7 +78,7 @@ pub none_long : (m : ℕ) (text payload : List ℕ) (found : AMQPFrameType × �
 none_long m text payload found h long f good e =
     absurd (omega (arith, ap (λ (r : Raw). length r.payload) (found_back m text payload found h f good e), payload_few f good.is_strict.encodes))
 
-faulty_not : (raw : Raw) (f : Frame) (error : StreamError) → error ≢ errors.NoMemory → whole raw ≡ Ok f → HasNoLine raw (cause_of error) → ⊥
+faulty_not : (raw : Raw) (f : Frame) (error : StreamError) → error ≢ errors.NoMemory → decode_raw raw ≡ Ok f → HasNoLine raw (cause_of error) → ⊥
 faulty_not raw f errors.NoMemory other e h = other refl
 faulty_not raw f errors.CutShort other e h = h
 faulty_not raw f errors.TurnsSpent other e h = h
@@ -91,14 +91,15 @@ pub none_put : (m : ℕ) (text payload : List ℕ) (found : AMQPFrameType × ℕ
     → ReadsWords (read_words (take (length text - 1) text)) [] payload (Ok found)
     → error ≢ errors.NoMemory → HasNoLine (found_raw found payload) (cause_of error) → IsNoLine m text
 none_put m text payload found error h other u f good e =
-    absurd (faulty_not (found_raw found payload) f error other (ap whole (found_back m text payload found h f good e) ∙ whole_back f good.is_strict.encodes) u)
+    absurd (faulty_not (found_raw found payload) f error other (ap decode_raw (found_back m text payload found h f good e)
+    ∙ whole_back f good.is_strict.encodes) u)
 
 -- the frame of a line is the one that is put
 same_frame : (m : ℕ) (text payload : List ℕ) (found : AMQPFrameType × ℕ) (g : Frame)
     → ReadsWords (read_words (take (length text - 1) text)) [] payload (Ok found)
-    → whole (found_raw found payload) ≡ Ok g → (f : Frame) → IsStrictWithin m f → text ≡ line f → f ≡ g
+    → decode_raw (found_raw found payload) ≡ Ok g → (f : Frame) → IsStrictWithin m f → text ≡ line f → f ≡ g
 same_frame m text payload found g h is f good e =
-    let x = sym (whole_back f good.is_strict.encodes) ∙ ap whole (sym (found_back m text payload found h f good e)) ∙ is in
+    let x = sym (whole_back f good.is_strict.encodes) ∙ ap decode_raw (sym (found_back m text payload found h f good e)) ∙ is in
     cc
 
 -- A text whose words are read as a frame with more canonical bytes than the limit allows is the line of no frame within it.
@@ -118,8 +119,8 @@ none_other m text payload canonical lined found done h p other f good e =
 -- ---- a text that is the line of a frame
 
 spells_plain : (kind : AMQPFrameType) (channel : ℕ) (payload : List ℕ) (f : Frame) → IsBytes payload → channel < 2 ^ 16
-    → length payload < 2 ^ 32 → whole_as kind channel payload ≡ Ok f → Spells plain (bytes_as kind channel payload) f
-unfolding whole_as
+    → length payload < 2 ^ 32 → decode_payload kind channel payload ≡ Ok f → Spells plain (bytes_as kind channel payload) f
+unfolding decode_payload
 spells_plain kinds.ProtocolHeader channel [] f fits c l h = absurd cc
 spells_plain kinds.ProtocolHeader channel (x ∷ []) f fits c l h = absurd cc
 spells_plain kinds.ProtocolHeader channel (x ∷ y ∷ []) f fits c l h = absurd cc
@@ -141,7 +142,7 @@ spells_plain kinds.Heartbeat channel payload f fits c l h =
     (record { channel_fits = c; length_fits = l; bytes_are = refl }) h refl (λ e. absurd cc)
 
 pub strict_read : (kind : AMQPFrameType) (channel : ℕ) (payload : List ℕ) (f : Frame) → IsBytes payload
-    → channel < 2 ^ 16 → length payload < 2 ^ 32 → whole_as kind channel payload ≡ Ok f → Spells strict (canon f) f
+    → channel < 2 ^ 16 → length payload < 2 ^ 32 → decode_payload kind channel payload ≡ Ok f → Spells strict (canon f) f
 strict_read kind channel payload f fits c l h =
     let bytes = bytes_as kind channel payload in
     let sequence : SpellsFrames plain None bytes (f ∷ []) = (bytes, [], sym (append-nil bytes), spells_plain kind channel payload f fits c l h, tt, refl) in

@@ -4,6 +4,8 @@ use Rattle.std.specs.Prelude.{IfErr}
 use Rattle.std.specs.List.{flat_map}
 use Rattle.std.proofs.lemmas.List.{length-append}
 use Rattle.amqp_wire.specs.Frames.{Frame, Proto, Meth, Head, Body, Beat, BadBeat}
+use Rattle.amqp_stream.specs.Changes.{◌⇒◌}
+use Rattle.amqp_stream.specs.Calls.{Call, call_of}
 use Rattle.amqp_stream.specs.Ends.{Supply, Store, last}
 use Rattle.amqp_stream.proofs.Adding.{taken_of}
 use Rattle.amqp_lines.specs.Lines.{words, line, lines}
@@ -50,8 +52,8 @@ line_after fs taken rest now parts passes fits =
 
 -- ---- the report of an error
 
-module _ {m budget : ℕ} {a b : Supply} {k l : Store} {now : LinePlace} where
-  ends_at_line : (error : UndumpError) → Decides m budget a b k l now (Err error) → EndsAtLine m budget a b k l error now.line now.place
+module _ {call : Call Supply Store} {now : LinePlace} where
+  ends_at_line : (error : UndumpError) → Decides call now (Err error) → EndsAtLine call error now.line now.place
   ends_at_line error d = record {
     taken = d.taken;
     reads = d.reads;
@@ -68,27 +70,27 @@ module _ {m budget : ℕ} {a b : Supply} {k l : Store} {now : LinePlace} where
     line_after = line_after d.frames d.taken d.rest now d.parts d.passes;
   }
 
-  ends_exactly : (error : UndumpError) → Decides m budget a b k l now (Err error) → (bytes : List ℕ) → a.left ≡ Some bytes
-      → length bytes ≤ last → EndsExactlyAt m bytes error now.line now.place
+  ends_exactly : (error : UndumpError) → Decides call now (Err error) → (bytes : List ℕ) → call.source.old.left ≡ Some bytes
+      → length bytes ≤ last → EndsExactlyAt call.limit bytes error now.line now.place
   ends_exactly errors.BadText d bytes left fits =
-      let is = left_of bytes d.taken b.left (taken_of left d.takes) in
+      let is = left_of bytes d.taken call.source.new.left (taken_of left d.takes) in
       record {
         frames = d.frames;
         rest = d.rest ++ is.more;
         text =
-            subst (λ (xs : List ℕ). IsLongestText m xs d.frames (d.rest ++ is.more)) (sym is.parts)
-            (longest_more m d.taken is.more d.frames d.rest d.cause d.decided);
+            subst (λ (xs : List ℕ). IsLongestText call.limit xs d.frames (d.rest ++ is.more)) (sym is.parts)
+            (longest_more call.limit d.taken is.more d.frames d.rest d.cause d.decided);
         line_after =
             line_after d.frames d.taken d.rest now d.parts d.passes (omega (arith, fits, ap length is.parts, length-append d.taken is.more));
       }
   ends_exactly errors.CutShort d bytes left fits =
-      let is = left_of bytes d.taken b.left (taken_of left d.takes) in
-      let none = empty_left b.left is.more is.is d.cause.2 in
+      let is = left_of bytes d.taken call.source.new.left (taken_of left d.takes) in
+      let none = empty_left call.source.new.left is.more is.is d.cause.2 in
       record {
         frames = d.frames;
         rest = d.rest;
         text =
-            subst (λ (xs : List ℕ). IsLongestText m xs d.frames d.rest)
+            subst (λ (xs : List ℕ). IsLongestText call.limit xs d.frames d.rest)
             (sym (is.parts ∙ ap (λ (xs : List ℕ). d.taken ++ xs) none ∙ append-nil d.taken)) d.decided;
         line_after =
             line_after d.frames d.taken d.rest now d.parts d.passes (omega (arith, fits, ap length is.parts, length-append d.taken is.more));
@@ -101,36 +103,34 @@ module _ {m budget : ℕ} {a b : Supply} {k l : Store} {now : LinePlace} where
 -- ---- by the result
 
 -- the report of a call that reached this line
-pub reported : {S : Type 0} (supply : S → Supply) {m budget : ℕ} {source source' : S} {k l : Store} {now : LinePlace}
-    {answer : Result (Unit {0}) UndumpError} (r : Result (Unit {0}) UndumpReport) → unreported_lines r ≡ answer
-    → IfErr r (λ report. report.line ≡ now.line) → IfErr r (λ report. report.place ≡ now.place)
-    → Decides m budget (supply source) (supply source') k l now answer → IfErr r (IsUndumpReport supply m budget source source' k l)
-reported supply (Ok done) is number place d = tt
-reported supply {m = m} {budget = budget} {source = source} {source' = source'} {k = k} {l = l} {now = now} (Err report) is number place d =
-    let h = subst (λ (r : Result (Unit {0}) UndumpError). Decides m budget (supply source) (supply source') k l now r) (sym is) d in
+pub reported : {call : Call Supply Store} {now : LinePlace} {answer : Result (Unit {0}) UndumpError} (r : Result (Unit {0}) UndumpReport)
+    → unreported_lines r ≡ answer → IfErr r (λ report. report.line ≡ now.line) → IfErr r (λ report. report.place ≡ now.place)
+    → Decides call now answer → IfErr r (IsUndumpReport call)
+reported (Ok done) is number place d = tt
+reported {call = call} {now = now} (Err report) is number place d =
+    let h = subst (λ (r : Result (Unit {0}) UndumpError). Decides call now r) (sym is) d in
     record {
       ends =
-          subst (λ (n : ℕ). EndsAtLine m budget (supply source) (supply source') k l report.error report.line n) (sym place)
-          (subst (λ (n : ℕ). EndsAtLine m budget (supply source) (supply source') k l report.error n now.place) (sym number)
-          (ends_at_line report.error h));
+          subst (λ (n : ℕ). EndsAtLine call report.error report.line n) (sym place)
+          (subst (λ (n : ℕ). EndsAtLine call report.error n now.place) (sym number) (ends_at_line report.error h));
       exact = λ bytes left fits.
-          subst (λ (n : ℕ). EndsExactlyAt m bytes report.error report.line n) (sym place)
-          (subst (λ (n : ℕ). EndsExactlyAt m bytes report.error n now.place) (sym number)
-          (ends_exactly report.error h bytes left fits));
+          subst (λ (n : ℕ). EndsExactlyAt call.limit bytes report.error report.line n) (sym place)
+          (subst (λ (n : ℕ). EndsExactlyAt call.limit bytes report.error n now.place) (sym number) (ends_exactly report.error h bytes left fits));
     }
 
 -- the result without where it ended
-pub unreported : {S K : Type 0} {supply : S → Supply} {store : K → Store} {m budget : ℕ} {source source' : S} {sink sink' : K}
+pub unreported : {S K : Type 0} {supply : S → Supply} {store : K → Store} {call : Call S K}
     {answer : Result (Unit {0}) UndumpError} (r : Result (Unit {0}) UndumpReport) → unreported_lines r ≡ answer
-    → UndumpRun supply store m budget source source' sink sink' answer → UndumpRun supply store m budget source source' sink sink' (unreported_lines r)
-unreported {supply = supply} {store = store} {m = m} {budget = budget} {source = source} {source' = source'} {sink = sink} {sink' = sink'} r is h =
-    subst (λ (x : Result (Unit {0}) UndumpError). UndumpRun supply store m budget source source' sink sink' x) (sym is) h
+    → UndumpRun supply store call answer → UndumpRun supply store call (unreported_lines r)
+unreported {supply = supply} {store = store} {call = call} r is h =
+    subst (λ (x : Result (Unit {0}) UndumpError). UndumpRun supply store call x) (sym is) h
 
 -- a call that memory did not let begin
-pub never_reported : {S : Type 0} (supply : S → Supply) (m budget : ℕ) (source : S) (k : Store) {first : LinePlace} (r : Result (Unit {0}) UndumpReport)
+pub never_reported : (m budget : ℕ) (source : Supply) (sink : Store) {first : LinePlace} (r : Result (Unit {0}) UndumpReport)
     → first ≡ first_line → unreported_lines r ≡ Err errors.NoMemory
-    → IfErr r (λ report. report.line ≡ first.line) → IfErr r (λ report. report.place ≡ first.place) → IfErr r (IsUndumpReport supply m budget source source k k)
-never_reported supply m budget source k r first_is is number place =
-    reported supply r is number place
-    (subst (λ (p : LinePlace). Decides m budget (supply source) (supply source) k k p (Err errors.NoMemory)) (sym first_is)
-    (never_began m budget (supply source) k))
+    → IfErr r (λ report. report.line ≡ first.line) → IfErr r (λ report. report.place ≡ first.place)
+    → IfErr r (IsUndumpReport (call_of m budget (source ⇒ source) (sink ⇒ sink)))
+never_reported m budget source sink r first_is is number place =
+    reported r is number place
+    (subst (λ (p : LinePlace). Decides (call_of m budget (source ⇒ source) (sink ⇒ sink)) p (Err errors.NoMemory)) (sym first_is)
+    (never_began m budget source sink))

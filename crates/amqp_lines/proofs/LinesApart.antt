@@ -15,7 +15,7 @@ use Rattle.amqp_laws.proofs.HeaderLaws.{content_headers_lawful}
 use Rattle.amqp_wire.specs.Frames.{Frame, Proto, Meth, Head, Body, Beat, BadBeat, channel_id_of}
 use Rattle.amqp_wire.specs.Spelling.{Spells, framed, head, raw_bytes}
 use Rattle.amqp_wire.specs.Canonical.{canon, payload_of}
-use Rattle.amqp_wire.specs.Verdicts.{verdict}
+use Rattle.amqp_wire.specs.Verdicts.{judge_frame}
 use Rattle.amqp_wire.proofs.Spelled.{verdict-spelled}
 use Rattle.amqp_lines.specs.Lines.{words, line, lines}
 use Rattle.amqp_lines.specs.Payloads.{IsPayload}
@@ -82,7 +82,7 @@ same_words : (f g : Frame) → IsStrict f → IsStrict g → words f ≡ words g
 same_words f g p q h =
     let bytes : canon f ≡ canon g = sym (raw_canon f) ∙ ap raw_bytes (sym (strict_back f p) ∙ ap read_words h ∙ strict_back g q) ∙ raw_canon g in
     value_took f g (length (canon f)) (length (canon g))
-    (sym (verdict-spelled strict None (canon f) f p.encodes tt) ∙ ap (verdict strict None) bytes ∙ verdict-spelled strict None (canon g) g q.encodes tt)
+    (sym (verdict-spelled strict None (canon f) f p.encodes tt) ∙ ap (judge_frame strict None) bytes ∙ verdict-spelled strict None (canon g) g q.encodes tt)
 
 same_front : (a b end : List ℕ) → a ++ end ≡ b ++ end → a ≡ b
 same_front a b end h =

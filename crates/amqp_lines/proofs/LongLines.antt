@@ -8,6 +8,8 @@ use Rattle.std.proofs.lemmas.List.{length-take, length-take-le, take-append-le, 
 use Rattle.amqp_wire.specs.Frames.{Frame}
 use Rattle.amqp_wire.specs.Canonical.{canon, canon_frames}
 use Rattle.amqp_stream.specs.declared.sink.SinkFault.{SinkFault}
+use Rattle.amqp_stream.specs.Changes.{◌⇒◌}
+use Rattle.amqp_stream.specs.Calls.{call_of}
 use Rattle.amqp_stream.specs.Ends.{Supply, Store}
 use Rattle.amqp_stream.specs.Writing.{WritesAll, Gathered, GatherFails}
 use Rattle.amqp_lines.specs.Lines.{line, lines, longest_line}
@@ -193,7 +195,7 @@ holds_first m budget a k kept at none first =
 
 -- Where the read budget is spent, the call ends with that error.
 pub held_spent : {m budget left : ℕ} {a b : Supply} {k l : Store} {kept : List ℕ} {at : LinePlace}
-    → Holding m budget left a b k l kept at → left ≡ 0 → Decides m budget a b k l at (Err errors.TurnsSpent)
+    → Holding m budget left a b k l kept at → left ≡ 0 → Decides (call_of m budget (a ⇒ b) (k ⇒ l)) at (Err errors.TurnsSpent)
 held_spent h none = ends_spent h.going none
 
 -- a read that failed says nothing of what was held before it
@@ -205,7 +207,7 @@ failed_as b c error before after held other piece h = absurd h
 
 -- Where a read or memory for it fails, the call ends with that error.
 pub held_at_read : {m budget left : ℕ} {a b c : Supply} {k l : Store} {kept after : List ℕ} {at : LinePlace} (error : UndumpError)
-    → Holding m budget left a b k l kept at → 0 < left → ReadsOnce b c kept after (Err error) → Decides m budget a c k l at (Err error)
+    → Holding m budget left a b k l kept at → 0 < left → ReadsOnce b c kept after (Err error) → Decides (call_of m budget (a ⇒ c) (k ⇒ l)) at (Err error)
 held_at_read {b = b} {c = c} {kept = kept} {after = after} error h some read =
     ends_at_read {after = after} error h.going some (record {
       piece = read.piece;
@@ -228,7 +230,8 @@ same_end (suc n) (x ∷ xs) piece h = refl
 
 -- At the end of input the call ends well where nothing is held, and else with a line cut short.
 pub held_at_end : {m budget left n : ℕ} {a b c : Supply} {k l : Store} {kept after : List ℕ} {at : LinePlace} {r : Result (Unit {0}) UndumpError}
-    → Holding m budget left a b k l kept at → 0 < left → ReadsOnce b c kept after (Ok n) → n ≡ 0 → r ≡ end_of_text after → Decides m budget a c k l at r
+    → Holding m budget left a b k l kept at → 0 < left → ReadsOnce b c kept after (Ok n)
+    → n ≡ 0 → r ≡ end_of_text after → Decides (call_of m budget (a ⇒ c) (k ⇒ l)) at r
 held_at_end {m = m} h some read none is =
     let text = read.reads.0 ∙ ap (λ (xs : List ℕ). xs ++ read.piece) h.kept_is in
     ends_at_end h.going some (read_whole h.held read) none
@@ -238,7 +241,7 @@ held_at_end {m = m} h some read none is =
 pub held_at_lines : {m budget left n : ℕ} {a b c : Supply} {k l l' l'' : Store}
     {kept after pending : List ℕ} {at now : LinePlace} {r : Result (Unit {0}) UndumpError} (error : UndumpError)
     → Holding m budget left a b k l kept at → 0 < left → ReadsOnce b c kept after (Ok n)
-    → GathersLines m after at now l l' [] pending (Err error) → StopsWith l' l'' pending error r → Decides m budget a c k l'' now r
+    → GathersLines m after at now l l' [] pending (Err error) → StopsWith l' l'' pending error r → Decides (call_of m budget (a ⇒ c) (k ⇒ l'')) now r
 held_at_lines {m = m} {l = l} {l' = l'} {pending = pending} {at = at} {now = now} error h some read g stop =
     let text = read.reads.0 ∙ ap (λ (xs : List ℕ). xs ++ read.piece) h.kept_is in
     ends_at_lines error h.going some (read_whole h.held read)
@@ -247,7 +250,7 @@ held_at_lines {m = m} {l = l} {l' = l'} {pending = pending} {at = at} {now = now
 -- Where the canonical bytes of lines cannot be written, the call ends with that error.
 pub held_unflushed : {m budget left n place : ℕ} {a b c : Supply} {k l l' l'' : Store} {kept after pending : List ℕ} {at now : LinePlace} {bad : SinkFault}
     → Holding m budget left a b k l kept at → 0 < left → ReadsOnce b c kept after (Ok n) → GathersLines m after at now l l' [] pending (Ok place)
-    → WritesAll l' l'' pending (Err bad) → Decides m budget a c k l'' now (Err errors.WriteFault)
+    → WritesAll l' l'' pending (Err bad) → Decides (call_of m budget (a ⇒ c) (k ⇒ l'')) now (Err errors.WriteFault)
 held_unflushed {m = m} {place = place} {l = l} {l' = l'} {pending = pending} {at = at} {now = now} h some read g f =
     let text = read.reads.0 ∙ ap (λ (xs : List ℕ). xs ++ read.piece) h.kept_is in
     let all = unclip_ok place h.going.clean (subst (λ (xs : List ℕ). GathersLines m xs at now l l' [] pending (Ok place)) text g) in

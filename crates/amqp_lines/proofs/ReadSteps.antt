@@ -5,7 +5,7 @@ use Rattle.std.specs.Prelude.{◌==◌}
 use Rattle.std.proofs.lemmas.List.{length-append, length-replicate, take_at, drop_at}
 use Rattle.amqp_types.specs.Tags.{tag_at}
 use Rattle.amqp_types.specs.Writing.{written}
-use Rattle.amqp_types.proofs.Written.{written-length}
+use Rattle.amqp_types.proofs.WrittenParts.{written-length}
 use Rattle.amqp_types.specs.declared.tag.FieldTag.{FieldTag}
 use Rattle.amqp_types.specs.declared.errors.NoMemory.{NoMemory}
 use Rattle.amqp_canonical.specs.declared.shapes.Form.{Form}

@@ -15,7 +15,8 @@ use Rattle.amqp_wire.proofs.Encoded.{verdict-spells}
 use Rattle.amqp_wire.proofs.ReadingBack.{reads_back}
 use Rattle.amqp_wire.proofs.Sequences.{front-is_sequence, one_sequence}
 use Rattle.amqp_wire.proofs.Strictness.{one_strict, sequence_shortest}
-use Rattle.amqp_stream.specs.Ends.{Store, Gains}
+use Rattle.amqp_stream.specs.Ends.{Supply, Store, Gains}
+use Rattle.amqp_stream.specs.Calls.{Call}
 use Rattle.amqp_lines.specs.Dumping.{dumped}
 use Rattle.amqp_lines.specs.Laws.{IsStrict}
 use Rattle.amqp_lines.specs.Lines.{line, lines}
@@ -65,26 +66,27 @@ dumped_back m bytes fits =
     is_longest m (lines frames) frames [] (all_strict m frames good) (sym (append-nil (lines frames))) (at_clean m [] tt)
 
 -- what stands after the text, and is none of it
-undoes : (m : ℕ) (bytes : List ℕ) (k l : Store) (r : Result (Unit {0}) UndumpError) (u : UndumpsExactly m (dumped m bytes) k l r)
-    → u.frames ≡ front plain (Some m) bytes → u.rest ≡ [] → Undoes m bytes k l r
-undoes m bytes k l (Ok done) u frames none = record {
+undoes : (call : Call Supply Store) (bytes : List ℕ) (r : Result (Unit {0}) UndumpError) (u : UndumpsExactly call (dumped call.limit bytes) r)
+    → u.frames ≡ front plain (Some call.limit) bytes → u.rest ≡ [] → Undoes call.limit bytes call.sink r
+undoes call bytes (Ok done) u frames none = record {
   never_bad = λ e. absurd cc;
   never_short = λ e. absurd cc;
-  written = λ e. subst (λ (xs : List ℕ). Gains k l xs) (u.answer.1 ∙ ap canon_frames frames) u.gains;
+  written = λ e. subst (λ (xs : List ℕ). Gains call.sink.old call.sink.new xs) (u.answer.1 ∙ ap canon_frames frames) u.gains;
 }
-undoes m bytes k l (Err errors.BadText) u frames none = absurd (holds_none u.rest (subst HasNoNewline (sym none) tt) u.answer.0)
-undoes m bytes k l (Err errors.CutShort) u frames none = absurd (u.answer.0 none)
-undoes m bytes k l (Err errors.TurnsSpent) u frames none = record { never_bad = λ e. absurd cc; never_short = λ e. absurd cc; written = λ e. absurd cc }
-undoes m bytes k l (Err errors.ReadFault) u frames none = record { never_bad = λ e. absurd cc; never_short = λ e. absurd cc; written = λ e. absurd cc }
-undoes m bytes k l (Err errors.WriteFault) u frames none = record { never_bad = λ e. absurd cc; never_short = λ e. absurd cc; written = λ e. absurd cc }
-undoes m bytes k l (Err errors.NoMemory) u frames none = record { never_bad = λ e. absurd cc; never_short = λ e. absurd cc; written = λ e. absurd cc }
+undoes call bytes (Err errors.BadText) u frames none = absurd (holds_none u.rest (subst HasNoNewline (sym none) tt) u.answer.0)
+undoes call bytes (Err errors.CutShort) u frames none = absurd (u.answer.0 none)
+undoes call bytes (Err errors.TurnsSpent) u frames none = record { never_bad = λ e. absurd cc; never_short = λ e. absurd cc; written = λ e. absurd cc }
+undoes call bytes (Err errors.ReadFault) u frames none = record { never_bad = λ e. absurd cc; never_short = λ e. absurd cc; written = λ e. absurd cc }
+undoes call bytes (Err errors.WriteFault) u frames none = record { never_bad = λ e. absurd cc; never_short = λ e. absurd cc; written = λ e. absurd cc }
+undoes call bytes (Err errors.NoMemory) u frames none = record { never_bad = λ e. absurd cc; never_short = λ e. absurd cc; written = λ e. absurd cc }
 
 -- Reading back what was dumped finds no bad line, and writes the canonical bytes of the frames at the front of the bytes.
-pub undump_undoes : (m : ℕ) (bytes : List ℕ) (k l : Store) (r : Result (Unit {0}) UndumpError)
-    → IsBytes bytes → UndumpsExactly m (dumped m bytes) k l r → Undoes m bytes k l r
-undump_undoes m bytes k l r fits u =
+pub undump_undoes : (call : Call Supply Store) (bytes : List ℕ) (r : Result (Unit {0}) UndumpError)
+    → IsBytes bytes → UndumpsExactly call (dumped call.limit bytes) r → Undoes call.limit bytes call.sink r
+undump_undoes call bytes r fits u =
+    let m = call.limit in
     let same = one_longest m (dumped m bytes) u.frames (front plain (Some m) bytes) u.rest [] u.text (dumped_back m bytes fits) in
-    undoes m bytes k l r u same.frames same.rests
+    undoes call bytes r u same.frames same.rests
 
 -- ---- strict bytes and texts
 

@@ -8,6 +8,8 @@ use Rattle.amqp_types.specs.Judging.{IsBytes}
 use Rattle.amqp_wire.specs.Frames.{Frame}
 use Rattle.amqp_wire.specs.Canonical.{canon_frames}
 use Rattle.amqp_stream.specs.declared.sink.SinkFault.{SinkFault}
+use Rattle.amqp_stream.specs.Changes.{◌⇒◌}
+use Rattle.amqp_stream.specs.Calls.{call_of}
 use Rattle.amqp_stream.specs.Ends.{Supply, Store, Takes, Gains, IsEmpty}
 use Rattle.amqp_stream.specs.Writing.{WritesAll, Gathered, GatherFails}
 use Rattle.amqp_stream.proofs.Adding.{IsBytes-append, IsBytes-nil, Takes-then, Takes-none, Gains-then, Gains-none, Rises-later}
@@ -124,8 +126,8 @@ ended : {m budget left : ℕ} {a b : Supply} {k l : Store} {held : List ℕ} {at
     → (g : Going m budget left a b k l held at) → IsBytes piece → length piece ≤ read_size → Takes b c piece n → n ≤ left
     → AllStrict m frames → held ++ piece ≡ lines frames ++ rest → AreDecided m (held ++ piece) frames rest r
     → PassesLines frames at now → Gains l l' written → HasWrittenDecided (canon_frames frames) written r
-    → HasCauseUndumped budget ((lines g.frames ++ held) ++ piece) rest a c k l' r
-    → (r ≡ Err errors.TurnsSpent → budget - left + n ≡ budget) → Decides m budget a c k l' now r
+    → HasCauseUndumped (call_of m budget (a ⇒ c) (k ⇒ l')) ((lines g.frames ++ held) ++ piece) rest r
+    → (r ≡ Err errors.TurnsSpent → budget - left + n ≡ budget) → Decides (call_of m budget (a ⇒ c) (k ⇒ l')) now r
 ended {m = m} {budget = budget} {left = left} {a = a} {b = b} {k = k} {l = l} {held = held} {at = at}
     n c l' now piece frames rest written r g fits few takes some good parts decided passes gains writes cause all_spent =
     let whole : (lines g.frames ++ held) ++ piece ≡ lines g.frames ++ (held ++ piece) = append_assoc (lines g.frames) held piece in
@@ -175,8 +177,8 @@ clean_decided m held (Err error) none = is_longest m (held ++ []) [] held tt (ap
 
 idle : {m budget left : ℕ} {a b : Supply} {k l : Store} {held : List ℕ} {at : LinePlace} (n : ℕ) (c : Supply) (r : Result (Unit {0}) UndumpError)
     → (g : Going m budget left a b k l held at) → Takes b c [] n → n ≤ left
-    → HasCauseUndumped budget ((lines g.frames ++ held) ++ []) held a c k l r
-    → (r ≡ Err errors.TurnsSpent → budget - left + n ≡ budget) → Decides m budget a c k l at r
+    → HasCauseUndumped (call_of m budget (a ⇒ c) (k ⇒ l)) ((lines g.frames ++ held) ++ []) held r
+    → (r ≡ Err errors.TurnsSpent → budget - left + n ≡ budget) → Decides (call_of m budget (a ⇒ c) (k ⇒ l)) at r
 unfolding lines
 idle {m = m} {l = l} {held = held} {at = at} n c r g takes some cause all_spent =
     ended n c l at [] [] held [] r g IsBytes-nil (omega arith) takes some tt (append-nil held) (clean_decided m held r g.clean)
@@ -184,7 +186,7 @@ idle {m = m} {l = l} {held = held} {at = at} n c r g takes some cause all_spent 
 
 -- Where the read budget is spent, the call ends with that error.
 pub ends_spent : {m budget left : ℕ} {a b : Supply} {k l : Store} {held : List ℕ} {at : LinePlace}
-    → Going m budget left a b k l held at → left ≡ 0 → Decides m budget a b k l at (Err errors.TurnsSpent)
+    → Going m budget left a b k l held at → left ≡ 0 → Decides (call_of m budget (a ⇒ b) (k ⇒ l)) at (Err errors.TurnsSpent)
 ends_spent {budget = budget} {left = left} {b = b} {held = held} g zero =
     idle 0 b (Err errors.TurnsSpent) g (Takes-none b) (omega arith)
     (omega (arith, g.falls, zero, length-append (lines g.frames ++ held) []), holds_none held g.clean) (λ e. omega (arith, zero))
@@ -195,13 +197,13 @@ nil_piece (x ∷ xs) h = absurd (omega arith)
 
 -- Where a read fails, the call ends with that error.
 pub ends_unread : {m budget left : ℕ} {a b c : Supply} {k l : Store} {held after : List ℕ} {at : LinePlace} → Going m budget left a b k l held at
-    → 0 < left → ReadsOnce b c held after (Err errors.ReadFault) → Decides m budget a c k l at (Err errors.ReadFault)
+    → 0 < left → ReadsOnce b c held after (Err errors.ReadFault) → Decides (call_of m budget (a ⇒ c) (k ⇒ l)) at (Err errors.ReadFault)
 ends_unread {a = a} {b = b} {c = c} {held = held} g some h =
     idle 1 c (Err errors.ReadFault) g (subst (λ (xs : List ℕ). Takes b c xs 1) h.reads.0 h.takes) (omega (arith, some))
     (Rises-later a.faults b.faults c.faults g.takes.faults h.takes.faults h.reads.1, holds_none held g.clean) (λ e. absurd cc)
 
 pub ends_unheld : {m budget left : ℕ} {a b c : Supply} {k l : Store} {held after : List ℕ} {at : LinePlace} → Going m budget left a b k l held at
-    → 0 < left → ReadsOnce b c held after (Err errors.NoMemory) → Decides m budget a c k l at (Err errors.NoMemory)
+    → 0 < left → ReadsOnce b c held after (Err errors.NoMemory) → Decides (call_of m budget (a ⇒ c) (k ⇒ l)) at (Err errors.NoMemory)
 unfolding lines
 ends_unheld {m = m} {c = c} {l = l} {held = held} {at = at} g some h =
     let all = held ++ h.piece in
@@ -210,7 +212,7 @@ ends_unheld {m = m} {c = c} {l = l} {held = held} {at = at} g some h =
 
 -- why nothing was held after a read
 pub ends_at_read : {m budget left : ℕ} {a b c : Supply} {k l : Store} {held after : List ℕ} {at : LinePlace} (error : UndumpError)
-    → Going m budget left a b k l held at → 0 < left → ReadsOnce b c held after (Err error) → Decides m budget a c k l at (Err error)
+    → Going m budget left a b k l held at → 0 < left → ReadsOnce b c held after (Err error) → Decides (call_of m budget (a ⇒ c) (k ⇒ l)) at (Err error)
 ends_at_read errors.ReadFault g some h = ends_unread g some h
 ends_at_read errors.NoMemory g some h = ends_unheld g some h
 ends_at_read error g some h = absurd h.reads
@@ -218,18 +220,19 @@ ends_at_read error g some h = absurd h.reads
 -- ---- the end of input
 
 end_at : {m budget left : ℕ} {a b c : Supply} {k l : Store} {at : LinePlace} (held : List ℕ) (g : Going m budget left a b k l held at)
-    → 0 < left → Takes b c [] 1 → IsEmpty c.left → Decides m budget a c k l at (end_of_text held)
+    → 0 < left → Takes b c [] 1 → IsEmpty c.left → Decides (call_of m budget (a ⇒ c) (k ⇒ l)) at (end_of_text held)
 end_at {c = c} [] g some takes empty = idle 1 c (Ok tt) g takes (omega (arith, some)) (refl, empty) (λ e. absurd cc)
 end_at {c = c} (byte ∷ bytes) g some takes empty =
     idle 1 c (Err errors.CutShort) g takes (omega (arith, some)) ((λ e. absurd cc), holds_none (byte ∷ bytes) g.clean, empty) (λ e. absurd cc)
 
 -- At the end of input the call ends well where nothing is held, and else with a line cut short.
 pub ends_at_end : {m budget left n : ℕ} {a b c : Supply} {k l : Store} {held after : List ℕ} {at : LinePlace} {r : Result (Unit {0}) UndumpError}
-    → Going m budget left a b k l held at → 0 < left → ReadsOnce b c held after (Ok n) → n ≡ 0 → r ≡ end_of_text after → Decides m budget a c k l at r
+    → Going m budget left a b k l held at → 0 < left → ReadsOnce b c held after (Ok n)
+    → n ≡ 0 → r ≡ end_of_text after → Decides (call_of m budget (a ⇒ c) (k ⇒ l)) at r
 ends_at_end {m = m} {budget = budget} {a = a} {b = b} {c = c} {k = k} {l = l} {held = held} {after = after} {at = at} g some h zero is =
     let none : h.piece ≡ [] = nil_piece h.piece (h.reads.1 ∙ zero) in
     let same : after ≡ held = h.reads.0 ∙ ap (λ (xs : List ℕ). held ++ xs) none ∙ append-nil held in
-    subst (λ (r : Result (Unit {0}) UndumpError). Decides m budget a c k l at r) (sym (is ∙ ap end_of_text same))
+    subst (λ (r : Result (Unit {0}) UndumpError). Decides (call_of m budget (a ⇒ c) (k ⇒ l)) at r) (sym (is ∙ ap end_of_text same))
     (end_at held g some (subst (λ (xs : List ℕ). Takes b c xs 1) none h.takes) (h.reads.2 zero))
 
 -- ---- lines that are gathered after a read
@@ -293,7 +296,7 @@ some_gathered {m = m} {held = held} r g read h decided =
 unflushed : {m budget left n : ℕ} {a b c : Supply} {k l l' l'' : Store} {held after pending : List ℕ} {at now : LinePlace} {bad : SinkFault}
     {frames : List Frame} {rest : List ℕ} → (g : Going m budget left a b k l held at) → 0 < left → (read : ReadsOnce b c held after (Ok n))
     → Gathering m held read.piece at now frames rest (Err errors.WriteFault) → Gathered l l' [] pending (canon_frames frames)
-    → WritesAll l' l'' pending (Err bad) → Decides m budget a c k l'' now (Err errors.WriteFault)
+    → WritesAll l' l'' pending (Err bad) → Decides (call_of m budget (a ⇒ c) (k ⇒ l'')) now (Err errors.WriteFault)
 unflushed {c = c} {k = k} {l = l} {l' = l'} {l'' = l''} {now = now} {frames = frames} {rest = rest} g some read d h f =
     let w = h.written in
     let q = f.prefix.0 in
@@ -306,15 +309,15 @@ unflushed {c = c} {k = k} {l = l} {l' = l'} {l'' = l''} {now = now} {frames = fr
 -- Where the canonical bytes of lines cannot be written, the call ends with that error.
 pub ends_unflushed : {m budget left n place : ℕ} {a b c : Supply} {k l l' l'' : Store} {held after pending : List ℕ} {at now : LinePlace} {bad : SinkFault}
     → Going m budget left a b k l held at → 0 < left → ReadsOnce b c held after (Ok n) → GathersLines m after at now l l' [] pending (Ok place)
-    → WritesAll l' l'' pending (Err bad) → Decides m budget a c k l'' now (Err errors.WriteFault)
+    → WritesAll l' l'' pending (Err bad) → Decides (call_of m budget (a ⇒ c) (k ⇒ l'')) now (Err errors.WriteFault)
 ends_unflushed g some read h f = unflushed g some read (some_gathered (Err errors.WriteFault) g read h (λ none. none)) h.gathers.2 f
 
 flushed : {m budget left n : ℕ} {a b c : Supply} {k l l' l'' : Store} {held after pending : List ℕ} {at now : LinePlace} {done : Unit {0}}
     {frames : List Frame} {rest : List ℕ} (error : UndumpError)
     → (g : Going m budget left a b k l held at) → 0 < left → (read : ReadsOnce b c held after (Ok n))
     → Gathering m held read.piece at now frames rest (Err error) → Gathered l l' [] pending (canon_frames frames) → WritesAll l' l'' pending (Ok done)
-    → HasCauseUndumped budget ((lines g.frames ++ held) ++ read.piece) rest a c k l'' (Err error)
-    → error ≢ errors.TurnsSpent → Decides m budget a c k l'' now (Err error)
+    → HasCauseUndumped (call_of m budget (a ⇒ c) (k ⇒ l'')) ((lines g.frames ++ held) ++ read.piece) rest (Err error)
+    → error ≢ errors.TurnsSpent → Decides (call_of m budget (a ⇒ c) (k ⇒ l'')) now (Err error)
 flushed {c = c} {l = l} {l' = l'} {l'' = l''} {now = now} {frames = frames} {rest = rest} error g some read d h f cause other =
     let w = h.written in
     ended 1 c l'' now read.piece frames rest (w ++ f.piece) (Err error) g read.are_bytes read.few read.takes
@@ -327,7 +330,8 @@ failed : {m budget left n : ℕ} {a b c : Supply} {k l l' l'' : Store} {held aft
     {frames : List Frame} {rest : List ℕ} (written : Result (Unit {0}) SinkFault)
     → (g : Going m budget left a b k l held at) → 0 < left → (read : ReadsOnce b c held after (Ok n))
     → Gathering m held read.piece at now frames rest (Err errors.WriteFault)
-    → GatherFails l l' [] pending (canon_frames frames) → WritesAll l' l'' pending written → Decides m budget a c k l'' now (Err errors.WriteFault)
+    → GatherFails l l' [] pending (canon_frames frames) → WritesAll l' l'' pending written
+    → Decides (call_of m budget (a ⇒ c) (k ⇒ l'')) now (Err errors.WriteFault)
 failed {c = c} {k = k} {l = l} {l' = l'} {l'' = l''} {now = now} {frames = frames} {rest = rest} written g some read d h f =
     let none : f.piece ≡ [] = nil_piece f.piece (omega (arith, length-append f.piece f.prefix.0, ap length (f.prefix.1 ∙ h.none))) in
     let all : (h.piece ++ f.piece) ++ h.prefix.0 ≡ canon_frames frames =
@@ -339,7 +343,8 @@ failed {c = c} {k = k} {l = l} {l' = l'} {l'' = l''} {now = now} {frames = frame
 -- lines that were not all gathered
 stop_by : {m budget left n : ℕ} {a b c : Supply} {k l l' l'' : Store} {held after pending : List ℕ} {at now : LinePlace}
     (error : UndumpError) (written : Result (Unit {0}) SinkFault) → Going m budget left a b k l held at → 0 < left → ReadsOnce b c held after (Ok n)
-    → GathersLines m after at now l l' [] pending (Err error) → WritesAll l' l'' pending written → Decides m budget a c k l'' now (stopped error written)
+    → GathersLines m after at now l l' [] pending (Err error) → WritesAll l' l'' pending written
+    → Decides (call_of m budget (a ⇒ c) (k ⇒ l'')) now (stopped error written)
 stop_by errors.BadText (Ok done) g some read h f =
     flushed errors.BadText g some read (some_gathered (Err errors.BadText) g read h (λ none. h.gathers.0)) h.gathers.2 f h.gathers.1 (λ e. absurd cc)
 stop_by errors.BadText (Err bad) g some read h f = unflushed g some read (some_gathered (Err errors.WriteFault) g read h (λ none. none)) h.gathers.2 f
@@ -354,10 +359,11 @@ stop_by error written g some read h f = absurd h.gathers
 pub ends_at_lines : {m budget left n : ℕ} {a b c : Supply} {k l l' l'' : Store}
     {held after pending : List ℕ} {at now : LinePlace} {r : Result (Unit {0}) UndumpError} (error : UndumpError)
     → Going m budget left a b k l held at → 0 < left → ReadsOnce b c held after (Ok n)
-    → GathersLines m after at now l l' [] pending (Err error) → StopsWith l' l'' pending error r → Decides m budget a c k l'' now r
+    → GathersLines m after at now l l' [] pending (Err error) → StopsWith l' l'' pending error r → Decides (call_of m budget (a ⇒ c) (k ⇒ l'')) now r
 ends_at_lines {m = m} {budget = budget} {a = a} {c = c} {k = k} {l'' = l''} {now = now} error g some read h stop =
-    subst (λ (r : Result (Unit {0}) UndumpError). Decides m budget a c k l'' now r) (sym stop.answer) (stop_by error stop.written g some read h stop.writes)
+    subst (λ (r : Result (Unit {0}) UndumpError). Decides (call_of m budget (a ⇒ c) (k ⇒ l'')) now r)
+    (sym stop.answer) (stop_by error stop.written g some read h stop.writes)
 
 -- memory ran out before the first read
-pub never_began : (m budget : ℕ) (a : Supply) (k : Store) → Decides m budget a a k k first_line (Err errors.NoMemory)
+pub never_began : (m budget : ℕ) (a : Supply) (k : Store) → Decides (call_of m budget (a ⇒ a) (k ⇒ k)) first_line (Err errors.NoMemory)
 never_began m budget a k = idle 0 a (Err errors.NoMemory) (begins m budget a k) (Takes-none a) (omega arith) tt (λ e. absurd cc)

@@ -7,11 +7,15 @@ use Rattle.amqp_stream.specs.declared.errors.StreamError.{StreamError}
 use Rattle.amqp_stream.specs.declared.errors.StreamError.TheVariants as errors
 use Rattle.amqp_stream.specs.declared.report.RunReport.{RunReport}
 use Rattle.amqp_stream.specs.Errors.{cause_of}
+use Rattle.amqp_stream.specs.Changes.{Change}
+use Rattle.amqp_stream.specs.Calls.{Call, as_reported}
 use Rattle.amqp_stream.specs.Ends.{Supply, Store}
 use Rattle.amqp_stream.specs.Steps.{Manner, text, refused}
-use Rattle.amqp_stream.specs.Streaming.{stopped_by, Streams, StreamsExactly, as_run, ending_of}
-use Rattle.amqp_stream.specs.Transcribing.{transcript, IsValid, IsOkOrNoMemory}
-use Rattle.amqp_stream.specs.Runs.{Runs}
+use Rattle.amqp_stream.specs.Streaming.{stopped_by, plan_of, Streams, StreamsExactly}
+use Rattle.amqp_stream.specs.Streaming.{as_run, ending_of}
+use Rattle.amqp_stream.specs.Causes.{IsValid, IsOkOrNoMemory}
+use Rattle.amqp_stream.specs.Transcribing.{transcript}
+use Rattle.amqp_stream.specs.Runs.{Claims, Runs}
 use Rattle.amqp_stream.specs.Reports.{EndsAt, IsRestBy, unreported}
 use Rattle.amqp_lines.specs.Lines.{line, lines}
 
@@ -35,35 +39,41 @@ pub record WritesLines : Type 0 where
   pub text_is : (frames : List Frame) → text dumping tt frames ≡ lines frames
   pub none_refused : (frames : List Frame) → refused dumping tt frames ≡ None
 
--- A whole call: a is the source before it and b after it, k and l the sink.
-abbrev pub Dumps : ℕ → ℕ → Supply → Supply → Store → Store → Result (Unit {0}) StreamError → Type 0
-Dumps m budget a b k l result = Streams dumping tt tt m budget a b k l (ending_of (as_run result))
+-- a whole call
+abbrev pub Dumps : Call Supply Store → Result (Unit {0}) StreamError → Type 0
+Dumps call result = Streams (plan_of dumping tt call.limit) call (ending_of (as_run result))
 
 -- what a call returns over a source that reports its bytes
-abbrev pub DumpsExactly : ℕ → List ℕ → Store → Store → Result (Unit {0}) StreamError → Type 0
-DumpsExactly m bytes k l result = StreamsExactly dumping tt m bytes k l (ending_of (as_run result))
+abbrev pub DumpsExactly : Call Supply Store
+    → List ℕ → Result (Unit {0}) StreamError → Type 0
+DumpsExactly call bytes result =
+    StreamsExactly (plan_of dumping tt call.limit) call bytes (ending_of (as_run result))
 
--- a run that writes the lines of the frames
+-- what is claimed of a run that writes the lines of the frames
+abbrev pub dump_claims : Call Supply Store → Result (Unit {0}) StreamError → Claims
+dump_claims call result = record {
+  Goes = Dumps call result;
+  IsSpent = result ≡ Err errors.TurnsSpent;
+  Exactly = λ bytes. DumpsExactly call bytes result;
+  Accepts = IsValid plain call.limit call.budget;
+  IsDone = IsOkOrNoMemory result;
+}
+
+-- such a run
 abbrev pub DumpRun : {S K : Type 0} → (S → Supply) → (K → Store)
-    → ℕ → ℕ → S → S → K → K → Result (Unit {0}) StreamError → Type 0
-DumpRun supply store m budget source source' sink sink' result =
-    Runs supply store budget source source' sink sink'
-    (Dumps m budget (supply source) (supply source') (store sink) (store sink') result)
-    (result ≡ Err errors.TurnsSpent)
-    (λ bytes. DumpsExactly m bytes (store sink) (store sink') result)
-    (IsValid plain m budget)
-    (IsOkOrNoMemory result)
+    → Call S K → Result (Unit {0}) StreamError → Type 0
+DumpRun supply store call result =
+    Runs supply store call (dump_claims (as_reported supply store call) result)
 
--- the report of such a run
-abbrev pub IsDumpReport : ℕ → Supply → Supply → RunReport StreamError → Type 0
-IsDumpReport m a b report =
-    EndsAt plain m a b
+-- its report
+abbrev pub IsDumpReport : ℕ → Change Supply → RunReport StreamError → Type 0
+IsDumpReport m source report = EndsAt plain m source
     (λ taken sequence rest. IsRestBy dumping tt m taken rest (stopped_by (cause_of report.error)))
     report.place report.channel
 
 -- such a run, with its report
-abbrev pub DumpReport : {S K : Type 0} → (S → Supply) → (K → Store) → ℕ → ℕ
-    → S → S → K → K → Result (Unit {0}) (RunReport StreamError) → Type 0
-DumpReport supply store m budget source source' sink sink' result =
-    DumpRun supply store m budget source source' sink sink' (unreported result)
-    × IfErr result (IsDumpReport m (supply source) (supply source'))
+abbrev pub DumpReport : {S K : Type 0} → (S → Supply) → (K → Store)
+    → Call S K → Result (Unit {0}) (RunReport StreamError) → Type 0
+DumpReport supply store call result =
+    DumpRun supply store call (unreported result)
+    × IfErr result (IsDumpReport call.limit (as_reported supply store call).source)

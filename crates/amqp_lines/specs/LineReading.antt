@@ -6,6 +6,7 @@ use Rattle.amqp_types.specs.declared.errors.NoMemory.{NoMemory}
 use Rattle.amqp_types.specs.Judging.{IsBytes}
 use Rattle.amqp_wire.specs.Frames.{Frame}
 use Rattle.amqp_wire.specs.Canonical.{canon_frames}
+use Rattle.amqp_stream.specs.Calls.{Call}
 use Rattle.amqp_stream.specs.Ends.{Supply, Store, Takes, Gains, Rises, IsEmpty, last}
 use Rattle.amqp_stream.specs.declared.sink.SinkFault.{SinkFault}
 use Rattle.amqp_stream.specs.Writing.{WritesAll, Gathered, GatherFails, Keeps}
@@ -130,22 +131,22 @@ end_of_text (byte ∷ bytes) = Err errors.CutShort
 
 -- A whole call, and the line that it reached: of what was taken, the lines of these frames were
 -- decided, and their canonical bytes written.
-pub record Decides (m budget : ℕ) (a b : Supply) (k l : Store)
-    (now : LinePlace) (result : Result (Unit {0}) UndumpError) : Type 0 where
+pub record Decides (call : Call Supply Store) (now : LinePlace)
+    (result : Result (Unit {0}) UndumpError) : Type 0 where
   pub taken : List ℕ
   pub are_bytes : IsBytes taken
   pub reads : ℕ
-  pub takes : Takes a b taken reads
-  pub at_most : reads ≤ budget
-  pub all_spent : result ≡ Err errors.TurnsSpent → reads ≡ budget
+  pub takes : Takes call.source.old call.source.new taken reads
+  pub at_most : reads ≤ call.budget
+  pub all_spent : result ≡ Err errors.TurnsSpent → reads ≡ call.budget
   pub frames : List Frame
-  pub are_strict : AreStrict m frames
+  pub are_strict : AreStrict call.limit frames
   pub rest : List ℕ
   pub parts : taken ≡ lines frames ++ rest
-  pub decided : AreDecided m taken frames rest result
+  pub decided : AreDecided call.limit taken frames rest result
   pub written : List ℕ
-  pub gains : Gains k l written
+  pub gains : Gains call.sink.old call.sink.new written
   pub writes : HasWrittenDecided (canon_frames frames) written result
-  pub cause : HasCauseUndumped budget taken rest a b k l result
-  pub behind : IsOneReadBehind m taken written
+  pub cause : HasCauseUndumped call taken rest result
+  pub behind : IsOneReadBehind call.limit taken written
   pub passes : PassesLines frames first_line now

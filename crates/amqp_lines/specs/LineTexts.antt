@@ -5,7 +5,7 @@ use Rattle.amqp_types.specs.declared.errors.GenError.{GenError}
 use Rattle.amqp_types.specs.declared.errors.GenError.TheVariants as refusals
 use Rattle.amqp_wire.specs.Frames.{Frame, Raw}
 use Rattle.amqp_wire.specs.Canonical.{canon, size_of}
-use Rattle.amqp_wire.specs.Verdicts.{whole}
+use Rattle.amqp_wire.specs.Verdicts.{decode_raw}
 use Rattle.amqp_stream.specs.declared.errors.StreamError.{StreamError}
 use Rattle.amqp_stream.specs.Errors.{Cause, faulty, out_of_memory, cause_of}
 use Rattle.amqp_stream.specs.Writing.{IsFaulty}
@@ -20,18 +20,18 @@ HasNoLine raw cause = ⊥
 -- the canonical bytes of the frame that a borrowed one is, or why there are none
 abbrev pub PutsCanonical : Raw → List ℕ → Result (Unit {0}) StreamError → Type 0
 PutsCanonical raw canonical (Ok done) =
-    (frame : Frame) × (whole raw ≡ Ok frame) × (canonical ≡ canon frame)
+    (frame : Frame) × (decode_raw raw ≡ Ok frame) × (canonical ≡ canon frame)
 PutsCanonical raw canonical (Err error) = HasNoLine raw (cause_of error)
 
 -- the line of that frame
 abbrev pub PutsLine : Raw → List ℕ → Result (Unit {0}) StreamError → Type 0
-PutsLine raw text (Ok done) = (frame : Frame) × (whole raw ≡ Ok frame) × (text ≡ line frame)
+PutsLine raw text (Ok done) = (frame : Frame) × (decode_raw raw ≡ Ok frame) × (text ≡ line frame)
 PutsLine raw text (Err error) = HasNoLine raw (cause_of error)
 
 -- its canonical bytes and its line
 abbrev pub PutsBoth : Raw → List ℕ → List ℕ → Result (Unit {0}) StreamError → Type 0
 PutsBoth raw canonical text (Ok done) =
-    (frame : Frame) × (whole raw ≡ Ok frame) × (canonical ≡ canon frame) × (text ≡ line frame)
+    (frame : Frame) × (decode_raw raw ≡ Ok frame) × (canonical ≡ canon frame) × (text ≡ line frame)
 PutsBoth raw canonical text (Err error) = HasNoLine raw (cause_of error)
 
 -- ---- frames that are to be written

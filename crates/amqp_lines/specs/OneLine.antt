@@ -1,7 +1,7 @@
 -- One line by itself: whether a text is the line of a frame, and what calls on it return.
 use Rattle.std.specs.Prelude.{◌≡◌, ◌≢◌, ℕ, List, ◌++◌, Some, Result, Ok, Err}
 use Rattle.amqp_wire.specs.Frames.{Frame, Raw}
-use Rattle.amqp_wire.specs.Verdicts.{whole}
+use Rattle.amqp_wire.specs.Verdicts.{decode_raw}
 use Rattle.amqp_wire.specs.Spelling.{IsWithin}
 use Rattle.amqp_wire.specs.Canonical.{canon}
 use Rattle.amqp_stream.specs.declared.errors.StreamError.{StreamError}
@@ -41,5 +41,5 @@ AppendsCanonical m text old new (Err texts.NoMemory) = new ≡ old
 -- leaves the vector as it was.
 abbrev pub AppendsRawLine : Raw → List ℕ → List ℕ → Result (Unit {0}) StreamError → Type 0
 AppendsRawLine raw old new (Ok done) =
-    (frame : Frame) × (whole raw ≡ Ok frame) × (new ≡ old ++ line frame)
+    (frame : Frame) × (decode_raw raw ≡ Ok frame) × (new ≡ old ++ line frame)
 AppendsRawLine raw old new (Err error) = HasNoLine raw (cause_of error) × (new ≡ old)

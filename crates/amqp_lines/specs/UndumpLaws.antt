@@ -8,7 +8,9 @@ use Rattle.amqp_wire.specs.Fronts.{front}
 use Rattle.amqp_wire.specs.Spelling.{SpellsFrames}
 use Rattle.amqp_wire.specs.Canonical.{canon, canon_frames, is_deep, is_long}
 use Rattle.amqp_wire.specs.Laws.{IsFrameHeld}
-use Rattle.amqp_stream.specs.Ends.{Store, Gains}
+use Rattle.amqp_stream.specs.Changes.{Change}
+use Rattle.amqp_stream.specs.Ends.{Supply, Store, Gains}
+use Rattle.amqp_stream.specs.Calls.{Call}
 use Rattle.amqp_lines.specs.Dumping.{dumped}
 use Rattle.amqp_lines.specs.Laws.{IsStrict}
 use Rattle.amqp_lines.specs.Lines.{line, lines, longest_line}
@@ -43,17 +45,19 @@ DumpedTextIsReadBack =
 -- What `undump` returns and writes over what `dump` writes for some bytes: it finds no bad text and
 -- no line cut short, and at the end of input has written the canonical bytes of the frames at the
 -- front of the bytes.
-pub record Undoes (m : ℕ) (bytes : List ℕ) (k l : Store)
+pub record Undoes (m : ℕ) (bytes : List ℕ) (sink : Change Store)
     (result : Result (Unit {0}) UndumpError) : Type 0 where
   pub never_bad : result ≢ Err errors.BadText
   pub never_short : result ≢ Err errors.CutShort
-  pub written : result ≡ Ok tt → Gains k l (canon_frames (front plain (Some m) bytes))
+  pub written : result ≡ Ok tt
+      → Gains sink.old sink.new (canon_frames (front plain (Some m) bytes))
 
 -- so it is for both calls with the same limit, where the source of `undump` reports its bytes
 abbrev pub UndumpUndoesDump : Type 0
 UndumpUndoesDump =
-    (m : ℕ) (bytes : List ℕ) (k l : Store) (result : Result (Unit {0}) UndumpError)
-    → IsBytes bytes → UndumpsExactly m (dumped m bytes) k l result → Undoes m bytes k l result
+    (call : Call Supply Store) (bytes : List ℕ) (result : Result (Unit {0}) UndumpError)
+    → IsBytes bytes → UndumpsExactly call (dumped call.limit bytes) result
+    → Undoes call.limit bytes call.sink result
 
 -- bytes that encode a sequence of frames strictly within a limit, and its text
 pub record AreBytesAndText (m : ℕ) (bytes text : List ℕ) : Type 0 where

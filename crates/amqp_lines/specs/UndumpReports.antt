@@ -4,6 +4,7 @@ use Rattle.std.specs.Prelude.{◌≡◌, ℕ, ◌+◌, ◌-◌, ◌≤◌, List,
 use Rattle.std.specs.Prelude.{Ok, Err}
 use Rattle.amqp_wire.specs.Frames.{Frame}
 use Rattle.amqp_wire.specs.Canonical.{canon_frames}
+use Rattle.amqp_stream.specs.Calls.{Call}
 use Rattle.amqp_stream.specs.Ends.{Supply, Store, Takes, Gains, last}
 use Rattle.amqp_stream.specs.Writing.{IsPrefix}
 use Rattle.amqp_lines.specs.Lines.{lines}
@@ -41,20 +42,20 @@ HasWrittenDecided all written result = written ≡ all
 
 -- What was taken begins with the lines of frames, which are decided, and their canonical bytes were
 -- written. The call ended at the line after these, by its cause.
-pub record EndsAtLine (m budget : ℕ) (a b : Supply) (k l : Store)
+pub record EndsAtLine (call : Call Supply Store)
     (error : UndumpError) (number place : ℕ) : Type 0 where
   pub taken : List ℕ
   pub reads : ℕ
-  pub takes : Takes a b taken reads
+  pub takes : Takes call.source.old call.source.new taken reads
   pub frames : List Frame
-  pub are_strict : AreStrict m frames
+  pub are_strict : AreStrict call.limit frames
   pub rest : List ℕ
   pub parts : taken ≡ lines frames ++ rest
-  pub decided : AreDecided m taken frames rest (Err error)
+  pub decided : AreDecided call.limit taken frames rest (Err error)
   pub written : List ℕ
-  pub gains : Gains k l written
+  pub gains : Gains call.sink.old call.sink.new written
   pub writes : HasWrittenDecided (canon_frames frames) written (Err error)
-  pub cause : HasCauseUndumped budget taken rest a b k l (Err error)
+  pub cause : HasCauseUndumped call taken rest (Err error)
   pub line_after : length taken ≤ last → IsLineAfter frames number place
 
 -- the line after the longest text that these bytes begin with
@@ -79,12 +80,10 @@ unreported_lines (Err report) = Err report.error
 
 -- The report of a call. Over a source that reports its bytes, however they are cut, the line of a
 -- fault of the text is that after the longest text.
-pub record IsUndumpReport {S : Type 0} (supply : S → Supply) (m budget : ℕ)
-    (source source' : S) (k l : Store) (report : UndumpReport) : Type 0 where
-  pub ends : EndsAtLine m budget (supply source) (supply source') k l
-      report.error report.line report.place
-  pub exact : (bytes : List ℕ) → (supply source).left ≡ Some bytes → length bytes ≤ last
-      → EndsExactlyAt m bytes report.error report.line report.place
+pub record IsUndumpReport (call : Call Supply Store) (report : UndumpReport) : Type 0 where
+  pub ends : EndsAtLine call report.error report.line report.place
+  pub exact : (bytes : List ℕ) → call.source.old.left ≡ Some bytes → length bytes ≤ last
+      → EndsExactlyAt call.limit bytes report.error report.line report.place
 
 -- ---- lines that are passed one after another
 

@@ -7,9 +7,10 @@ use Rattle.amqp_types.specs.Judging.{IsBytes}
 use Rattle.amqp_wire.specs.Frames.{Frame}
 use Rattle.amqp_wire.specs.Canonical.{canon_frames}
 use Rattle.amqp_wire.specs.Spelling.{SpellsFrames}
+use Rattle.amqp_stream.specs.Calls.{Call, as_reported}
 use Rattle.amqp_stream.specs.Ends.{Supply, Store, Takes, Gains, Rises, IsEmpty}
 use Rattle.amqp_stream.specs.Writing.{IsPrefix}
-use Rattle.amqp_stream.specs.Runs.{Runs}
+use Rattle.amqp_stream.specs.Runs.{Claims, Runs}
 use Rattle.amqp_lines.specs.Lines.{lines}
 use Rattle.amqp_lines.specs.declared.errors.UndumpError.{UndumpError}
 use Rattle.amqp_lines.specs.declared.errors.UndumpError.TheVariants as errors
@@ -36,18 +37,19 @@ pub record IsLongestText (m : ℕ) (bytes : List ℕ)
       → IsPrefix (lines other) bytes → length other ≤ length frames
 
 -- When each result comes, by the bytes after the longest text.
-abbrev pub HasCauseUndumped : ℕ → List ℕ → List ℕ → Supply → Supply
-    → Store → Store → Result (Unit {0}) UndumpError → Type 0
-HasCauseUndumped budget taken rest a b k l (Ok done) = (rest ≡ []) × IsEmpty b.left
-HasCauseUndumped budget taken rest a b k l (Err errors.BadText) = HoldsNewline rest
-HasCauseUndumped budget taken rest a b k l (Err errors.CutShort) =
-    (rest ≢ []) × (HoldsNewline rest → ⊥) × IsEmpty b.left
-HasCauseUndumped budget taken rest a b k l (Err errors.TurnsSpent) =
-    (budget ≤ length taken) × (HoldsNewline rest → ⊥)
-HasCauseUndumped budget taken rest a b k l (Err errors.ReadFault) =
-    Rises a.faults b.faults × (HoldsNewline rest → ⊥)
-HasCauseUndumped budget taken rest a b k l (Err errors.WriteFault) = Rises k.faults l.faults
-HasCauseUndumped budget taken rest a b k l (Err errors.NoMemory) = Unit {0}
+abbrev pub HasCauseUndumped : Call Supply Store → List ℕ
+    → List ℕ → Result (Unit {0}) UndumpError → Type 0
+HasCauseUndumped call taken rest (Ok done) = (rest ≡ []) × IsEmpty call.source.new.left
+HasCauseUndumped call taken rest (Err errors.BadText) = HoldsNewline rest
+HasCauseUndumped call taken rest (Err errors.CutShort) =
+    (rest ≢ []) × (HoldsNewline rest → ⊥) × IsEmpty call.source.new.left
+HasCauseUndumped call taken rest (Err errors.TurnsSpent) =
+    (call.budget ≤ length taken) × (HoldsNewline rest → ⊥)
+HasCauseUndumped call taken rest (Err errors.ReadFault) =
+    Rises call.source.old.faults call.source.new.faults × (HoldsNewline rest → ⊥)
+HasCauseUndumped call taken rest (Err errors.WriteFault) =
+    Rises call.sink.old.faults call.sink.new.faults
+HasCauseUndumped call taken rest (Err errors.NoMemory) = Unit {0}
 
 -- how many bytes one read takes at most
 abbrev pub read_size : ℕ
@@ -74,23 +76,23 @@ HasWrittenUndumped all written (Err errors.WriteFault) = IsPrefix written all
 HasWrittenUndumped all written (Err errors.NoMemory) = IsPrefix written all
 HasWrittenUndumped all written result = written ≡ all
 
--- A whole call: a is the source before it and b after it, k and l the sink.
-pub record Undumps (m budget : ℕ) (a b : Supply) (k l : Store)
+-- a whole call
+pub record Undumps (call : Call Supply Store)
     (result : Result (Unit {0}) UndumpError) : Type 0 where
   pub taken : List ℕ
   pub are_bytes : IsBytes taken
   pub reads : ℕ
-  pub takes : Takes a b taken reads
-  pub at_most : reads ≤ budget
-  pub all_spent : result ≡ Err errors.TurnsSpent → reads ≡ budget
+  pub takes : Takes call.source.old call.source.new taken reads
+  pub at_most : reads ≤ call.budget
+  pub all_spent : result ≡ Err errors.TurnsSpent → reads ≡ call.budget
   pub frames : List Frame
   pub rest : List ℕ
-  pub text : IsLongestText m taken frames rest
+  pub text : IsLongestText call.limit taken frames rest
   pub written : List ℕ
-  pub gains : Gains k l written
+  pub gains : Gains call.sink.old call.sink.new written
   pub writes : HasWrittenUndumped (canon_frames frames) written result
-  pub cause : HasCauseUndumped budget taken rest a b k l result
-  pub behind : IsOneReadBehind m taken written
+  pub cause : HasCauseUndumped call taken rest result
+  pub behind : IsOneReadBehind call.limit taken written
 
 -- What is returned and written by all the bytes of a source, which are a longest text and the rest
 -- after it. (Where the read budget or memory ran out, or an end failed, a part of the canonical
@@ -103,13 +105,13 @@ IsAnswerToText all rest written (Err errors.CutShort) =
 IsAnswerToText all rest written (Err error) = IsPrefix written all
 
 -- what a call returns over a source that reports its bytes
-pub record UndumpsExactly (m : ℕ) (bytes : List ℕ) (k l : Store)
+pub record UndumpsExactly (call : Call Supply Store) (bytes : List ℕ)
     (result : Result (Unit {0}) UndumpError) : Type 0 where
   pub frames : List Frame
   pub rest : List ℕ
-  pub text : IsLongestText m bytes frames rest
+  pub text : IsLongestText call.limit bytes frames rest
   pub written : List ℕ
-  pub gains : Gains k l written
+  pub gains : Gains call.sink.old call.sink.new written
   pub answer : IsAnswerToText (canon_frames frames) rest written result
 
 -- valid text: the lines of frames within the limit, and a read budget above the number of bytes
@@ -125,14 +127,19 @@ IsOkOrNoMemory (Ok done) = Unit {0}
 IsOkOrNoMemory (Err errors.NoMemory) = Unit {0}
 IsOkOrNoMemory (Err error) = ⊥
 
--- A run that writes the canonical bytes of the frames of lines. Memory may run out before
--- the first read.
+-- what is claimed of a run that writes the canonical bytes of the frames of lines
+abbrev pub undump_claims : Call Supply Store → Result (Unit {0}) UndumpError → Claims
+undump_claims call result = record {
+  Goes = Undumps call result;
+  -- memory may run out before the first read
+  IsSpent = (result ≡ Err errors.TurnsSpent) ⊎ (result ≡ Err errors.NoMemory);
+  Exactly = λ bytes. UndumpsExactly call bytes result;
+  Accepts = IsValidText call.limit call.budget;
+  IsDone = IsOkOrNoMemory result;
+}
+
+-- such a run
 abbrev pub UndumpRun : {S K : Type 0} → (S → Supply) → (K → Store)
-    → ℕ → ℕ → S → S → K → K → Result (Unit {0}) UndumpError → Type 0
-UndumpRun supply store m budget source source' sink sink' result =
-    Runs supply store budget source source' sink sink'
-    (Undumps m budget (supply source) (supply source') (store sink) (store sink') result)
-    ((result ≡ Err errors.TurnsSpent) ⊎ (result ≡ Err errors.NoMemory))
-    (λ bytes. UndumpsExactly m bytes (store sink) (store sink') result)
-    (IsValidText m budget)
-    (IsOkOrNoMemory result)
+    → Call S K → Result (Unit {0}) UndumpError → Type 0
+UndumpRun supply store call result =
+    Runs supply store call (undump_claims (as_reported supply store call) result)

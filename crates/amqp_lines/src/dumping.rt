@@ -1,7 +1,9 @@
 //! Streams whose frames are written as lines of text.
 
 ghost use Rattle.std.specs.Prelude.{◌≢◌, ◌⊎◌, Err};
-ghost use Rattle.amqp_stream.specs.Transcribing.{NeverBegan};
+ghost use Rattle.amqp_stream.specs.Changes.{◌⇒◌};
+ghost use Rattle.amqp_stream.specs.Calls.{call_of};
+ghost use Rattle.amqp_stream.specs.Causes.{NeverBegan};
 ghost use Rattle.amqp_stream.specs.Reports.{NeverBeganReport, unreported};
 ghost use Rattle.amqp_lines.specs.Dumping.{DumpReport, DumpRun};
 
@@ -66,9 +68,10 @@ pub fn dump_reported<S: Source, K: Sink>(
     max_payload: ChunkSize,
     budget: u64,
 ) -> Result<(), RunReport<StreamError>>
-    ensures run { DumpReport S.supply K.store max_payload
-        budget source.old source.new sink.old sink.new result
-        ⊎ NeverBeganReport source.old source.new sink.old sink.new StreamError.NoMemory result }
+    ensures run { DumpReport S.supply K.store
+        (call_of max_payload budget (source.old ⇒ source.new) (sink.old ⇒ sink.new)) result
+        ⊎ NeverBeganReport (source.old ⇒ source.new)
+        (sink.old ⇒ sink.new) StreamError.NoMemory result }
     ensures never_untidy { unreported result ≢ Err StreamError.NotTidy }
 {
     match LineText::open(alloc) {
@@ -89,9 +92,10 @@ pub fn dump<S: Source, K: Sink>(
     max_payload: ChunkSize,
     budget: u64,
 ) -> Result<(), StreamError>
-    ensures run { DumpRun S.supply K.store max_payload
-        budget source.old source.new sink.old sink.new result
-        ⊎ NeverBegan source.old source.new sink.old sink.new StreamError.NoMemory result }
+    ensures run { DumpRun S.supply K.store
+        (call_of max_payload budget (source.old ⇒ source.new) (sink.old ⇒ sink.new)) result
+        ⊎ NeverBegan (source.old ⇒ source.new)
+        (sink.old ⇒ sink.new) StreamError.NoMemory result }
     ensures never_untidy { result ≢ Err StreamError.NotTidy }
 {
     unreported(dump_reported(alloc, source, sink, max_payload, budget))

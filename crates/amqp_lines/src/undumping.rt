@@ -2,7 +2,8 @@
 
 ghost use Rattle.std.specs.Prelude.{◌≡◌, ◌+◌, ◌-◌, ◌<◌, ◌≤◌, [], Err, drop, length, take, vec_len};
 ghost use Rattle.std.specs.Prelude.{IfErr, IfOk};
-ghost use Rattle.amqp_stream.specs.Ends.{Supply};
+ghost use Rattle.amqp_stream.specs.Changes.{◌⇒◌};
+ghost use Rattle.amqp_stream.specs.Calls.{call_of};
 ghost use Rattle.amqp_lines.specs.Lines.{longest_line};
 ghost use Rattle.amqp_lines.specs.LineReading.{EndsLine, GathersLine, GathersLines, HasNoNewline};
 ghost use Rattle.amqp_lines.specs.LineReading.{Decides, PassesLine, ReadsOnce, StopsWith};
@@ -219,8 +220,9 @@ fn run<S: Source, K: Sink>(
     requires none { lines.old.held.items ≡ [] }
     requires first { lines.old.at ≡ first_line }
     requires most { lines.old.most ≡ longest_line max_payload + 1 }
-    ensures stream { Decides max_payload budget (S.supply source.old) (S.supply source.new)
-        (K.store sink.old) (K.store sink.new) lines.new.at result }
+    ensures stream { Decides
+        (call_of max_payload budget (S.supply source.old ⇒ S.supply source.new)
+        (K.store sink.old ⇒ K.store sink.new)) lines.new.at result }
     ensures few { length lines.new.held.items ≤ longest_line max_payload + 1 + read_size }
     ensures unread { budget ≡ 0 → source.new ≡ source.old }
     ensures spent { budget ≡ 0 → result ≡ Err UndumpError.TurnsSpent }
@@ -270,10 +272,12 @@ pub fn undump_reported<S: Source, K: Sink>(
     max_payload: ChunkSize,
     budget: u64,
 ) -> Result<(), UndumpReport>
-    ensures run { UndumpRun S.supply K.store max_payload budget
-        source.old source.new sink.old sink.new (unreported_lines result) }
-    ensures report { IfErr result (IsUndumpReport S.supply max_payload budget
-        source.old source.new (K.store sink.old) (K.store sink.new)) }
+    ensures run { UndumpRun S.supply K.store
+        (call_of max_payload budget (source.old ⇒ source.new) (sink.old ⇒ sink.new))
+        (unreported_lines result) }
+    ensures report { IfErr result (IsUndumpReport
+        (call_of max_payload budget (S.supply source.old ⇒ S.supply source.new)
+        (K.store sink.old ⇒ K.store sink.new))) }
 {
     let first = LinePlace::first();
     match Lines::open(alloc, max_payload) {
@@ -296,8 +300,8 @@ pub fn undump<S: Source, K: Sink>(
     max_payload: ChunkSize,
     budget: u64,
 ) -> Result<(), UndumpError>
-    ensures run { UndumpRun S.supply K.store max_payload
-        budget source.old source.new sink.old sink.new result }
+    ensures run { UndumpRun S.supply K.store
+        (call_of max_payload budget (source.old ⇒ source.new) (sink.old ⇒ sink.new)) result }
 {
     unreported_lines(undump_reported(alloc, source, sink, max_payload, budget))
 }

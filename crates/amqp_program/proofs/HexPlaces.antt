@@ -1,5 +1,5 @@
 -- Where the first fault of a hex text is.
-use Rattle.std.proofs.Common.{◌≡◌, ◌⊎◌, ℕ, ◌<◌, ◌≤◌, List, [], ◌∷◌, Option, Some, None, Result, Ok, Err, IfOk, IfErr, inl, inr, refl}
+use Rattle.std.proofs.Common.{◌≡◌, ◌⊎◌, ℕ, ◌≤◌, List, [], ◌∷◌, Option, Some, Result, Ok, Err, IfOk, IfErr, inl, inr, refl}
 use Rattle.std.proofs.Common.{sym, ap, subst, ◌∙◌, lit≤, arith}
 use Rattle.std.specs.Char.{is_ascii_hexdigit}
 use Rattle.std.specs.Io.BufRead.{strip_last}
@@ -13,7 +13,7 @@ use Rattle.amqp_wire.specs.Frames.{Frame}
 use Rattle.amqp_wire.specs.Fronts.{place}
 use Rattle.amqp_stream.specs.declared.errors.StreamError.{StreamError}
 use Rattle.amqp_stream.specs.declared.report.RunReport.{RunReport}
-use Rattle.amqp_stream.specs.Ends.{Supply}
+use Rattle.amqp_stream.specs.Changes.{◌⇒◌}
 use Rattle.amqp_stream.specs.Errors.{error_for, stream_error_status, status_of}
 use Rattle.amqp_stream.specs.Reports.{IsReportAt, unreported}
 use Rattle.amqp_stream.specs.Scripts.{faultless}
@@ -21,7 +21,7 @@ use Rattle.amqp_program.specs.declared.outcome.Outcome.{Outcome}
 use Rattle.amqp_program.specs.declared.outcome.Place.{Place}
 use Rattle.amqp_program.specs.declared.outcome.Place.TheVariants as places
 use Rattle.amqp_program.specs.HexPlaces.{IsReportIn, IsPlaceIn, IsDecodedPlace, IsHexPlace, decoded_place}
-use Rattle.amqp_stream.specs.Transcribing.{answer_at, place_verdict}
+use Rattle.amqp_stream.specs.Causes.{answer_at, judge_place}
 use Rattle.amqp_program.specs.Reports.{Printed, max_payload, printed_of, report_at}
 use Rattle.amqp_program.specs.declared.report.Report.{Report}
 use Rattle.amqp_program.proofs.Statuses.{not_zero, report_at-status}
@@ -32,7 +32,7 @@ text_place status at = record { status = status; place = Some (places.Text at) }
 
 -- a stream over a slice
 pub in_slice : (level : Level) (m : ℕ) (bytes source source' : List ℕ) (answer : Result (Unit {0}) (RunReport StreamError)) → m ≡ max_payload → source ≡ bytes
-    → IfErr answer (IsReportAt level m (faultless source) (faultless source')) → IfErr answer (IsReportIn level bytes)
+    → IfErr answer (IsReportAt level m (faultless source ⇒ faultless source')) → IfErr answer (IsReportIn level bytes)
 in_slice level m bytes source source' (Ok done) limit e h = tt
 in_slice level m bytes source source' (Err report) limit e h =
     record {
@@ -40,7 +40,7 @@ in_slice level m bytes source source' (Err report) limit e h =
       rest = faultless source';
       left_is = ap Some e;
       is_report =
-          subst (λ n. IsReportAt level n (faultless source) (faultless source') report) limit h;
+          subst (λ n. IsReportAt level n (faultless source ⇒ faultless source') report) limit h;
     }
 
 placed_in : (level : Level) (bytes : List ℕ) (answer : Result (Unit {0}) (RunReport StreamError)) (status : ℕ) → status ≡ status_of (unreported answer)
@@ -71,7 +71,7 @@ answer_status (b ∷ bytes) (took frame used) = inl refl
 
 report_status : (level : Level) (bytes : List ℕ) (status : ℕ) → status ≡ (report_at level bytes).status → (status ≡ 0) ⊎ (10 ≤ status)
 report_status level bytes status e = subst (λ n. (n ≡ 0) ⊎ (10 ≤ n)) (sym (e ∙ report_at-status level bytes))
-    (answer_status (place level (Some max_payload) bytes) (place_verdict level max_payload bytes))
+    (answer_status (place level (Some max_payload) bytes) (judge_place level max_payload bytes))
 
 by_status : (level : Level) (text bytes : List ℕ) (outcome : Outcome) → decode_of (strip_last 10 text) ≡ Ok bytes → IsPlaceIn level bytes outcome
     → (outcome.status ≡ 0) ⊎ (10 ≤ outcome.status) → IsHexPlace level text outcome.status outcome.place

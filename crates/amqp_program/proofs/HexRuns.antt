@@ -9,15 +9,22 @@ use Rattle.hex.proofs.HexLemmas.{decode_of-ok}
 use Rattle.amqp_types.specs.Levels.{Level}
 use Rattle.amqp_types.specs.Judging.{Judged, past, fault, took, IsBytes}
 use Rattle.amqp_wire.specs.Frames.{Frame}
+use Rattle.std.specs.declared.string.ParseError.{Infallible}
 use Rattle.amqp_wire.specs.Canonical.{canon_frames}
 use Rattle.amqp_wire.specs.Fronts.{front, place}
 use Rattle.amqp_wire.proofs.Cuts.{IsStop}
 use Rattle.amqp_wire.proofs.Sequences.{sequence_of_all, splits_of}
 use Rattle.amqp_stream.specs.declared.errors.StreamError.{StreamError}
+use Rattle.amqp_stream.specs.Errors.{cause_of}
+use Rattle.amqp_stream.specs.Changes.{◌⇒◌}
+use Rattle.amqp_stream.specs.Calls.{call_of}
+use Rattle.amqp_stream.specs.Streaming.{UnlessStoppedBy, IsExactRun}
+use Rattle.amqp_stream.specs.Transcribing.{text_plan, text_ending}
+use Rattle.amqp_stream.proofs.Transcribing.{text_exactly, unless}
 use Rattle.amqp_stream.specs.Scripts.{KeptBytes, store_of}
 use Rattle.amqp_stream.specs.Ends.{Supply, Store, Takes, Gains, prepended, Bytes}
 use Rattle.amqp_stream.specs.Writing.{WritesAll}
-use Rattle.amqp_stream.specs.Transcribing.{IsSequence, NoFaults, answer_at, answer_to, place_verdict, IsAnswerTo}
+use Rattle.amqp_stream.specs.Causes.{IsSequence, NoFaults, answer_at, answer_to, judge_place}
 use Rattle.amqp_stream.specs.Canonicalizing.{canon_of, AnswersExactly}
 use Rattle.amqp_stream.specs.declared.sink.SinkFault.{SinkFault}
 use Rattle.amqp_stream.proofs.Adding.{Gains-none, taken_of}
@@ -28,7 +35,7 @@ use Rattle.amqp_program.specs.declared.outcome.Place.TheVariants as places
 use Rattle.amqp_program.specs.HexPlaces.{IsHexPlace}
 use Rattle.amqp_program.specs.Reporting.{ReportsHex}
 use Rattle.amqp_program.specs.Texts.{longest, ReadsText}
-use Rattle.amqp_program.specs.Reports.{Printed, printed, report, report_of, report_at, max_payload}
+use Rattle.amqp_program.specs.Reports.{Printed, printed, report, report_of, report_at, max_payload, IsAnswerWithin}
 use Rattle.amqp_program.specs.Runs.{IsWhole, HexEnds, no_memory, read_failed, too_long, write_failed, reported, AcceptsHex}
 use Rattle.amqp_program.specs.Runs.{IsValidHex, IsDoneOrNoMemory, RunsHex}
 use Rattle.amqp_program.proofs.HexPlaces.{text_place}
@@ -45,7 +52,7 @@ nothing_left (b ∷ bytes) (took f n) stop e = absurd stop
 -- bytes with the result Ok are a sequence of frames
 answered_sequence : (level : Level) (m : ℕ) (bytes : List ℕ) → IsBytes bytes → answer_to level m bytes ≡ Ok tt → IsSequence level m bytes
 answered_sequence level m bytes fits e =
-    let none = nothing_left (place level (Some m) bytes) (place_verdict level m bytes) (splits_of level (Some m) bytes).stop e in
+    let none = nothing_left (place level (Some m) bytes) (judge_place level m bytes) (splits_of level (Some m) bytes).stop e in
     (front level (Some m) bytes, sequence_of_all level (Some m) bytes fits none)
 
 report_at-text : (level : Level) (bytes : List ℕ) → answer_to level max_payload bytes ≡ Ok tt
@@ -77,7 +84,7 @@ accepts level text written a b k l status (reported s whole w) zero = accepted l
 -- ---- valid input ends with 0, unless memory runs out
 
 completes : (level : Level) (text written input : List ℕ) (a b : Supply) (k l : Store) (status : ℕ) → HexEnds level text written a b k l status
-    → Some input ≡ prepended text b.left → IsValidHex level input → NoFaults a b k l → IsDoneOrNoMemory status
+    → Some input ≡ prepended text b.left → IsValidHex level input → NoFaults (a ⇒ b) (k ⇒ l) → IsDoneOrNoMemory status
 completes level text written input a b k l status (no_memory s w few) e v f = inr s
 completes level text written input a b k l status (read_failed s w few r) e v f = absurd (omega (arith, r f.source_below, f.source))
 completes level text written input a b k l status (too_long s w h) e v f =
@@ -218,12 +225,20 @@ hex_write_fault level a b k l text out status outcome f is r e w =
       place = after_failed_write level _;
     })
 
+answer_within : (m : ℕ) (level : Level) (bytes written : List ℕ) (r : Result (Unit {0}) StreamError)
+    → UnlessStoppedBy {E = Infallible} (text_ending r) (IsExactRun {E = Infallible} (text_plan canon_frames level m) m bytes written (text_ending r))
+    → IsAnswerWithin m level bytes written r
+answer_within m level bytes written (Ok done) h = text_exactly canon_frames level m bytes written (Ok done) h
+answer_within m level bytes written (Err error) h = unless (cause_of error) (text_exactly canon_frames level m bytes written (Err error)) h
+
 -- what a sink that held nothing took is what was written
-pub answered : (level : Level) (m n : ℕ) (bytes : List ℕ) (old new : KeptBytes) (r : Result (Unit {0}) StreamError) → m ≡ n
-    → old ≡ record { bytes = []; faults = 0 } → AnswersExactly level m bytes (store_of old) (store_of new) r → IsAnswerTo canon_frames level n bytes new.bytes r
-answered level m n bytes old new r limit empty h =
+pub answered : (level : Level) (m n budget : ℕ) (source source' : Supply) (bytes : List ℕ) (old new : KeptBytes)
+    (r : Result (Unit {0}) StreamError) → m ≡ n → old ≡ record { bytes = []; faults = 0 }
+    → AnswersExactly level (call_of m budget (source ⇒ source') (store_of old ⇒ store_of new)) bytes r → IsAnswerWithin n level bytes new.bytes r
+answered level m n budget source source' bytes old new r limit empty h =
     let none : old.bytes ≡ [] = ap (λ s. s.bytes) empty in
     let all : Bytes new.bytes ≡ Bytes (old.bytes ++ h.written) = h.gains.bytes in
     let same : new.bytes ≡ old.bytes ++ h.written = cc in
     let written : h.written ≡ new.bytes = sym (same ∙ ap (λ (xs : List ℕ). xs ++ h.written) none) in
-    subst (λ k. IsAnswerTo canon_frames level k bytes new.bytes r) limit (subst (λ (xs : List ℕ). IsAnswerTo canon_frames level m bytes xs r) written h.answer)
+    subst (λ k. IsAnswerWithin k level bytes new.bytes r) limit
+    (subst (λ (xs : List ℕ). IsAnswerWithin m level bytes xs r) written (answer_within m level bytes h.written r h.answer))

@@ -4,9 +4,11 @@ use Rattle.std.proofs.lemmas.List.{length-append}
 use Rattle.amqp_types.specs.Levels.{plain}
 use Rattle.amqp_stream.specs.declared.errors.StreamError.{StreamError}
 use Rattle.amqp_stream.specs.declared.errors.StreamError.TheVariants as errors
+use Rattle.amqp_stream.specs.Changes.{◌⇒◌}
+use Rattle.amqp_stream.specs.Calls.{call_of}
 use Rattle.amqp_stream.specs.Ends.{last}
 use Rattle.amqp_stream.specs.Scripts.{faultless, Counted, count_of}
-use Rattle.amqp_stream.specs.Transcribing.{IsSequence, NeverBegan, IsOkOrNoMemory}
+use Rattle.amqp_stream.specs.Causes.{IsSequence, NeverBegan, IsOkOrNoMemory}
 use Rattle.amqp_stream.specs.Runs.{CanonicalRun}
 use Rattle.amqp_stream.specs.Made.{made, most_frames}
 use Rattle.amqp_stream.proofs.MadeFrames.{all_made}
@@ -19,7 +21,9 @@ made_sequence n = let sequence = all_made n in (sequence.frames, sequence.spelle
 
 -- A call over a source that never fails into a sink that counts. It ran, or never began.
 abbrev Ran : ℕ → List ℕ → List ℕ → Counted → Counted → Result (Unit {0}) StreamError → Type 0
-Ran budget bytes rest k l r = CanonicalRun plain faultless count_of max_payload budget bytes rest k l r ⊎ NeverBegan bytes rest k l errors.NoMemory r
+Ran budget bytes rest k l r =
+    CanonicalRun plain faultless count_of (call_of max_payload budget (bytes ⇒ rest) (k ⇒ l)) r
+    ⊎ NeverBegan (bytes ⇒ rest) (k ⇒ l) errors.NoMemory r
 
 -- no more was counted than there was
 few_counted : (budget : ℕ) (bytes rest : List ℕ) (k l : Counted) (r : Result (Unit {0}) StreamError)

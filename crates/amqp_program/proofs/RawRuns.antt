@@ -4,13 +4,17 @@ use Rattle.amqp_types.specs.Levels.{plain}
 use Rattle.amqp_stream.specs.declared.errors.StreamError.{StreamError}
 use Rattle.amqp_stream.specs.declared.errors.StreamError.TheVariants as errors
 use Rattle.amqp_wire.specs.Canonical.{canon_frames}
+use Rattle.amqp_stream.specs.Changes.{◌⇒◌}
 use Rattle.amqp_stream.specs.Ends.{Supply, Store, Gains}
-use Rattle.amqp_stream.specs.Transcribing.{HasCause, HasWritten, transcript, NeverBegan, IsOkOrNoMemory}
-use Rattle.amqp_stream.specs.Canonicalizing.{canon_of, Canonicalizes}
+use Rattle.amqp_stream.specs.Causes.{NeverBegan, IsOkOrNoMemory}
+use Rattle.std.specs.declared.string.ParseError.{Infallible}
+use Rattle.amqp_stream.specs.Streaming.{Plan, HasCause, HasWritten}
+use Rattle.amqp_stream.specs.Transcribing.{text_plan, text_ending}
+use Rattle.amqp_stream.specs.Canonicalizing.{Canonicalizes}
 use Rattle.amqp_stream.specs.Runs.{CanonicalRun}
 use Rattle.amqp_stream.proofs.Transcribing.{never_out_of_memory}
 use Rattle.amqp_program.specs.Reports.{max_payload}
-use Rattle.amqp_program.specs.Runs.{AcceptsRaw, IsDoneOrNoMemory, RunsRaw, raw_budget}
+use Rattle.amqp_program.specs.Runs.{AcceptsRaw, IsDoneOrNoMemory, RunsRaw, raw_call}
 use Rattle.amqp_program.proofs.Ran.{stream_of, exact_of, complete_of, other_of, never_at, never_exactly, never_done, ok_done, unreported_ran, placed}
 use Rattle.amqp_program.proofs.Statuses.{answer_status_not_two, answer_status_three, answer_status_zero}
 use Rattle.amqp_stream.specs.Errors.{status_of, stream_error_status}
@@ -32,18 +36,18 @@ raw_not_two a b k l status run h = answer_status_not_two run.answer (sym run.sta
 
 -- what status 0 says
 pub accepted : (a b : Supply) (k l : Store) (answer : Result (Unit {0}) StreamError)
-    → Canonicalizes plain max_payload raw_budget a b k l answer ⊎ NeverBegan a b k l errors.NoMemory answer → answer ≡ Ok tt → AcceptsRaw a b k l
+    → Canonicalizes plain (raw_call a b k l) answer ⊎ NeverBegan (a ⇒ b) (k ⇒ l) errors.NoMemory answer → answer ≡ Ok tt → AcceptsRaw a b k l
 accepted a b k l answer (inl c) e =
-    let cause = subst (λ r. HasCause plain max_payload raw_budget c.run.taken a b k l r) e c.run.cause in
-    let writes : c.run.written ≡ canon_of plain max_payload c.run.taken =
-    subst (λ r. HasWritten (transcript canon_frames plain max_payload c.run.taken) c.run.written r) e c.run.writes in
+    let plan : Plan Infallible = text_plan canon_frames plain max_payload in
+    let cause = subst (λ r. HasCause plan (raw_call a b k l) c.run.taken c.run.written (text_ending r)) e c.run.cause in
+    let writes = subst (λ r. HasWritten plan c.run.taken c.run.written (text_ending r)) e c.run.writes in
     record {
       taken = c.run.taken;
       reads = c.run.reads;
       takes = c.run.takes;
       end = cause.1;
       sequence = cause.0;
-      canonical = subst (λ (xs : List ℕ). Gains k l xs) writes c.run.gains;
+      canonical = subst (λ (xs : List ℕ). Gains k l xs) writes.text_is c.run.gains;
     }
 accepted a b k l answer (inr never) e = let other = sym never.no_memory ∙ e in absurd cc
 
@@ -51,13 +55,13 @@ accepted a b k l answer (inr never) e = let other = sym never.no_memory ∙ e in
 unfoldable pub raw_runs : {S K : Type 0} (supply : S → Supply) (store : K → Store)
     (source source' : S) (sink sink' : K) (answer : Result (Unit {0}) StreamError) (status : ℕ)
     → status ≡ status_of answer
-    → CanonicalRun plain supply store max_payload raw_budget source source' sink sink' answer ⊎ NeverBegan source source' sink sink' errors.NoMemory answer
+    → CanonicalRun plain supply store (raw_call source source' sink sink') answer ⊎ NeverBegan (source ⇒ source') (sink ⇒ sink') errors.NoMemory answer
     → RunsRaw (supply source) (supply source') (store sink) (store sink') status
 raw_runs supply store source source' sink sink' answer status e ran =
     let stream = stream_of (never_at supply store) ran in
     let memory =
     other_of
-    (λ (goes : Canonicalizes plain max_payload raw_budget (supply source) (supply source') (store sink) (store sink') answer). never_out_of_memory goes.run)
+    (λ (goes : Canonicalizes plain (raw_call (supply source) (supply source') (store sink) (store sink')) answer). never_out_of_memory canon_frames goes.run)
     stream in
     record {
       answer = answer;
@@ -66,30 +70,30 @@ raw_runs supply store source source' sink sink' answer status e ran =
       memory = memory;
       no_memory = λ three. memory (answer_status_three answer (sym e ∙ three));
       accepts = λ zero. accepted (supply source) (supply source') (store sink) (store sink') answer stream (answer_status_zero answer (sym e ∙ zero));
-      exact = exact_of (never_exactly canon_frames plain max_payload store) ran;
+      exact = exact_of (never_exactly canon_frames plain supply store (raw_call source source' sink sink')) ran;
       complete = λ input left valid none.
           subst IsDoneOrNoMemory (sym e) (done_or_no_memory answer (complete_of ok_done (never_done IsOkOrNoMemory tt) ran input left valid none));
     }
 
 raw_streamed : {S K : Type 0} (supply : S → Supply) (store : K → Store) (source source' : S)
     (sink sink' : K) (answer : Result (Unit {0}) (RunReport StreamError))
-    → CanonicalReport plain supply store max_payload raw_budget source source' sink sink' answer
-    ⊎ NeverBeganReport source source' sink sink' errors.NoMemory answer
+    → CanonicalReport plain supply store (raw_call source source' sink sink') answer
+    ⊎ NeverBeganReport (source ⇒ source') (sink ⇒ sink') errors.NoMemory answer
     → ReportsRaw (supply source) (supply source') (store sink) (store sink') (streamed answer)
 unfolding raw_runs
 raw_streamed supply store source source' sink sink' (Ok done) ran =
     record { run = raw_runs supply store source source' sink sink' (Ok done) 0 refl (unreported_ran ran); place = tt }
 raw_streamed supply store source source' sink sink' (Err report) ran = record {
   run = raw_runs supply store source source' sink sink' (Err report.error) (stream_error_status report.error) refl (unreported_ran ran);
-  place = placed (IsReportAt plain max_payload (supply source) (supply source')) errors.NoMemory report ran;
+  place = placed (IsReportAt plain max_payload (supply source ⇒ supply source')) errors.NoMemory report ran;
 }
 
 -- such a run, with where it ended
 pub raw_reports : {S K : Type 0} (supply : S → Supply) (store : K → Store) (source source' : S)
     (sink sink' : K) (answer : Result (Unit {0}) (RunReport StreamError)) (outcome : Outcome)
     → outcome ≡ streamed answer
-    → CanonicalReport plain supply store max_payload raw_budget source source' sink sink' answer
-    ⊎ NeverBeganReport source source' sink sink' errors.NoMemory answer
+    → CanonicalReport plain supply store (raw_call source source' sink sink') answer
+    ⊎ NeverBeganReport (source ⇒ source') (sink ⇒ sink') errors.NoMemory answer
     → ReportsRaw (supply source) (supply source') (store sink) (store sink') outcome
 raw_reports supply store source source' sink sink' answer outcome e ran =
     subst (ReportsRaw (supply source) (supply source') (store sink) (store sink')) (sym e) (raw_streamed supply store source source' sink sink' answer ran)

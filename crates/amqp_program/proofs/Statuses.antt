@@ -7,7 +7,7 @@ use Rattle.amqp_stream.specs.declared.errors.StreamError.TheVariants as errors
 use Rattle.amqp_stream.specs.declared.report.RunReport.{RunReport}
 use Rattle.amqp_stream.specs.Errors.{stream_error_status, status_of}
 use Rattle.amqp_stream.specs.Reports.{unreported}
-use Rattle.amqp_stream.specs.Transcribing.{answer_to}
+use Rattle.amqp_stream.specs.Causes.{answer_to}
 use Rattle.amqp_program.specs.declared.outcome.Outcome.{Outcome}
 use Rattle.amqp_program.specs.Outcomes.{streamed}
 use Rattle.amqp_program.specs.Reports.{printed, report_at, report_of, max_payload}

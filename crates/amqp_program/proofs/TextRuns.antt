@@ -1,17 +1,19 @@
 -- Runs of `dump` and of `undump`.
-use Rattle.std.proofs.Common.{◌≡◌, ◌≢◌, ℕ, ◌≤◌, ◌⊎◌, List, [], None, Result, Ok, Err, IfErr, inl, inr, refl, sym, ap, subst, ◌∙◌, arith}
+use Rattle.std.proofs.Common.{◌≡◌, ◌≢◌, ℕ, ◌≤◌, ◌⊎◌, List, [], Result, Ok, Err, IfErr, inl, inr, refl, sym, subst, ◌∙◌, arith}
 use Rattle.std.specs.declared.string.ParseError.{Infallible}
 use Rattle.amqp_stream.specs.declared.errors.StreamError.{StreamError}
 use Rattle.amqp_stream.specs.declared.errors.StreamError.TheVariants as errors
+use Rattle.amqp_stream.specs.Changes.{◌⇒◌}
+use Rattle.amqp_stream.specs.Calls.{Call, as_reported}
 use Rattle.amqp_stream.specs.Ends.{Supply, Store}
-use Rattle.amqp_stream.specs.Transcribing.{NeverBegan, IsOkOrNoMemory}
-use Rattle.amqp_stream.specs.Streaming.{ending_of, as_run, UnlessStoppedBy, IsExactRun}
+use Rattle.amqp_stream.specs.Causes.{NeverBegan, IsOkOrNoMemory}
+use Rattle.amqp_stream.specs.Streaming.{ending_of, as_run, plan_of, UnlessStoppedBy, IsExactRun}
 use Rattle.amqp_lines.specs.Dumping.{dumping, DumpsExactly, DumpRun, DumpReport, IsDumpReport}
 use Rattle.amqp_lines.specs.Undumping.{UndumpRun, IsOkOrNoMemory as IsUndumpedOrNoMemory}
 use Rattle.amqp_lines.specs.declared.errors.UndumpError.{UndumpError}
 use Rattle.amqp_lines.specs.declared.errors.UndumpError.TheVariants as undumps
 use Rattle.amqp_program.specs.Reports.{max_payload}
-use Rattle.amqp_program.specs.Runs.{IsDoneOrNoMemory, RunsDump, RunsUndump, raw_budget, undump_status_of}
+use Rattle.amqp_program.specs.Runs.{IsDoneOrNoMemory, RunsDump, RunsUndump, raw_call, undump_status_of}
 use Rattle.amqp_program.proofs.Ran.{stream_of, exact_of, complete_of, never_at, never_gains, never_done, unreported_ran, placed}
 use Rattle.amqp_program.proofs.RawRuns.{done_or_no_memory}
 use Rattle.amqp_program.proofs.Statuses.{answer_status_not_two}
@@ -29,46 +31,48 @@ use Rattle.amqp_program.specs.Reporting.{ReportsDump, ReportsUndump}
 pub dump_not_two : (a b : Supply) (k l : Store) (status : ℕ) → RunsDump a b k l status → status ≢ 2
 dump_not_two a b k l status run h = answer_status_not_two run.answer (sym run.status_is ∙ h)
 
-pub never_dumps : {S K : Type 0} (m : ℕ) (store : K → Store) {source source' : S} {sink sink' : K} {r : Result (Unit {0}) StreamError}
-    → NeverBegan source source' sink sink' errors.NoMemory r → (bytes : List ℕ) → DumpsExactly m bytes (store sink) (store sink') r
-never_dumps m store never bytes = record {
+pub never_dumps : {S K : Type 0} (supply : S → Supply) (store : K → Store) (call : Call S K) {r : Result (Unit {0}) StreamError}
+    → NeverBegan call.source call.sink errors.NoMemory r → (bytes : List ℕ) → DumpsExactly (as_reported supply store call) bytes r
+never_dumps supply store call never bytes = record {
   written = [];
   gains = never_gains store never;
-  answer = never_done (λ x. UnlessStoppedBy {E = Infallible} (ending_of (as_run x)) (IsExactRun dumping tt m bytes [] (ending_of (as_run x)))) tt never;
+  answer = never_done
+      (λ x. UnlessStoppedBy {E = Infallible} (ending_of (as_run x))
+      (IsExactRun (plan_of dumping tt call.limit) call.limit bytes [] (ending_of (as_run x)))) tt never;
 }
 
 -- a run with this result
 unfoldable pub dump_runs : {S K : Type 0} (supply : S → Supply) (store : K → Store)
     (source source' : S) (sink sink' : K) (answer : Result (Unit {0}) StreamError) (status : ℕ)
     → status ≡ status_of answer
-    → DumpRun supply store max_payload raw_budget source source' sink sink' answer ⊎ NeverBegan source source' sink sink' errors.NoMemory answer
+    → DumpRun supply store (raw_call source source' sink sink') answer ⊎ NeverBegan (source ⇒ source') (sink ⇒ sink') errors.NoMemory answer
     → RunsDump (supply source) (supply source') (store sink) (store sink') status
 dump_runs supply store source source' sink sink' answer status e ran = record {
   answer = answer;
   status_is = e;
   stream = stream_of (never_at supply store) ran;
-  exact = exact_of (never_dumps max_payload store) ran;
+  exact = exact_of (never_dumps supply store (raw_call source source' sink sink')) ran;
   complete = λ input left valid none.
       subst IsDoneOrNoMemory (sym e) (done_or_no_memory answer (complete_of (λ done. done) (never_done IsOkOrNoMemory tt) ran input left valid none));
 }
 
 dump_streamed : {S K : Type 0} (supply : S → Supply) (store : K → Store) (source source' : S)
     (sink sink' : K) (answer : Result (Unit {0}) (RunReport StreamError))
-    → DumpReport supply store max_payload raw_budget source source' sink sink' answer ⊎ NeverBeganReport source source' sink sink' errors.NoMemory answer
+    → DumpReport supply store (raw_call source source' sink sink') answer ⊎ NeverBeganReport (source ⇒ source') (sink ⇒ sink') errors.NoMemory answer
     → ReportsDump (supply source) (supply source') (store sink) (store sink') (streamed answer)
 unfolding dump_runs
 dump_streamed supply store source source' sink sink' (Ok done) ran =
     record { run = dump_runs supply store source source' sink sink' (Ok done) 0 refl (unreported_ran ran); place = tt }
 dump_streamed supply store source source' sink sink' (Err report) ran = record {
   run = dump_runs supply store source source' sink sink' (Err report.error) (stream_error_status report.error) refl (unreported_ran ran);
-  place = placed (IsDumpReport max_payload (supply source) (supply source')) errors.NoMemory report ran;
+  place = placed (IsDumpReport max_payload (supply source ⇒ supply source')) errors.NoMemory report ran;
 }
 
 -- such a run, with where it ended
 pub dump_reports : {S K : Type 0} (supply : S → Supply) (store : K → Store) (source source' : S)
     (sink sink' : K) (answer : Result (Unit {0}) (RunReport StreamError)) (outcome : Outcome)
     → outcome ≡ streamed answer
-    → DumpReport supply store max_payload raw_budget source source' sink sink' answer ⊎ NeverBeganReport source source' sink sink' errors.NoMemory answer
+    → DumpReport supply store (raw_call source source' sink sink') answer ⊎ NeverBeganReport (source ⇒ source') (sink ⇒ sink') errors.NoMemory answer
     → ReportsDump (supply source) (supply source') (store sink) (store sink') outcome
 dump_reports supply store source source' sink sink' answer outcome e ran =
     subst (ReportsDump (supply source) (supply source') (store sink) (store sink')) (sym e) (dump_streamed supply store source source' sink sink' answer ran)
@@ -91,7 +95,7 @@ undump_not_two a b k l status run h = answer_not_two run.answer (sym run.status_
 unfoldable pub undump_runs : {S K : Type 0} (supply : S → Supply) (store : K → Store)
     (source source' : S) (sink sink' : K) (answer : Result (Unit {0}) UndumpError) (status : ℕ)
     → status ≡ undump_status_of answer
-    → UndumpRun supply store max_payload raw_budget source source' sink sink' answer
+    → UndumpRun supply store (raw_call source source' sink sink') answer
     → RunsUndump (supply source) (supply source') (store sink) (store sink') status
 undump_runs supply store source source' sink sink' answer status e run = record {
   answer = answer;
@@ -101,30 +105,25 @@ undump_runs supply store source source' sink sink' answer status e run = record 
   complete = λ input left valid none. subst IsDoneOrNoMemory (sym e) (undump_done answer (run.complete input left valid none));
 }
 
-undump_reported : {S : Type 0} (supply : S → Supply) (source source' : S) (k l : Store) (report : UndumpReport)
-    → IsUndumpReport supply max_payload raw_budget source source' k l report
-    → IsUndumpReport (λ a. a) max_payload raw_budget (supply source) (supply source') k l report
-undump_reported supply source source' k l report r = record { ends = r.ends; exact = r.exact }
-
 undump_undumped : {S K : Type 0} (supply : S → Supply) (store : K → Store) (source source' : S)
     (sink sink' : K) (answer : Result (Unit {0}) UndumpReport)
-    → UndumpRun supply store max_payload raw_budget source source' sink sink' (unreported_lines answer)
-    → IfErr answer (IsUndumpReport supply max_payload raw_budget source source' (store sink) (store sink'))
+    → UndumpRun supply store (raw_call source source' sink sink') (unreported_lines answer)
+    → IfErr answer (IsUndumpReport (raw_call (supply source) (supply source') (store sink) (store sink')))
     → ReportsUndump (supply source) (supply source') (store sink) (store sink') (undumped answer)
 unfolding undump_runs
 undump_undumped supply store source source' sink sink' (Ok done) run report =
     record { run = undump_runs supply store source source' sink sink' (Ok done) 0 refl run; place = tt }
 undump_undumped supply store source source' sink sink' (Err report) run is = record {
   run = undump_runs supply store source source' sink sink' (Err report.error) (undump_error_status report.error) refl run;
-  place = undump_reported supply source source' (store sink) (store sink') report is;
+  place = is;
 }
 
 -- such a run, with where it ended
 pub undump_reports : {S K : Type 0} (supply : S → Supply) (store : K → Store)
     (source source' : S) (sink sink' : K) (answer : Result (Unit {0}) UndumpReport) (outcome : Outcome)
     → outcome ≡ undumped answer
-    → UndumpRun supply store max_payload raw_budget source source' sink sink' (unreported_lines answer)
-    → IfErr answer (IsUndumpReport supply max_payload raw_budget source source' (store sink) (store sink'))
+    → UndumpRun supply store (raw_call source source' sink sink') (unreported_lines answer)
+    → IfErr answer (IsUndumpReport (raw_call (supply source) (supply source') (store sink) (store sink')))
     → ReportsUndump (supply source) (supply source') (store sink) (store sink') outcome
 undump_reports supply store source source' sink sink' answer outcome e run report =
     subst (ReportsUndump (supply source) (supply source') (store sink) (store sink'))

@@ -3,8 +3,9 @@ use Rattle.std.proofs.Common.{◌≡◌, ◌≢◌, ℕ, ◌≤◌, Bool, List, 
 use Rattle.amqp_wire.specs.declared.frame_type.AMQPFrameType.{AMQPFrameType}
 use Rattle.amqp_wire.specs.Frames.{Frame}
 use Rattle.amqp_stream.specs.declared.errors.StreamError.TheVariants as errors
+use Rattle.amqp_stream.specs.Changes.{◌⇒◌}
 use Rattle.amqp_stream.specs.Ends.{Supply, Store}
-use Rattle.amqp_stream.specs.Transcribing.{NeverBegan}
+use Rattle.amqp_stream.specs.Causes.{NeverBegan}
 use Rattle.amqp_in_turn.specs.declared.errors.TurnError.{TurnError}
 use Rattle.amqp_in_turn.specs.declared.errors.TurnError.TheVariants as turns
 use Rattle.amqp_in_turn.specs.Errors.{turn_error_status}
@@ -16,7 +17,7 @@ use Rattle.amqp_program.specs.declared.outcome.Outcome.{Outcome}
 use Rattle.amqp_program.specs.Outcomes.{turned}
 use Rattle.amqp_program.specs.Reporting.{ReportsInTurn}
 use Rattle.amqp_program.specs.Reports.{max_payload}
-use Rattle.amqp_program.specs.Runs.{IsDoneOrNoMemory, RunsInTurn, raw_budget, turn_status_of}
+use Rattle.amqp_program.specs.Runs.{IsDoneOrNoMemory, RunsInTurn, raw_call, turn_status_of}
 use Rattle.amqp_program.proofs.Ran.{stream_of, exact_of, complete_of, never_at, never_exactly_in_turn, never_done, unreported_ran, placed}
 use Rattle.amqp_program.proofs.Statuses.{not_two, not_23}
 
@@ -42,37 +43,37 @@ turn_not_two text wants a b k l status run h = turned_not_two run.answer (sym ru
 unfoldable pub turn_runs : {S K : Type 0} (text : List Frame → List ℕ) (wants : AMQPFrameType → Bool) (supply : S → Supply)
     (store : K → Store) (source source' : S) (sink sink' : K) (answer : Result (Unit {0}) TurnError) (status : ℕ)
     → status ≡ turn_status_of answer
-    → TurnRun text wants supply store max_payload raw_budget source source' sink sink' answer
-    ⊎ NeverBegan source source' sink sink' (turns.Stream errors.NoMemory) answer
+    → TurnRun text wants supply store (raw_call source source' sink sink') answer
+    ⊎ NeverBegan (source ⇒ source') (sink ⇒ sink') (turns.Stream errors.NoMemory) answer
     → RunsInTurn text wants (supply source) (supply source') (store sink) (store sink') status
 turn_runs text wants supply store source source' sink sink' answer status e ran = record {
   answer = answer;
   status_is = e;
   stream = stream_of (never_at supply store) ran;
-  exact = exact_of (never_exactly_in_turn text max_payload store) ran;
+  exact = exact_of (never_exactly_in_turn text supply store (raw_call source source' sink sink')) ran;
   complete = λ input left valid whole none.
       subst IsDoneOrNoMemory (sym e) (turned_done answer (complete_of (λ done. done) (never_done IsOkOrNoMemory tt) ran input left (valid, whole) none));
 }
 
 turn_turned : {S K : Type 0} (text : List Frame → List ℕ) (wants : AMQPFrameType → Bool) (supply : S → Supply)
     (store : K → Store) (source source' : S) (sink sink' : K) (answer : Result (Unit {0}) (RunReport TurnError))
-    → TurnReport text wants supply store max_payload raw_budget source source' sink sink' answer
-    ⊎ NeverBeganReport source source' sink sink' (turns.Stream errors.NoMemory) answer
+    → TurnReport text wants supply store (raw_call source source' sink sink') answer
+    ⊎ NeverBeganReport (source ⇒ source') (sink ⇒ sink') (turns.Stream errors.NoMemory) answer
     → ReportsInTurn text wants (supply source) (supply source') (store sink) (store sink') (turned answer)
 unfolding turn_runs
 turn_turned text wants supply store source source' sink sink' (Ok done) ran =
     record { run = turn_runs text wants supply store source source' sink sink' (Ok done) 0 refl (unreported_ran ran); place = tt }
 turn_turned text wants supply store source source' sink sink' (Err report) ran = record {
   run = turn_runs text wants supply store source source' sink sink' (Err report.error) (turn_error_status report.error) refl (unreported_ran ran);
-  place = placed (IsTurnReport wants max_payload (supply source) (supply source')) (turns.Stream errors.NoMemory) report ran;
+  place = placed (IsTurnReport wants max_payload (supply source ⇒ supply source')) (turns.Stream errors.NoMemory) report ran;
 }
 
 -- such a run, with where it ended
 pub turn_reports : {S K : Type 0} (text : List Frame → List ℕ) (wants : AMQPFrameType → Bool) (supply : S → Supply)
     (store : K → Store) (source source' : S) (sink sink' : K) (answer : Result (Unit {0}) (RunReport TurnError)) (outcome : Outcome)
     → outcome ≡ turned answer
-    → TurnReport text wants supply store max_payload raw_budget source source' sink sink' answer
-    ⊎ NeverBeganReport source source' sink sink' (turns.Stream errors.NoMemory) answer
+    → TurnReport text wants supply store (raw_call source source' sink sink') answer
+    ⊎ NeverBeganReport (source ⇒ source') (sink ⇒ sink') (turns.Stream errors.NoMemory) answer
     → ReportsInTurn text wants (supply source) (supply source') (store sink) (store sink') outcome
 turn_reports text wants supply store source source' sink sink' answer outcome e ran =
     subst (ReportsInTurn text wants (supply source) (supply source') (store sink) (store sink'))

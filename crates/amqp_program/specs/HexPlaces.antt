@@ -8,6 +8,7 @@ use Rattle.hex.specs.declared.error.FromHexError.{FromHexError}
 use Rattle.amqp_types.specs.Levels.{Level}
 use Rattle.amqp_stream.specs.declared.errors.StreamError.{StreamError}
 use Rattle.amqp_stream.specs.declared.report.RunReport.{RunReport}
+use Rattle.amqp_stream.specs.Changes.{◌⇒◌}
 use Rattle.amqp_stream.specs.Ends.{Supply}
 use Rattle.amqp_stream.specs.Errors.{stream_error_status}
 use Rattle.amqp_stream.specs.Reports.{IsReportAt}
@@ -23,7 +24,7 @@ pub record IsReportIn (level : Level) (bytes : List ℕ)
   pub source : Supply
   pub rest : Supply
   pub left_is : source.left ≡ Some bytes
-  pub is_report : IsReportAt level max_payload source rest report
+  pub is_report : IsReportAt level max_payload (source ⇒ rest) report
 
 -- the place of a report in decoded bytes
 abbrev pub decoded_place : Result (Unit {0}) (RunReport StreamError) → Option Place

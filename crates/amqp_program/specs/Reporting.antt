@@ -1,15 +1,15 @@
 -- What the report of a run says, by the command or the rules that were asked for: all that the run
 -- does, by its status, and where it ended.
-use Rattle.std.specs.Prelude.{◌≡◌, ℕ, ◌<◌, ◌≤◌, Bool, List, Option, Some, None, Result, Ok, Err}
+use Rattle.std.specs.Prelude.{◌≡◌, ℕ, Bool, List, None}
 use Rattle.amqp_types.specs.Levels.{Level, plain, tidy}
 use Rattle.amqp_wire.specs.declared.frame_type.AMQPFrameType.{AMQPFrameType}
 use Rattle.amqp_wire.specs.Frames.{Frame}
 use Rattle.amqp_stream.specs.declared.errors.StreamError.{StreamError}
 use Rattle.amqp_stream.specs.declared.errors.StreamError.TheVariants as errors
 use Rattle.amqp_stream.specs.declared.report.RunReport.{RunReport}
+use Rattle.amqp_stream.specs.Changes.{◌⇒◌}
 use Rattle.amqp_stream.specs.Ends.{Supply, Store}
 use Rattle.amqp_stream.specs.Reports.{IsReportAt}
-use Rattle.amqp_in_turn.specs.declared.errors.TurnError.{TurnError}
 use Rattle.amqp_in_turn.specs.declared.errors.TurnError.TheVariants as turns
 use Rattle.amqp_in_turn.specs.Reports.{IsTurnReport}
 use Rattle.amqp_lines.specs.Dumping.{IsDumpReport}
@@ -30,13 +30,13 @@ use Rattle.amqp_program.specs.HexPlaces.{IsHexPlace}
 use Rattle.amqp_program.specs.Outcomes.{IsLineBy, IsPlaceBy, OrAtStart, Reports}
 use Rattle.amqp_program.specs.Reports.{max_payload}
 use Rattle.amqp_program.specs.Runs.{RunsHex, RunsRaw, RunsText, RunsDump, RunsUndump}
-use Rattle.amqp_program.specs.Runs.{RunsInTurn, RunsRecut, Prints, raw_budget}
+use Rattle.amqp_program.specs.Runs.{RunsInTurn, RunsRecut, Prints, raw_call}
 
 -- ---- streams
 
 -- the report of a stream in which nothing is refused
 abbrev pub IsStreamReport : Supply → Supply → RunReport StreamError → Type 0
-IsStreamReport a b report = OrAtStart errors.NoMemory (IsReportAt plain max_payload a b) report
+IsStreamReport a b report = OrAtStart errors.NoMemory (IsReportAt plain max_payload (a ⇒ b)) report
 
 -- a run of `raw` or `lent`
 abbrev pub ReportsRaw : Supply → Supply → Store → Store → Outcome → Type 0
@@ -59,7 +59,7 @@ abbrev pub ReportsDump : Supply → Supply → Store → Store → Outcome → T
 ReportsDump a b k l outcome =
     Reports (RunsDump a b k l)
     (λ status run place.
-    IsPlaceBy (OrAtStart errors.NoMemory (IsDumpReport max_payload a b)) run.answer place)
+    IsPlaceBy (OrAtStart errors.NoMemory (IsDumpReport max_payload (a ⇒ b))) run.answer place)
     outcome
 
 -- a run of `undump`
@@ -67,7 +67,7 @@ abbrev pub ReportsUndump : Supply → Supply → Store → Store → Outcome →
 ReportsUndump a b k l outcome =
     Reports (RunsUndump a b k l)
     (λ status run place.
-    IsLineBy (IsUndumpReport (λ source. source) max_payload raw_budget a b k l) run.answer place)
+    IsLineBy (IsUndumpReport (raw_call a b k l)) run.answer place)
     outcome
 
 -- a run that writes this text for frames in turn
@@ -75,7 +75,7 @@ abbrev pub ReportsInTurn : (List Frame → List ℕ) → (AMQPFrameType → Bool
     → Supply → Supply → Store → Store → Outcome → Type 0
 ReportsInTurn text wants a b k l outcome = Reports (RunsInTurn text wants a b k l)
     (λ status run place.
-    IsPlaceBy (OrAtStart (turns.Stream errors.NoMemory) (IsTurnReport wants max_payload a b))
+    IsPlaceBy (OrAtStart (turns.Stream errors.NoMemory) (IsTurnReport wants max_payload (a ⇒ b)))
     run.answer place)
     outcome
 

@@ -1,12 +1,12 @@
 -- The report on a hex text, read at a level: what is printed for it, and the status.
-use Rattle.std.specs.Prelude.{ℕ, List, [], ◌∷◌, ◌++◌, codes, Result, Ok, Err}
+use Rattle.std.specs.Prelude.{◌≡◌, ℕ, List, [], ◌∷◌, ◌++◌, codes, Result, Ok, Err}
 use Rattle.std.specs.Io.BufRead.{strip_last}
 use Rattle.hex.specs.Hex.{decode_of, encode_lower}
 use Rattle.hex.specs.declared.error.FromHexError.{FromHexError}
 use Rattle.amqp_types.specs.Levels.{Level}
 use Rattle.amqp_stream.specs.declared.errors.StreamError.{StreamError}
-use Rattle.amqp_stream.specs.Errors.{stream_error_name, stream_error_status}
-use Rattle.amqp_stream.specs.Transcribing.{answer_to}
+use Rattle.amqp_stream.specs.Errors.{stream_error_name, stream_error_status, cause_of}
+use Rattle.amqp_stream.specs.Causes.{answer_to, UnlessStopped}
 use Rattle.amqp_stream.specs.Canonicalizing.{canon_of}
 use Rattle.amqp_program.specs.declared.report.Report.{Report}
 
@@ -38,6 +38,17 @@ unfoldable pub report_at : Level → List ℕ → Printed
 report_at level bytes =
     printed (encode_lower (canon_of level max_payload bytes) ++ 10 ∷ [])
     (answer_to level max_payload bytes)
+
+-- these are the result and the canonical bytes of some bytes, with this limit on payloads
+abbrev pub IsAnswer : ℕ → Level → List ℕ → List ℕ → Result (Unit {0}) StreamError → Type 0
+IsAnswer m level bytes written result =
+    (result ≡ answer_to level m bytes) × (written ≡ canon_of level m bytes)
+
+-- so it is, unless the stream was stopped
+abbrev pub IsAnswerWithin : ℕ → Level → List ℕ → List ℕ → Result (Unit {0}) StreamError → Type 0
+IsAnswerWithin m level bytes written (Ok done) = IsAnswer m level bytes written (Ok done)
+IsAnswerWithin m level bytes written (Err error) =
+    UnlessStopped (cause_of error) (IsAnswer m level bytes written (Err error))
 
 -- the report on decoded bytes; of a text that is not hex, the line BadHex with status 7
 abbrev pub report_of : Level → Result (List ℕ) FromHexError → Printed

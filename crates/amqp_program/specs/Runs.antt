@@ -9,9 +9,12 @@ use Rattle.amqp_wire.specs.Frames.{Frame}
 use Rattle.amqp_stream.specs.declared.errors.StreamError.{StreamError}
 use Rattle.amqp_stream.specs.declared.errors.StreamError.TheVariants as errors
 use Rattle.amqp_stream.specs.Errors.{status_of}
+use Rattle.amqp_stream.specs.Changes.{◌⇒◌}
+use Rattle.amqp_stream.specs.Calls.{Call, call_of}
 use Rattle.amqp_stream.specs.Ends.{Supply, Store, Takes, Gains, Rises, IsEmpty}
-use Rattle.amqp_stream.specs.Transcribing.{Transcribes, TranscribesExactly, IsSequence}
-use Rattle.amqp_stream.specs.Transcribing.{NeverBegan, IsValid, NoFaults}
+use Rattle.amqp_stream.specs.Causes.{IsSequence}
+use Rattle.amqp_stream.specs.Transcribing.{Transcribes, TranscribesExactly}
+use Rattle.amqp_stream.specs.Causes.{NeverBegan, IsValid, NoFaults}
 use Rattle.amqp_stream.specs.Canonicalizing.{canon_of, Canonicalizes, AnswersExactly}
 use Rattle.amqp_stream.specs.Writing.{IsPrefix}
 use Rattle.amqp_select.specs.declared.rule.Rule.{Rule}
@@ -85,11 +88,15 @@ pub record RunsHex (level : Level) (a b : Supply) (k l : Store) (status : ℕ) :
   pub ends : HexEnds level text written a b k l status
   pub accepts : status ≡ 0 → AcceptsHex level text written b
   pub complete : (input : List ℕ) → a.left ≡ Some input
-      → IsValidHex level input → NoFaults a b k l → IsDoneOrNoMemory status
+      → IsValidHex level input → NoFaults (a ⇒ b) (k ⇒ l) → IsDoneOrNoMemory status
 
 -- the most reads that `raw` makes
 abbrev pub raw_budget : ℕ
 raw_budget = 2 ^ 40
+
+-- a call that such a run makes
+abbrev pub raw_call : {S K : Type 0} → S → S → K → K → Call S K
+raw_call a b k l = call_of max_payload raw_budget (a ⇒ b) (k ⇒ l)
 
 -- where a run ended with 0, all that was taken is a sequence of frames, none is left, and their
 -- canonical bytes were written
@@ -106,28 +113,31 @@ pub record AcceptsRaw (a b : Supply) (k l : Store) : Type 0 where
 pub record RunsRaw (a b : Supply) (k l : Store) (status : ℕ) : Type 0 where
   pub answer : Result (Unit {0}) StreamError
   pub status_is : status ≡ status_of answer
-  pub stream : Canonicalizes plain max_payload raw_budget a b k l answer
-      ⊎ NeverBegan a b k l errors.NoMemory answer
-  pub memory : answer ≡ Err errors.NoMemory → NeverBegan a b k l errors.NoMemory answer
-  pub no_memory : status ≡ 3 → NeverBegan a b k l errors.NoMemory answer
+  pub stream : Canonicalizes plain (raw_call a b k l) answer
+      ⊎ NeverBegan (a ⇒ b) (k ⇒ l) errors.NoMemory answer
+  pub memory : answer ≡ Err errors.NoMemory
+      → NeverBegan (a ⇒ b) (k ⇒ l) errors.NoMemory answer
+  pub no_memory : status ≡ 3 → NeverBegan (a ⇒ b) (k ⇒ l) errors.NoMemory answer
   pub accepts : status ≡ 0 → AcceptsRaw a b k l
   pub exact : (input : List ℕ) → a.left ≡ Some input
-      → AnswersExactly plain max_payload input k l answer
+      → AnswersExactly plain (raw_call a b k l) input answer
   pub complete : (input : List ℕ) → a.left ≡ Some input
-      → IsValid plain max_payload raw_budget input → NoFaults a b k l → IsDoneOrNoMemory status
+      → IsValid plain max_payload raw_budget input
+      → NoFaults (a ⇒ b) (k ⇒ l) → IsDoneOrNoMemory status
 
 -- A text for the frames was written, of which none is refused.
 pub record RunsText (text : List Frame → List ℕ)
     (a b : Supply) (k l : Store) (status : ℕ) : Type 0 where
   pub answer : Result (Unit {0}) StreamError
   pub status_is : status ≡ status_of answer
-  pub stream : Transcribes text plain max_payload raw_budget a b k l answer
-      ⊎ NeverBegan a b k l errors.NoMemory answer
-  pub no_memory : status ≡ 3 → NeverBegan a b k l errors.NoMemory answer
+  pub stream : Transcribes text plain (raw_call a b k l) answer
+      ⊎ NeverBegan (a ⇒ b) (k ⇒ l) errors.NoMemory answer
+  pub no_memory : status ≡ 3 → NeverBegan (a ⇒ b) (k ⇒ l) errors.NoMemory answer
   pub exact : (input : List ℕ) → a.left ≡ Some input
-      → TranscribesExactly text plain max_payload input k l answer
+      → TranscribesExactly text plain (raw_call a b k l) input answer
   pub complete : (input : List ℕ) → a.left ≡ Some input
-      → IsValid plain max_payload raw_budget input → NoFaults a b k l → IsDoneOrNoMemory status
+      → IsValid plain max_payload raw_budget input
+      → NoFaults (a ⇒ b) (k ⇒ l) → IsDoneOrNoMemory status
 
 -- the canonical bytes of the frames that rules keep
 abbrev pub RunsSelect : List Rule → Supply → Supply → Store → Store → ℕ → Type 0
@@ -137,11 +147,13 @@ RunsSelect rules a b k l status = RunsText (selection rules) a b k l status
 pub record RunsDump (a b : Supply) (k l : Store) (status : ℕ) : Type 0 where
   pub answer : Result (Unit {0}) StreamError
   pub status_is : status ≡ status_of answer
-  pub stream : Dumps max_payload raw_budget a b k l answer
-      ⊎ NeverBegan a b k l errors.NoMemory answer
-  pub exact : (input : List ℕ) → a.left ≡ Some input → DumpsExactly max_payload input k l answer
+  pub stream : Dumps (raw_call a b k l) answer
+      ⊎ NeverBegan (a ⇒ b) (k ⇒ l) errors.NoMemory answer
+  pub exact : (input : List ℕ) → a.left ≡ Some input
+      → DumpsExactly (raw_call a b k l) input answer
   pub complete : (input : List ℕ) → a.left ≡ Some input
-      → IsValid plain max_payload raw_budget input → NoFaults a b k l → IsDoneOrNoMemory status
+      → IsValid plain max_payload raw_budget input
+      → NoFaults (a ⇒ b) (k ⇒ l) → IsDoneOrNoMemory status
 
 -- the status of a result of undumping
 abbrev pub undump_status_of : Result (Unit {0}) UndumpError → ℕ
@@ -152,10 +164,12 @@ undump_status_of (Err error) = undump_error_status error
 pub record RunsUndump (a b : Supply) (k l : Store) (status : ℕ) : Type 0 where
   pub answer : Result (Unit {0}) UndumpError
   pub status_is : status ≡ undump_status_of answer
-  pub stream : Undumps max_payload raw_budget a b k l answer
-  pub exact : (input : List ℕ) → a.left ≡ Some input → UndumpsExactly max_payload input k l answer
+  pub stream : Undumps (raw_call a b k l) answer
+  pub exact : (input : List ℕ) → a.left ≡ Some input
+      → UndumpsExactly (raw_call a b k l) input answer
   pub complete : (input : List ℕ) → a.left ≡ Some input
-      → IsValidText max_payload raw_budget input → NoFaults a b k l → IsDoneOrNoMemory status
+      → IsValidText max_payload raw_budget input
+      → NoFaults (a ⇒ b) (k ⇒ l) → IsDoneOrNoMemory status
 
 -- the status of a result of recutting or filtering
 abbrev pub turn_status_of : Result (Unit {0}) TurnError → ℕ
@@ -168,11 +182,12 @@ pub record RunsInTurn (text : List Frame → List ℕ) (wants : AMQPFrameType �
     (a b : Supply) (k l : Store) (status : ℕ) : Type 0 where
   pub answer : Result (Unit {0}) TurnError
   pub status_is : status ≡ turn_status_of answer
-  pub stream : GoesInTurn text wants max_payload raw_budget a b k l answer
-      ⊎ NeverBegan a b k l (turns.Stream errors.NoMemory) answer
-  pub exact : (input : List ℕ) → a.left ≡ Some input → GoesExactly text max_payload input k l answer
+  pub stream : GoesInTurn text wants (raw_call a b k l) answer
+      ⊎ NeverBegan (a ⇒ b) (k ⇒ l) (turns.Stream errors.NoMemory) answer
+  pub exact : (input : List ℕ) → a.left ≡ Some input
+      → GoesExactly text (raw_call a b k l) input answer
   pub complete : (input : List ℕ) → a.left ≡ Some input → IsValid plain max_payload raw_budget input
-      → AreWhole max_payload input → NoFaults a b k l → IsDoneOrNoMemory status
+      → AreWhole max_payload input → NoFaults (a ⇒ b) (k ⇒ l) → IsDoneOrNoMemory status
 
 -- the canonical bytes of the frames, with the bodies of messages cut into so many bytes
 abbrev pub RunsRecut : ℕ → Supply → Supply → Store → Store → ℕ → Type 0

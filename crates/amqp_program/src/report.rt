@@ -4,11 +4,10 @@ ghost use Rattle.std.specs.Prelude.{◌≡◌, ◌≢◌, ◌≤◌, ◌++◌, �
 ghost use Rattle.std.specs.Char.{is_ascii_hexdigit};
 ghost use Rattle.std.specs.List.{prefix_len};
 ghost use Rattle.amqp_types.specs.Levels.{level_of};
-ghost use Rattle.amqp_wire.specs.Canonical.{canon_frames};
 ghost use Rattle.amqp_stream.specs.Reports.{unreported};
-ghost use Rattle.amqp_stream.specs.Transcribing.{IsAnswerTo};
 ghost use Rattle.amqp_stream.specs.Writing.{AsksTidy};
 ghost use Rattle.amqp_program.specs.Reports.{max_payload, printed_of, printed, report, report_at};
+ghost use Rattle.amqp_program.specs.Reports.{IsAnswerWithin};
 ghost use Rattle.amqp_program.specs.HexPlaces.{IsReportIn, IsPlaceIn, IsHexPlace, decoded_place};
 ghost use Rattle.hex.specs.Hex.{encode_lower};
 
@@ -37,8 +36,8 @@ fn canonical(
     bytes: &[u8],
 ) -> Result<(VecSink, Result<(), RunReport<StreamError>>), NoMemory>
     ensures answer { IfOk result (λ r.
-        IsAnswerTo canon_frames (level_of profile)
-        max_payload bytes.now r.0.bytes (unreported r.1)) }
+        IsAnswerWithin max_payload (level_of profile)
+        bytes.now r.0.bytes (unreported r.1)) }
     ensures memory { IfOk result (λ r. unreported r.1 ≢ Err StreamError.NoMemory) }
     ensures untidy { IfOk result
         (λ r. unreported r.1 ≡ Err StreamError.NotTidy → AsksTidy (level_of profile)) }

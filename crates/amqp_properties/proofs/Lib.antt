@@ -1,5 +1,6 @@
 -- The lemmas of amqp_properties.
 pub mod AllProperties
 pub mod Sizes
+pub mod Chained
 pub mod Holding
 pub mod EqualProperties

@@ -1,12 +1,12 @@
 -- The size of all properties, from those of each: only a table is refused.
-use Rattle.std.proofs.Common.{◌≡◌, ℕ, ◌+◌, ◌||◌, List, [], ◌∷◌, ◌++◌, length, Bool, true, false, Option, Some, None, option_map, Result}
-use Rattle.std.proofs.Common.{Ok, Err, refl, ap, ◌∙◌, arith}
+use Rattle.std.proofs.Common.{◌≡◌, ℕ, ◌+◌, ◌||◌, List, [], ◌∷◌, length, Bool, true, false, Option, Some, None, option_map}
+use Rattle.std.proofs.Common.{Ok, Err, refl, ap, arith}
 use Rattle.std.proofs.lemmas.List.{length-append}
 use Rattle.amqp_types.specs.Numbers.{bytes2, number_bytes}
 use Rattle.amqp_types.specs.Sizes.{measured}
-use Rattle.amqp_types.specs.Slots.{Item, number_item, text_item, entries_item, number_form}
+use Rattle.amqp_types.specs.Slots.{Item, number_item, text_item, entries_item}
 use Rattle.amqp_types.specs.SlotBytes.{form_bytes}
-use Rattle.amqp_types.specs.Properties.{Property, properties, later_properties}
+use Rattle.amqp_types.specs.Properties.{Property, properties}
 use Rattle.amqp_types.specs.PropertyBytes.{mask_of, optional_bytes, set_bytes, properties_bytes, properties_size, is_deep_option, is_long_option}
 use Rattle.amqp_types.specs.PropertyBytes.{any_deep_option, any_long_option}
 use Rattle.amqp_types.specs.declared.errors.GenError.{GenError}

@@ -11,11 +11,14 @@ ghost use Rattle.amqp_properties.specs.Options.{options};
 use crate::optional_fields::{
     field_long_long_uint, field_short_short_uint, field_short_string, field_table,
 };
+use crate::optional_puts::{
+    put_optional_byte, put_optional_table, put_optional_text, put_optional_time,
+};
 use crate::optional_sizes::{
     size_optional_byte, size_optional_table, size_optional_text, size_optional_time,
 };
 use crate::properties::AMQPProperties;
-use amqp_values::{Field, GenError, gen_fields, put_fields};
+use amqp_values::{Field, GenError, gen_fields, put_short_uint};
 use std::alloc::Global;
 
 /// The mask, and the properties that are set.
@@ -72,7 +75,21 @@ pub fn put_properties(buf: &mut [u8], at: usize, value: &AMQPProperties) -> usiz
         (properties_bytes (options value.now)) }
     ensures { Puts buf.old buf.new at (properties_bytes (options value.now)) result }
 {
-    put_fields(buf, at, &properties_fields(value))
+    let mask = put_short_uint(buf, at, &value.bitmask());
+    let type_end = put_optional_text(buf, mask, &value.content_type);
+    let encoding = put_optional_text(buf, type_end, &value.content_encoding);
+    let headers = put_optional_table(buf, encoding, &value.headers);
+    let mode = put_optional_byte(buf, headers, &value.delivery_mode);
+    let priority = put_optional_byte(buf, mode, &value.priority);
+    let correlation = put_optional_text(buf, priority, &value.correlation_id);
+    let reply = put_optional_text(buf, correlation, &value.reply_to);
+    let expiration = put_optional_text(buf, reply, &value.expiration);
+    let message = put_optional_text(buf, expiration, &value.message_id);
+    let time = put_optional_time(buf, message, &value.timestamp);
+    let kind = put_optional_text(buf, time, &value.kind);
+    let user = put_optional_text(buf, kind, &value.user_id);
+    let app = put_optional_text(buf, user, &value.app_id);
+    put_optional_text(buf, app, &value.cluster_id)
 }
 
 /// Appends the mask and the properties that are set to a vector.

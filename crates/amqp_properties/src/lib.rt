@@ -7,6 +7,7 @@ mod held_properties;
 mod laws;
 mod optional;
 mod optional_fields;
+mod optional_puts;
 mod optional_sizes;
 mod parsing;
 mod properties;

@@ -12,7 +12,7 @@ use Rattle.amqp_wire.specs.Canonical.{canon, size_of, read_back, payload_of}
 use Rattle.amqp_wire.specs.Frames.{Frame, Proto, Meth, Head, Body, Beat, BadBeat}
 use Rattle.amqp_wire.specs.Laws.{IsFrameHeld}
 use Rattle.amqp_wire.specs.Spelling.{Spells, IsWithin}
-use Rattle.amqp_wire.specs.Verdicts.{verdict}
+use Rattle.amqp_wire.specs.Verdicts.{judge_frame}
 use Rattle.amqp_wire.proofs.Encoded.{verdict-spells}
 use Rattle.amqp_wire.proofs.ReadingBack.{reads_back}
 use Rattle.amqp_wire.proofs.Sizes.{framed_length}
@@ -30,18 +30,18 @@ in_front old new bytes is = is
 -- the bytes that were put are decoded to the frame
 pub bytes_back : (level : Level) (limit : Option ℕ) (old new : List ℕ) (n : ℕ) (frame : Frame) (flaw : Option PutError)
     → IsBytes new → IsFrameHeld frame → size_of frame ≡ Ok (length (canon frame)) → IsWithin limit (canon frame)
-    → MakesBytes old new flaw (canon frame) (Ok n) → verdict level limit new ≡ took (read_back frame) n
+    → MakesBytes old new flaw (canon frame) (Ok n) → judge_frame level limit new ≡ took (read_back frame) n
 bytes_back level limit old new n frame flaw bytes held size within made =
     let rest : List ℕ = drop (0 + length (canon frame)) old in
     let front : new ≡ canon frame ++ rest = in_front old new (canon frame) made.2 in
-    let got : verdict level None new ≡ took (read_back frame) (length (canon frame)) = ap (verdict level None) front
+    let got : judge_frame level None new ≡ took (read_back frame) (length (canon frame)) = ap (judge_frame level None) front
     ∙ (reads_back level frame held size).whole rest in
     let taken : take (length (canon frame)) new ≡ canon frame = ap (take (length (canon frame))) front
     ∙ take_at (canon frame) rest (length (canon frame)) refl in
     let P : List ℕ → Type 0 = λ bs. Spells level bs (read_back frame) in
     let spelled : Spells level (canon frame) (read_back frame) =
     subst P taken (verdict-spells level None new (read_back frame) (length (canon frame)) bytes got).0 in
-    ap (verdict level limit) front ∙ verdict-spelled_before level limit (canon frame) rest (read_back frame) spelled within
+    ap (judge_frame level limit) front ∙ verdict-spelled_before level limit (canon frame) rest (read_back frame) spelled within
     ∙ ap (took (read_back frame)) (sym made.1)
 
 no_first : (flaw after : Option PutError) → first_of flaw after ≡ None → after ≡ None

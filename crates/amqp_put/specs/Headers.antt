@@ -1,13 +1,16 @@
 -- Content headers that are written by their properties.
-use Rattle.std.specs.Prelude.{◌≡◌, ℕ, false, List, [], ◌∷◌, Option, None, option_map}
+use Rattle.std.specs.Prelude.{◌≡◌, ◌<◌, ◌^◌, ℕ, false, List, [], ◌∷◌, Option, None, option_map}
+use Rattle.std.specs.Prelude.{Result}
 use Rattle.amqp_types.specs.Flags.{flag_at}
-use Rattle.amqp_types.specs.Slots.{Item, number_item, text_item, entries_item}
+use Rattle.amqp_types.specs.Slots.{Item, number_item, text_item, entries_item, Form, table_form}
 use Rattle.amqp_types.specs.ContentHeaders.{ContentHeader}
 use Rattle.amqp_types.specs.Constants.{inner_depth}
+use Rattle.amqp_wire.specs.Frames.{Head}
 use Rattle.amqp_entries.specs.Contents.{table_in, table_flaw as content_flaw}
 use Rattle.amqp_entries.specs.Flaws.{text_flaw}
 use Rattle.amqp_entries.specs.declared.table_content.TableContent.{TableContent}
 use Rattle.amqp_put.specs.Flaws.{first_flaw}
+use Rattle.amqp_put.specs.MadeFrames.{MakesFrame}
 use Rattle.amqp_put.specs.Properties.{where_some, if_set, flaw_if}
 use Rattle.amqp_entries.specs.declared.errors.PutError.{PutError}
 use Rattle.amqp_put.specs.declared.strings.Text.{Text}
@@ -117,3 +120,21 @@ masked_flaw p headers =
     flaw_if (flag_at p.mask 3) (text_flaw p.app_id.now) ∷
     flaw_if (flag_at p.mask 2) (text_flaw p.cluster_id.now) ∷
     [])
+
+-- ---- what a call has that puts the frame of a content header by a mask
+
+-- The headers are a table, whose size is counted, and no bit of the mask is set that is no
+-- property's.
+pub record TakesHeaders (form : Form) (most mask : ℕ) : Type 0 where
+  pub table : form ≡ table_form
+  pub few : most < 2 ^ 38
+  pub second : flag_at mask 1 ≡ false
+  pub lowest : flag_at mask 0 ≡ false
+
+-- The canonical bytes of the frame, with these headers, which have this flaw.
+abbrev pub MakesHeader : List ℕ → List ℕ → ℕ → ℕ → ℕ → ℕ → MaskedProperties → Item
+    → Option PutError → Result ℕ PutError → Type 0
+MakesHeader old new max channel class body_size p headers flaw result =
+    MakesFrame old new max
+    (Head channel (header_with class body_size (masked_options p headers)))
+    (masked_flaw p flaw) result

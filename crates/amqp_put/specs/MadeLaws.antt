@@ -6,7 +6,7 @@ use Rattle.amqp_wire.specs.Canonical.{canon, size_of, read_back}
 use Rattle.amqp_wire.specs.Frames.{Frame}
 use Rattle.amqp_wire.specs.Laws.{IsFrameHeld}
 use Rattle.amqp_wire.specs.Spelling.{IsWithin}
-use Rattle.amqp_wire.specs.Verdicts.{verdict}
+use Rattle.amqp_wire.specs.Verdicts.{judge_frame}
 use Rattle.amqp_put.specs.Made.{MakesBytes}
 use Rattle.amqp_put.specs.MadeFrames.{MakesFrame}
 use Rattle.amqp_entries.specs.declared.errors.PutError.{PutError}
@@ -19,7 +19,7 @@ MadeBytesReadBack = (level : Level) (limit : Option ℕ) (old new : List ℕ) (n
     → IsBytes new → IsFrameHeld frame → size_of frame ≡ Ok (length (canon frame))
     → IsWithin limit (canon frame)
     → MakesBytes old new flaw (canon frame) (Ok n)
-    → verdict level limit new ≡ took (read_back frame) n
+    → judge_frame level limit new ≡ took (read_back frame) n
 
 -- What was made for a peer that takes payloads of so many bytes is within that limit, and within
 -- each larger one.

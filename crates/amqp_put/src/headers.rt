@@ -2,7 +2,6 @@
 
 ghost use Rattle.std.specs.Prelude.{◌≡◌, ◌↔◌, ◌≤◌, ◌<◌, ◌+◌, ◌^◌, false, length, IsTrue};
 ghost use Rattle.amqp_types.specs.Flags.{flag_at};
-ghost use Rattle.amqp_types.specs.Slots.{table_form};
 ghost use Rattle.amqp_types.specs.Properties.{properties};
 ghost use Rattle.amqp_types.specs.PropertyBytes.{mask_of};
 ghost use Rattle.amqp_wire.specs.Frames.{Head};
@@ -10,7 +9,7 @@ ghost use Rattle.amqp_put.specs.MadeFrames.{MakesFrame};
 ghost use Rattle.amqp_put.specs.Refusals.{refusal_of};
 ghost use Rattle.amqp_put.specs.Properties.{from_bit};
 ghost use Rattle.amqp_put.specs.Headers.{HasNoRareBit, HasNoUnusedBit, options_of, flaw_of};
-ghost use Rattle.amqp_put.specs.Headers.{header_with, masked_options, masked_flaw};
+ghost use Rattle.amqp_put.specs.Headers.{header_with, MakesHeader, TakesHeaders};
 
 use crate::properties::{Masked, MaskedText, ToItem, ToProperties};
 use crate::reserved::ReservedShort;
@@ -341,15 +340,10 @@ fn put_by_mask<'a, T: ToItem + Copy, const RARE: bool>(
     max_payload: u32,
     out: &mut [u8],
 ) -> Result<usize, PutError>
-    requires table { T.form ≡ table_form }
-    requires few { T.most < 2 ^ 38 }
-    requires second { flag_at properties.now.mask 1 ≡ false }
-    requires lowest { flag_at properties.now.mask 0 ≡ false }
+    requires header { TakesHeaders T.form T.most properties.now.mask }
     requires rare { RARE ≡ false → HasNoRareBit properties.now.mask }
-    ensures { MakesFrame out.old out.new max_payload
-        (Head channel (header_with class body_size
-        (masked_options properties.now (T.item headers))))
-        (masked_flaw properties.now (T.flaw headers)) result }
+    ensures { MakesHeader out.old out.new max_payload channel class body_size properties.now
+        (T.item headers) (T.flaw headers) result }
 {
     let mask = properties.mask;
     let later = (
@@ -416,16 +410,37 @@ fn put_rare<'a, T: ToItem + Copy>(
     max_payload: u32,
     out: &mut [u8],
 ) -> Result<usize, PutError>
-    requires table { T.form ≡ table_form }
-    requires few { T.most < 2 ^ 38 }
-    requires second { flag_at properties.now.mask 1 ≡ false }
-    requires lowest { flag_at properties.now.mask 0 ≡ false }
-    ensures { MakesFrame out.old out.new max_payload
-        (Head channel (header_with class body_size
-        (masked_options properties.now (T.item headers))))
-        (masked_flaw properties.now (T.flaw headers)) result }
+    requires { TakesHeaders T.form T.most properties.now.mask }
+    ensures { MakesHeader out.old out.new max_payload channel class body_size properties.now
+        (T.item headers) (T.flaw headers) result }
 {
     put_by_mask::<T, true>(
+        channel,
+        class,
+        body_size,
+        properties,
+        headers,
+        max_payload,
+        out,
+    )
+}
+
+/// Calls it with a copy of the headers, so that these themselves need no place in memory.
+#[inline(always)]
+fn call_rare<'a, T: ToItem + Copy>(
+    channel: ChannelId,
+    class: Identifier,
+    body_size: PayloadSize,
+    properties: &'a MaskedProperties<'a>,
+    headers: T,
+    max_payload: u32,
+    out: &mut [u8],
+) -> Result<usize, PutError>
+    requires { TakesHeaders T.form T.most properties.now.mask }
+    ensures { MakesHeader out.old out.new max_payload channel class body_size properties.now
+        (T.item headers) (T.flaw headers) result }
+{
+    put_rare(
         channel,
         class,
         body_size,
@@ -448,17 +463,12 @@ pub fn put_masked_header<'a, T: ToItem + Copy>(
     max_payload: u32,
     out: &mut [u8],
 ) -> Result<usize, PutError>
-    requires table { T.form ≡ table_form }
-    requires few { T.most < 2 ^ 38 }
-    requires second { flag_at properties.now.mask 1 ≡ false }
-    requires lowest { flag_at properties.now.mask 0 ≡ false }
-    ensures { MakesFrame out.old out.new max_payload
-        (Head channel (header_with class body_size
-        (masked_options properties.now (T.item headers))))
-        (masked_flaw properties.now (T.flaw headers)) result }
+    requires { TakesHeaders T.form T.most properties.now.mask }
+    ensures { MakesHeader out.old out.new max_payload channel class body_size properties.now
+        (T.item headers) (T.flaw headers) result }
 {
     if has_rare(properties.mask) {
-        return put_rare(
+        return call_rare(
             channel,
             class,
             body_size,

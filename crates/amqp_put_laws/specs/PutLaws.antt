@@ -8,7 +8,7 @@ use Rattle.amqp_protocol.specs.declared.class.AMQPClass.{AMQPClass}
 use Rattle.amqp_wire.specs.Canonical.{canon, size_of, read_back}
 use Rattle.amqp_wire.specs.Frames.{Frame, Meth, Raw}
 use Rattle.amqp_wire.specs.Laws.{IsFrameHeld}
-use Rattle.amqp_wire.specs.Outer.{outer}
+use Rattle.amqp_wire.specs.HeaderScan.{scan}
 use Rattle.amqp_entries.specs.declared.errors.PutError.{PutError}
 use Rattle.amqp_put.specs.Made.{MakesBytes, MakesMethod}
 use Rattle.amqp_put.specs.MadeFrames.{MakesEight, MakesFrame}
@@ -47,5 +47,5 @@ abbrev pub PutFieldsAreRead : Type 0
 PutFieldsAreRead = (old new : List ℕ) (n : ℕ) (frame : Frame) (flaw : Option PutError) (raw : Raw)
     (used : ℕ) (deep : Bool)
     → IsFrameHeld frame → size_of frame ≡ Ok (length (canon frame))
-    → MakesBytes old new flaw (canon frame) (Ok n) → outer None new ≡ took raw used
+    → MakesBytes old new flaw (canon frame) (Ok n) → scan None new ≡ took raw used
     → AreNodesOf deep raw.payload (read_back frame) (fields_nodes raw.kind deep raw.payload)

@@ -1,7 +1,7 @@
 -- What is gathered one after another, and the steps that are made of it.
 use Rattle.std.proofs.Common.{◌≡◌, ℕ, List, [], ◌++◌, refl, sym, ap, subst, ◌∙◌, append_assoc, append-nil, Result, Ok, Err}
 use Rattle.amqp_wire.specs.Frames.{Raw, Body}
-use Rattle.amqp_wire.specs.Verdicts.{whole_as}
+use Rattle.amqp_wire.specs.Verdicts.{decode_payload}
 use Rattle.amqp_stream.specs.declared.sink.SinkFault.{SinkFault}
 use Rattle.amqp_stream.specs.Ends.{Store}
 use Rattle.amqp_stream.specs.Writing.{Gathered, GatherFails, Gathers, WritesAll}
@@ -62,7 +62,7 @@ all_written a b x y (Err bad) e h = record { piece = h.piece; gains = h.gains; p
 
 body_step : (s t : Recutter) (channel : ℕ) (payload bytes : List ℕ)
     → step_recutting s (Body channel payload) ≡ Ok (bytes, t) → IsStep recutting s t (body_raw channel payload) bytes
-unfolding whole_as
+unfolding decode_payload
 body_step s t channel payload bytes e = record { frame = Body channel payload; is_whole = refl; at_level = refl; steps = e }
 
 -- what is written for a body was gathered, or not

@@ -13,7 +13,7 @@ use Rattle.amqp_wire.specs.declared.outline.FrameOutline.{FrameOutline}
 use Rattle.amqp_wire.specs.Frames.{Raw, Frame, Proto, Meth, Head, Body, channel_id_of, beat_on, IsTyped}
 use Rattle.amqp_wire.specs.Outlines.{outline_of}
 use Rattle.amqp_wire.specs.Canonical.{canon, canon_frames}
-use Rattle.amqp_wire.specs.Verdicts.{whole, whole_as, all_of}
+use Rattle.amqp_wire.specs.Verdicts.{decode_raw, decode_payload, all_of}
 use Rattle.amqp_wire.proofs.Encoded.{read_as}
 use Rattle.amqp_turns.specs.declared.fault.ContentFault.{ContentFault}
 use Rattle.amqp_turns.specs.declared.mark.Mark.{Mark}
@@ -46,8 +46,8 @@ pub data IsPartOn (channel : ℕ) (frame : Frame) : Type 0 where
   header_on : (header : ContentHeader) → Head channel header ≡ frame → IsPartOn channel frame
 
 typed_whole : (kind : AMQPFrameType) (channel : ℕ) (payload : List ℕ) (frame : Frame)
-    → IsTyped kind → whole_as kind channel payload ≡ Ok frame → IsPartOn channel frame
-unfolding whole_as
+    → IsTyped kind → decode_payload kind channel payload ≡ Ok frame → IsPartOn channel frame
+unfolding decode_payload
 typed_whole kinds.Method channel payload frame typed h =
     let read = read_as (λ x. Meth channel x) (all_of judge_payload payload) frame h in
     method_on read.0 read.2
@@ -71,8 +71,8 @@ typed_wants kinds.Body typed = absurd typed
 typed_wants kinds.Heartbeat typed = absurd typed
 
 proto_outside : (channel : ℕ) (payload : List ℕ) (frame : Frame)
-    → whole_as kinds.ProtocolHeader channel payload ≡ Ok frame → is_content (outline_of frame) ≡ false
-unfolding whole_as
+    → decode_payload kinds.ProtocolHeader channel payload ≡ Ok frame → is_content (outline_of frame) ≡ false
+unfolding decode_payload
 proto_outside channel [] frame h = absurd cc
 proto_outside channel (a ∷ []) frame h = absurd cc
 proto_outside channel (a ∷ b ∷ []) frame h = absurd cc
@@ -96,8 +96,8 @@ IsOutsideType kinds.Header = ⊥
 IsOutsideType kinds.Body = ⊥
 
 outside_whole : (kind : AMQPFrameType) (channel : ℕ) (payload : List ℕ) (frame : Frame)
-    → IsOutsideType kind → whole_as kind channel payload ≡ Ok frame → is_content (outline_of frame) ≡ false
-unfolding whole_as IsOutsideType
+    → IsOutsideType kind → decode_payload kind channel payload ≡ Ok frame → is_content (outline_of frame) ≡ false
+unfolding decode_payload IsOutsideType
 outside_whole kinds.ProtocolHeader channel payload frame out h = proto_outside channel payload frame h
 outside_whole kinds.Heartbeat channel payload frame out h =
     let is : beat_on channel ≡ frame = cc in
@@ -177,14 +177,15 @@ part_step s channel frame (marks.Fault bad) on part e = absurd part
 
 -- the outline is that of the frame, where the payload is one
 abbrev pub IsOutlineOf : Raw → FrameOutline → Type 0
-IsOutlineOf raw outline = (frame : Frame) → whole raw ≡ Ok frame → Some outline ≡ Some (outline_of frame)
+IsOutlineOf raw outline = (frame : Frame) → decode_raw raw ≡ Ok frame → Some outline ≡ Some (outline_of frame)
 
 same_outline : (outline other : FrameOutline) → Some outline ≡ Some other → outline ≡ other
 same_outline outline other e = cc
 
 -- the mark by what is kept of the channel of a payload is that of the frame
 marked_by : (s : Recutter) (raw : Raw) (outline : FrameOutline) (mark : Mark) (frame : Frame) → IsTyped raw.kind → IsOutlineOf raw outline
-    → mark ≡ mark_after greatest (progress_in (held_at s raw.channel)) outline → whole raw ≡ Ok frame → mark_held (held_at s (channel_id_of frame)) frame ≡ mark
+    → mark ≡ mark_after greatest (progress_in (held_at s raw.channel)) outline → decode_raw raw ≡ Ok frame
+    → mark_held (held_at s (channel_id_of frame)) frame ≡ mark
 marked_by s raw outline mark frame typed is e h =
     let channel = part_channel raw.channel frame (typed_whole raw.kind raw.channel raw.payload frame typed h) in
     ap (λ c. mark_held (held_at s c) frame) channel
@@ -193,20 +194,20 @@ marked_by s raw outline mark frame typed is e h =
 -- A method or a content header that is not in turn is refused with its fault.
 pub typed_refused : (s : Recutter) (raw : Raw) (outline : FrameOutline) (bad : ContentFault) → IsTyped raw.kind
     → IsOutlineOf raw outline → marks.Fault bad ≡ mark_after greatest (progress_in (held_at s raw.channel)) outline
-    → (frame : Frame) → whole raw ≡ Ok frame → step_recutting s frame ≡ Err (refusals.BadContent bad)
+    → (frame : Frame) → decode_raw raw ≡ Ok frame → step_recutting s frame ≡ Err (refusals.BadContent bad)
 typed_refused s raw outline bad typed is e frame h =
     ap (step_marked s (held_at s (channel_id_of frame)) frame) (marked_by s raw outline (marks.Fault bad) frame typed is e h)
 
 -- A method outside of messages is written as it is, and all that is kept stays.
 pub typed_passed : (s : Recutter) (raw : Raw) (outline : FrameOutline) → IsTyped raw.kind
     → IsOutlineOf raw outline → marks.Passed ≡ mark_after greatest (progress_in (held_at s raw.channel)) outline
-    → (frame : Frame) → whole raw ≡ Ok frame → step_recutting s frame ≡ Ok (canon frame, s)
+    → (frame : Frame) → decode_raw raw ≡ Ok frame → step_recutting s frame ≡ Ok (canon frame, s)
 typed_passed s raw outline typed is e frame h = passed_step s frame (marked_by s raw outline marks.Passed frame typed is e h)
 
 -- A method or a content header of a message is written as it is, and its message is kept as far as it has come, with no bytes left over.
 pub typed_part : (s : Recutter) (raw : Raw) (outline : FrameOutline) (mark : Mark) (progress : Option Progress) → IsTyped raw.kind
     → IsOutlineOf raw outline → IsPart mark → mark ≡ mark_after greatest (progress_in (held_at s raw.channel)) outline
-    → progress ≡ progress_after greatest (progress_in (held_at s raw.channel)) outline → (frame : Frame) → whole raw ≡ Ok frame
+    → progress ≡ progress_after greatest (progress_in (held_at s raw.channel)) outline → (frame : Frame) → decode_raw raw ≡ Ok frame
     → step_recutting s frame ≡ Ok (canon frame, record s { messages = set_at s.messages raw.channel (held_with progress []) })
 typed_part s raw outline mark progress typed is part e after frame h =
     let on = typed_whole raw.kind raw.channel raw.payload frame typed h in
@@ -220,7 +221,8 @@ typed_part s raw outline mark progress typed is part e after frame h =
     (ap (progress_after greatest (progress_in (held_at s raw.channel))) (sym same) ∙ sym after)
 
 -- A protocol header or a heartbeat is written as it is, and all that is kept stays.
-pub outside_passed : (s : Recutter) (raw : Raw) → IsOutsideType raw.kind → (frame : Frame) → whole raw ≡ Ok frame → step_recutting s frame ≡ Ok (canon frame, s)
+pub outside_passed : (s : Recutter) (raw : Raw) → IsOutsideType raw.kind → (frame : Frame) → decode_raw raw ≡ Ok frame
+    → step_recutting s frame ≡ Ok (canon frame, s)
 outside_passed s raw out frame h =
     passed_step s frame (passed_mark (progress_in (held_at s (channel_id_of frame))) frame (outside_whole raw.kind raw.channel raw.payload frame out h))
 
@@ -237,7 +239,7 @@ beat_is_outside = tt
 -- ---- what is returned
 
 passing_cause : (s : Recutter) (raw : Raw) (a b : Store) (x y : List ℕ) (cause : Cause)
-    → ((frame : Frame) → whole raw ≡ Ok frame → step_recutting s frame ≡ Ok (canon frame, s))
+    → ((frame : Frame) → decode_raw raw ≡ Ok frame → step_recutting s frame ≡ Ok (canon frame, s))
     → IsUnwritten raw a b x y cause → WritesBy recutting s s raw a b x y (stopped_by cause)
 passing_cause s raw a b x y (faulty bad) steps h = (is_faulty plain raw bad h.0 h.1, h.2, refl)
 passing_cause s raw a b x y write_failed steps h =
@@ -249,7 +251,7 @@ passing_cause s raw a b x y out_of_memory steps h = absurd h
 
 -- a frame is written as it is, and what is kept stays
 pub passing : (s : Recutter) (raw : Raw) (a b : Store) (x y : List ℕ) (r : Result (Unit {0}) StreamError)
-    → ((frame : Frame) → whole raw ≡ Ok frame → step_recutting s frame ≡ Ok (canon frame, s))
+    → ((frame : Frame) → decode_raw raw ≡ Ok frame → step_recutting s frame ≡ Ok (canon frame, s))
     → WritesFrame raw a b x y r → WritesBy recutting s s raw a b x y (ending_of (as_run r))
 passing s raw a b x y (Ok done) steps h =
     record { bytes = canon h.0; step = record { frame = h.0; is_whole = h.1; at_level = refl; steps = steps h.0 h.1 }; gathered = h.2 }
@@ -266,7 +268,7 @@ body_progress s channel payload = progress_after greatest (progress_in (held_at 
 -- A body that is not in turn is refused with its fault, and nothing is written for it.
 pub body_refused : (s : Recutter) (channel : ℕ) (payload : List ℕ) (bad : ContentFault) (a : Store) (x y : List ℕ) → y ≡ x
     → marks.Fault bad ≡ body_mark_of s channel payload → WritesBy recutting s s (body_raw channel payload) a a x y (refused_by (refusals.BadContent bad))
-unfolding whole_as
+unfolding decode_payload
 body_refused s channel payload bad a x y same e = (
   record { frame = Body channel payload; is_whole = refl; at_level = refl; refuses = ap (step_marked s (held_at s channel) (Body channel payload)) (sym e) },
   kept a x y same,

@@ -10,7 +10,7 @@ use Rattle.amqp_wire.specs.declared.frame_type.AMQPFrameType.TheVariants as kind
 use Rattle.amqp_wire.specs.Frames.{Raw, Body}
 use Rattle.amqp_wire.specs.Canonical.{canon, canon_frames}
 use Rattle.amqp_wire.specs.Outlines.{outline_of}
-use Rattle.amqp_wire.specs.Verdicts.{whole_as}
+use Rattle.amqp_wire.specs.Verdicts.{decode_payload}
 use Rattle.amqp_wire.proofs.Judged.{body_frame}
 use Rattle.amqp_stream.specs.declared.errors.RunError.{RunError}
 use Rattle.amqp_stream.specs.declared.errors.RunError.TheVariants as runs
@@ -37,7 +37,7 @@ use Rattle.amqp_recut.proofs.Stepping.{body_ends, body_goes_on}
 pub body_kept : (s t : Recutter) (raw : Raw) → raw.kind ≡ kinds.Body
     → step_recutting s (Body raw.channel raw.payload) ≡ Ok (canon (Body raw.channel raw.payload), t)
     → IsKept recutting s t raw (record { canonical = true; tidy = true })
-unfolding whole_as
+unfolding decode_payload
 body_kept s t raw is steps =
     let P : AMQPFrameType → Type 0 =
     λ k. IsKept recutting s t (record { kind = k; channel = raw.channel; payload = raw.payload }) (record { canonical = true; tidy = true }) in

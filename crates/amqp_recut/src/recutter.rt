@@ -33,7 +33,7 @@ impl Recutter {
     ghost use Rattle.amqp_wire.specs.Frames.{Frame, Body, raw_of, IsTyped};
     ghost use Rattle.amqp_wire.specs.Canonical.{canon, canon_frames};
     ghost use Rattle.amqp_wire.specs.Judgements.{IsJudged};
-    ghost use Rattle.amqp_wire.specs.Verdicts.{whole};
+    ghost use Rattle.amqp_wire.specs.Verdicts.{decode_raw};
     ghost use Rattle.amqp_stream.specs.Decisions.{DecidesBy};
     ghost use Rattle.amqp_stream.specs.Streaming.{WritesBy, ending_of};
     ghost use Rattle.amqp_in_turn.specs.Judging.{JudgesKept};
@@ -160,7 +160,7 @@ impl Recutter {
     ) -> Result<Decision, RunError<Refusal>>
         requires typed { IsTyped raw.frame_type }
         requires judged { IsJudged (raw_of raw) judged }
-        requires steps { (frame : Frame) → whole (raw_of raw) ≡ Ok frame
+        requires steps { (frame : Frame) → decode_raw (raw_of raw) ≡ Ok frame
             → step_recutting self.old frame
             ≡ Ok (
               canon frame,

@@ -1,7 +1,9 @@
 //! Streams whose messages have their bodies cut anew.
 
 ghost use Rattle.std.specs.Prelude.{◌≢◌, ◌⊎◌, ◌≤◌, Err};
-ghost use Rattle.amqp_stream.specs.Transcribing.{NeverBegan};
+ghost use Rattle.amqp_stream.specs.Changes.{◌⇒◌};
+ghost use Rattle.amqp_stream.specs.Calls.{call_of};
+ghost use Rattle.amqp_stream.specs.Causes.{NeverBegan};
 ghost use Rattle.amqp_stream.specs.Reports.{NeverBeganReport, unreported};
 ghost use Rattle.amqp_recut.specs.Recutting.{RecutReport, RecutRun};
 
@@ -26,10 +28,10 @@ pub fn recut_reported<S: Source, K: Sink>(
 ) -> Result<(), RunReport<RecutError>>
     requires some { 1 ≤ size }
     requires fits { size ≤ max_payload }
-    ensures run { RecutReport size S.supply K.store max_payload
-        budget source.old source.new sink.old sink.new result
-        ⊎ NeverBeganReport source.old source.new sink.old sink.new
-        (RecutError.Stream StreamError.NoMemory) result }
+    ensures run { RecutReport size S.supply K.store
+        (call_of max_payload budget (source.old ⇒ source.new) (sink.old ⇒ sink.new)) result
+        ⊎ NeverBeganReport (source.old ⇒ source.new)
+        (sink.old ⇒ sink.new) (RecutError.Stream StreamError.NoMemory) result }
     ensures never_untidy { unreported result ≢ Err (RecutError.Stream StreamError.NotTidy) }
     ensures never_too_large { unreported result
         ≢ Err (RecutError.BadContent ContentFault.BodyTooLarge) }
@@ -51,10 +53,10 @@ pub fn recut<S: Source, K: Sink>(
 ) -> Result<(), RecutError>
     requires some { 1 ≤ size }
     requires fits { size ≤ max_payload }
-    ensures run { RecutRun size S.supply K.store max_payload
-        budget source.old source.new sink.old sink.new result
-        ⊎ NeverBegan source.old source.new sink.old sink.new
-        (RecutError.Stream StreamError.NoMemory) result }
+    ensures run { RecutRun size S.supply K.store
+        (call_of max_payload budget (source.old ⇒ source.new) (sink.old ⇒ sink.new)) result
+        ⊎ NeverBegan (source.old ⇒ source.new)
+        (sink.old ⇒ sink.new) (RecutError.Stream StreamError.NoMemory) result }
     ensures never_untidy { result ≢ Err (RecutError.Stream StreamError.NotTidy) }
     ensures never_too_large { result ≢ Err (RecutError.BadContent ContentFault.BodyTooLarge) }
     ensures never_faulted { result ≢ Err (RecutError.BadContent ContentFault.Faulted) }

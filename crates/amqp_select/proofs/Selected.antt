@@ -9,11 +9,13 @@ use Rattle.amqp_wire.specs.Frames.{Raw, Frame}
 use Rattle.amqp_wire.specs.Canonical.{canon, canon_frames}
 use Rattle.amqp_wire.specs.declared.outline.FrameOutline.{FrameOutline}
 use Rattle.amqp_wire.specs.Outlines.{outline_of}
-use Rattle.amqp_wire.specs.Verdicts.{whole}
+use Rattle.amqp_wire.specs.Verdicts.{decode_raw}
 use Rattle.amqp_wire.specs.declared.judging.FrameJudgement.{FrameJudgement}
 use Rattle.amqp_wire.specs.Judgements.{IsJudged}
 use Rattle.amqp_stream.specs.declared.errors.StreamError.{StreamError}
 use Rattle.amqp_stream.specs.declared.errors.StreamError.TheVariants as errors
+use Rattle.amqp_stream.specs.Changes.{Change}
+use Rattle.amqp_stream.specs.Calls.{Call, as_reported}
 use Rattle.amqp_stream.specs.Ends.{Supply, Store}
 use Rattle.amqp_stream.specs.Streaming.{IsStep}
 use Rattle.amqp_stream.specs.Decisions.{IsKept, IsDropped}
@@ -40,16 +42,16 @@ selects_all rules all = fun_ext λ frames. ap canon_frames (sym (all_kept rules 
 
 -- where all are kept, what is canonicalized is what is selected
 pub all_run : {S K : Type 0} (rules : List Rule) {supply : S → Supply} {store : K → Store}
-    {m budget : ℕ} {source source' : S} {sink sink' : K} (r : Result (Unit {0}) (RunReport StreamError))
+    {call : Call S K} {source : Change S} {sink : Change K} (r : Result (Unit {0}) (RunReport StreamError))
     → ((outline : FrameOutline) → true ≡ decides rules outline)
-    → CanonicalReport plain supply store m budget source source' sink sink' r ⊎ NeverBeganReport source source' sink sink' errors.NoMemory r
-    → SelectReport rules supply store m budget source source' sink sink' r ⊎ NeverBeganReport source source' sink sink' errors.NoMemory r
-all_run rules {supply = supply} {store = store} {m = m} {budget = budget} {source = source} {source' = source'} {sink = sink} {sink' = sink'} r all (inl run) =
+    → CanonicalReport plain supply store call r ⊎ NeverBeganReport source sink errors.NoMemory r
+    → SelectReport rules supply store call r ⊎ NeverBeganReport source sink errors.NoMemory r
+all_run rules {supply = supply} {store = store} {call = call} r all (inl run) =
     let same = selects_all rules all in
+    let ran = as_reported supply store call in
     inl (
-      run_by (λ goes. subst (λ text. Transcribes text plain m budget (supply source) (supply source') (store sink) (store sink') (unreported r)) same goes.run)
-          (λ e. e) (λ bytes. subst (λ text. TranscribesExactly text plain m bytes (store sink) (store sink') (unreported r)) same)
-          (λ bytes e. e) (λ goes e. e) run.0,
+      run_by (λ goes. subst (λ text. Transcribes text plain ran (unreported r)) same goes.run) (λ e. e)
+          (λ bytes. subst (λ text. TranscribesExactly text plain ran bytes (unreported r)) same) (λ bytes e. e) (λ goes e. e) run.0,
       run.1,
     )
 all_run rules r all (inr never) = inr never
@@ -58,7 +60,7 @@ all_run rules r all (inr never) = inr never
 
 -- whether the frame that a whole payload is is kept
 abbrev pub IsDecision : Selector → Raw → Bool → Type 0
-IsDecision s raw b = (frame : Frame) → whole raw ≡ Ok frame → b ≡ decides s.rules.now (outline_of frame)
+IsDecision s raw b = (frame : Frame) → decode_raw raw ≡ Ok frame → b ≡ decides s.rules.now (outline_of frame)
 
 drops : (s : Selector) (frame : Frame) → decides s.rules.now (outline_of frame) ≡ false → selected s.rules.now frame ≡ []
 drops s frame e = rw e refl
@@ -67,7 +69,7 @@ keeps : (s : Selector) (frame : Frame) → decides s.rules.now (outline_of frame
 keeps s frame e = rw e refl
 
 -- a frame that is kept
-kept_step : (s : Selector) (raw : Raw) (frame : Frame) (b : Bool) → whole raw ≡ Ok frame
+kept_step : (s : Selector) (raw : Raw) (frame : Frame) (b : Bool) → decode_raw raw ≡ Ok frame
     → IsDecision s raw b → b ≡ true → IsStep selecting s s raw (canon frame)
 kept_step s raw frame b is decided yes-keep =
     record { frame = frame; is_whole = is; at_level = refl; steps = ap (λ (bytes : List ℕ). Ok (bytes, s)) (keeps s frame (sym (decided frame is) ∙ yes-keep)) }
@@ -113,11 +115,13 @@ selects s =
     }
 
 -- a whole call
-pub select_run : {S K : Type 0} (s t : Selector) {supply : S → Supply} {store : K → Store}
-    {m budget : ℕ} {source source' : S} {sink sink' : K} (r : Result (Unit {0}) (RunReport StreamError))
-    → WriterReport selecting s t supply store m budget source source' sink sink' (as_run_report r)
-    ⊎ NeverRanReport s t source source' sink sink' (as_run_report {E = Infallible} r)
-    → SelectReport s.rules.now supply store m budget source source' sink sink' r ⊎ NeverBeganReport source source' sink sink' errors.NoMemory r
-select_run s t {supply = supply} {m = m} {source = source} {source' = source'} r (inl run) =
-    inl (text_run (selects s) (rw unreported_as_run at run.0), report_at (selects s) m (supply source) (supply source') r run.1)
-select_run s t r (inr never) = inr (never_began_report r never)
+pub select_run : {S K : Type 0} (writer : Change Selector) {supply : S → Supply} {store : K → Store}
+    {call : Call S K} {source : Change S} {sink : Change K} (r : Result (Unit {0}) (RunReport StreamError))
+    → WriterReport selecting writer supply store call (as_run_report r) ⊎ NeverRanReport writer source sink (as_run_report {E = Infallible} r)
+    → SelectReport writer.old.rules.now supply store call r ⊎ NeverBeganReport source sink errors.NoMemory r
+select_run writer {supply = supply} {store = store} {call = call} r (inl run) =
+    inl (
+      text_run (selects writer.old) (rw unreported_as_run at run.0),
+      report_at (selects writer.old) call.limit (as_reported supply store call).source r run.1,
+    )
+select_run writer r (inr never) = inr (never_began_report r never)

@@ -1,5 +1,5 @@
 -- What is written of a stream of which rules keep some frames.
-use Rattle.std.specs.Prelude.{◌≡◌, ℕ, List, [], true, Result, Ok, IfErr, if◌then◌else◌}
+use Rattle.std.specs.Prelude.{ℕ, List, [], true, Result, IfErr, if◌then◌else◌}
 use Rattle.std.specs.declared.string.ParseError.{Infallible}
 use Rattle.amqp_types.specs.Levels.{plain}
 use Rattle.amqp_wire.specs.Frames.{Frame}
@@ -8,9 +8,9 @@ use Rattle.amqp_wire.specs.Outlines.{outline_of}
 use Rattle.amqp_stream.specs.declared.errors.StreamError.{StreamError}
 use Rattle.amqp_stream.specs.declared.report.RunReport.{RunReport}
 use Rattle.amqp_stream.specs.Ends.{Supply, Store}
+use Rattle.amqp_stream.specs.Calls.{Call, as_reported}
 use Rattle.amqp_stream.specs.Steps.{Manner}
 use Rattle.amqp_stream.specs.Manners.{mapping}
-use Rattle.amqp_stream.specs.Transcribing.{Transcribes}
 use Rattle.amqp_stream.specs.Runs.{TextRun}
 use Rattle.amqp_stream.specs.Reports.{IsReportAt, unreported}
 use Rattle.amqp_select.specs.declared.rule.Rule.{Rule}
@@ -31,17 +31,14 @@ abbrev pub selecting : Manner Selector Infallible
 selecting = mapping plain (λ s frame. selected s.rules.now frame) true
 
 -- a run that writes the canonical bytes of the frames that rules keep
-abbrev pub SelectRun : {S K : Type 0} → List Rule → (S → Supply) → (K → Store)
-    → ℕ → ℕ → S → S → K → K → Result (Unit {0}) StreamError → Type 0
-SelectRun rules supply store m budget source source' sink sink' result =
-    TextRun (selection rules) plain supply store m budget source source' sink sink' result
-    (Transcribes (selection rules) plain m budget (supply source)
-    (supply source') (store sink) (store sink') result)
-    (result ≡ Ok tt)
+abbrev pub SelectRun : {S K : Type 0} → List Rule → (S → Supply)
+    → (K → Store) → Call S K → Result (Unit {0}) StreamError → Type 0
+SelectRun rules supply store call result =
+    TextRun (selection rules) plain supply store call result
 
 -- the same, with its report
 abbrev pub SelectReport : {S K : Type 0} → List Rule → (S → Supply) → (K → Store)
-    → ℕ → ℕ → S → S → K → K → Result (Unit {0}) (RunReport StreamError) → Type 0
-SelectReport rules supply store m budget source source' sink sink' result =
-    SelectRun rules supply store m budget source source' sink sink' (unreported result)
-    × IfErr result (IsReportAt plain m (supply source) (supply source'))
+    → Call S K → Result (Unit {0}) (RunReport StreamError) → Type 0
+SelectReport rules supply store call result =
+    SelectRun rules supply store call (unreported result)
+    × IfErr result (IsReportAt plain call.limit (as_reported supply store call).source)

@@ -1,11 +1,13 @@
 //! Streams of which the frames that rules keep are written.
 
 ghost use Rattle.std.specs.Prelude.{◌≡◌, ◌≢◌, ◌⊎◌, Ok, Err};
-ghost use Rattle.amqp_stream.specs.Transcribing.{NeverBegan};
+ghost use Rattle.amqp_stream.specs.Changes.{◌⇒◌};
+ghost use Rattle.amqp_stream.specs.Calls.{call_of};
+ghost use Rattle.amqp_stream.specs.Causes.{NeverBegan};
 ghost use Rattle.amqp_stream.specs.Reports.{NeverBeganReport, unreported};
 ghost use Rattle.amqp_wire.specs.Frames.{Frame, raw_of};
 ghost use Rattle.amqp_wire.specs.Outlines.{outline_of};
-ghost use Rattle.amqp_wire.specs.Verdicts.{whole};
+ghost use Rattle.amqp_wire.specs.Verdicts.{decode_raw};
 ghost use Rattle.amqp_select.specs.Matching.{decides};
 ghost use Rattle.amqp_select.specs.Selecting.{SelectReport, SelectRun};
 
@@ -29,7 +31,7 @@ impl<'a> Selector<'a> {
     /// Whether a borrowed frame is kept. Its payload is not decoded yet, so that one that is kept is decoded once, as
     /// it is written.
     fn keeps(&self, raw: AMQPRawFrame<'_>) -> bool
-        ensures { (frame : Frame) → whole (raw_of raw.entry) ≡ Ok frame
+        ensures { (frame : Frame) → decode_raw (raw_of raw.entry) ≡ Ok frame
             → result ≡ decides self.now.rules.now (outline_of frame) }
     {
         if let Some(keep) = self.rules.decide_all() {
@@ -75,9 +77,10 @@ pub fn select_reported<S: Source, K: Sink>(
     max_payload: ChunkSize,
     budget: u64,
 ) -> Result<(), RunReport<StreamError>>
-    ensures run { SelectReport rules.now S.supply K.store max_payload
-        budget source.old source.new sink.old sink.new result
-        ⊎ NeverBeganReport source.old source.new sink.old sink.new StreamError.NoMemory result }
+    ensures run { SelectReport rules.now S.supply K.store
+        (call_of max_payload budget (source.old ⇒ source.new) (sink.old ⇒ sink.new)) result
+        ⊎ NeverBeganReport (source.old ⇒ source.new)
+        (sink.old ⇒ sink.new) StreamError.NoMemory result }
     ensures never_untidy { unreported result ≢ Err StreamError.NotTidy }
 {
     // Where every frame is kept, no frame is looked at but by the canonicalizer.
@@ -98,9 +101,10 @@ pub fn select<S: Source, K: Sink>(
     max_payload: ChunkSize,
     budget: u64,
 ) -> Result<(), StreamError>
-    ensures run { SelectRun rules.now S.supply K.store max_payload
-        budget source.old source.new sink.old sink.new result
-        ⊎ NeverBegan source.old source.new sink.old sink.new StreamError.NoMemory result }
+    ensures run { SelectRun rules.now S.supply K.store
+        (call_of max_payload budget (source.old ⇒ source.new) (sink.old ⇒ sink.new)) result
+        ⊎ NeverBegan (source.old ⇒ source.new)
+        (sink.old ⇒ sink.new) StreamError.NoMemory result }
     ensures never_untidy { result ≢ Err StreamError.NotTidy }
 {
     unreported(select_reported(alloc, rules, source, sink, max_payload, budget))

@@ -7,7 +7,7 @@ use Rattle.amqp_wire.specs.Spelling.{SpellsFrames}
 use Rattle.amqp_wire.proofs.Sequences.{sequence_front}
 use Rattle.amqp_wire.proofs.Strictness.{same_frames}
 use Rattle.amqp_stream.specs.Canonicalizing.{EqualOutputIsEqualFrames}
-use Rattle.amqp_stream.specs.Transcribing.{IsSequence}
+use Rattle.amqp_stream.specs.Causes.{IsSequence}
 
 encoded : (level : Level) (m : ℕ) (bytes : List ℕ) → IsSequence level m bytes → SpellsFrames level (Some m) bytes (front level (Some m) bytes)
 encoded level m bytes is = subst (λ (frames : List Frame). SpellsFrames level (Some m) bytes frames) (sym (sequence_front level (Some m) bytes is.0 is.1)) is.1

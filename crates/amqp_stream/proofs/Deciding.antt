@@ -4,7 +4,7 @@ use Rattle.amqp_types.specs.Judging.{Fault}
 use Rattle.amqp_wire.specs.declared.judging.FrameJudgement.{FrameJudgement}
 use Rattle.amqp_wire.specs.Frames.{Raw, Frame}
 use Rattle.amqp_wire.specs.Judgements.{IsJudged}
-use Rattle.amqp_wire.specs.Verdicts.{whole, is_at}
+use Rattle.amqp_wire.specs.Verdicts.{decode_raw, is_at}
 use Rattle.amqp_wire.specs.Canonical.{canon}
 use Rattle.amqp_stream.specs.declared.decision.Decision.{Decision}
 use Rattle.amqp_stream.specs.declared.decision.Decision.TheVariants as decisions
@@ -43,6 +43,6 @@ pub decided_writes : {S E : Type 0} {w : Manner S E} {s t : S} {raw : Raw} {befo
 decided_writes {raw = raw} {before = before} {after = after} store (decisions.Kept judged) h put = record {
   bytes = canon h.is_judged.frame;
   step = h.step;
-  gathered = pushed store before after (canon h.is_judged.frame) tt (adds_same before after (whole raw) h.is_judged.frame put h.is_judged.is);
+  gathered = pushed store before after (canon h.is_judged.frame) tt (adds_same before after (decode_raw raw) h.is_judged.frame put h.is_judged.is);
 }
 decided_writes {before = before} {after = after} store decisions.Dropped h put = record { bytes = []; step = h.step; gathered = kept store before after put }

@@ -5,17 +5,18 @@ use Rattle.std.proofs.lemmas.List.{length-append}
 use Rattle.amqp_types.specs.Levels.{Level}
 use Rattle.amqp_types.specs.Judging.{Fault, Judged, past, fault}
 use Rattle.amqp_wire.specs.Frames.{Frame}
-use Rattle.amqp_wire.specs.Verdicts.{verdict}
+use Rattle.amqp_wire.specs.Verdicts.{judge_frame}
 use Rattle.amqp_wire.specs.Fronts.{front, place}
 use Rattle.amqp_wire.proofs.Cuts.{verdict-none}
 use Rattle.amqp_wire.proofs.Sequences.{splits_of, place_fault, front_fault, sequence_place}
 use Rattle.amqp_stream.specs.declared.errors.StreamError.{StreamError}
 use Rattle.amqp_stream.specs.declared.errors.StreamError.TheVariants as errors
 use Rattle.amqp_stream.specs.Errors.{error_for, faulty, cut_short, budget_spent, read_failed, write_failed, out_of_memory, cause_of}
+use Rattle.amqp_stream.specs.Calls.{Call}
 use Rattle.amqp_stream.specs.Ends.{Supply, Store, IsEmpty, prepended}
-use Rattle.amqp_stream.specs.Transcribing.{place_verdict, answer_at, answer_to, IsSequence, IsValid, NoFaults}
+use Rattle.amqp_stream.specs.Causes.{judge_place, answer_at, answer_to, IsSequence, IsValid, NoFaults}
 use Rattle.amqp_stream.specs.Steps.{Manner, text, refused}
-use Rattle.amqp_stream.specs.Streaming.{Ending, finished, refused_by, stopped_by, text_of, refused_of, state_of, IsUnended, IsAllWritten, Streams}
+use Rattle.amqp_stream.specs.Streaming.{Ending, finished, refused_by, stopped_by, text_of, refused_of, state_of, plan_of, IsUnended, IsAllWritten, Streams}
 use Rattle.amqp_stream.specs.Streaming.{answer_at_end, answer_of, answer_by, IsExactRun, UnlessStoppedBy, StreamsExactly, IsWelcome, IsDoneOrWanting}
 use Rattle.amqp_stream.proofs.Adding.{taken_of}
 use Rattle.amqp_stream.proofs.Passing.{settled}
@@ -46,21 +47,21 @@ answer_at-some [] j k r h e f = absurd (h refl)
 answer_at-some (x ∷ xs) j k r h e f = ap (answer_at (x ∷ xs)) e ∙ f x xs
 
 answer_more : (level : Level) (m : ℕ) (bytes : List ℕ) → place level (Some m) bytes ≢ []
-    → place_verdict level m bytes ≡ past → answer_to level m bytes ≡ Err errors.CutShort
-answer_more level m bytes h e = answer_at-some (place level (Some m) bytes) (place_verdict level m bytes) past (Err errors.CutShort) h e (λ x xs. refl)
+    → judge_place level m bytes ≡ past → answer_to level m bytes ≡ Err errors.CutShort
+answer_more level m bytes h e = answer_at-some (place level (Some m) bytes) (judge_place level m bytes) past (Err errors.CutShort) h e (λ x xs. refl)
 
-no_bad : (level : Level) (m : ℕ) (bytes : List ℕ) (bad : Fault) → place_verdict level m bytes ≡ fault bad → place level (Some m) bytes ≢ []
+no_bad : (level : Level) (m : ℕ) (bytes : List ℕ) (bad : Fault) → judge_place level m bytes ≡ fault bad → place level (Some m) bytes ≢ []
 no_bad level m bytes bad h e =
-    absurd (let n : verdict level (Some m) [] ≡ fault bad = subst (λ (xs : List ℕ). verdict level (Some m) xs ≡ fault bad) e h in
+    absurd (let n : judge_frame level (Some m) [] ≡ fault bad = subst (λ (xs : List ℕ). judge_frame level (Some m) xs ≡ fault bad) e h in
     let o = verdict-none level (Some m) in
     cc)
 
-answer_bad : (level : Level) (m : ℕ) (bytes : List ℕ) (bad : Fault) → place_verdict level m bytes ≡ fault bad → answer_to level m bytes ≡ Err (error_for bad)
+answer_bad : (level : Level) (m : ℕ) (bytes : List ℕ) (bad : Fault) → judge_place level m bytes ≡ fault bad → answer_to level m bytes ≡ Err (error_for bad)
 answer_bad level m bytes bad e =
-    answer_at-some (place level (Some m) bytes) (place_verdict level m bytes) (fault bad) (Err (error_for bad)) (no_bad level m bytes bad e) e (λ x xs. refl)
+    answer_at-some (place level (Some m) bytes) (judge_place level m bytes) (fault bad) (Err (error_for bad)) (no_bad level m bytes bad e) e (λ x xs. refl)
 
 pub answer_sequence : (level : Level) (m : ℕ) (bytes : List ℕ) → IsSequence level m bytes → answer_to level m bytes ≡ Ok tt
-answer_sequence level m bytes sequence = ap (λ p. answer_at p (place_verdict level m bytes)) (sequence_place level (Some m) bytes sequence.0 sequence.1)
+answer_sequence level m bytes sequence = ap (λ p. answer_at p (judge_place level m bytes)) (sequence_place level (Some m) bytes sequence.0 sequence.1)
 
 -- each fault has an error that reports it
 cause-error_of : (bad : Fault) → cause_of (error_for bad) ≡ faulty bad
@@ -78,7 +79,8 @@ front-append level m bytes rest =
 
 -- the result by what is known of all
 known : {S E : Type 0} (w : Manner S E) (s : S) (m : ℕ) (bytes : List ℕ) (why end : Option E) (answer : Result (Unit {0}) StreamError)
-    → refused_of w s m bytes ≡ why → w.end (state_of w s m bytes) ≡ end → answer_to w.level m bytes ≡ answer → answer_by w s m bytes ≡ answer_of why end answer
+    → refused_of w s m bytes ≡ why → w.end (state_of w s m bytes) ≡ end → answer_to w.level m bytes ≡ answer
+    → answer_by (plan_of w s m) m bytes ≡ answer_of why end answer
 known w s m bytes why end answer p q r =
     ap (λ x. answer_of x (w.end (state_of w s m bytes)) (answer_to w.level m bytes)) p
     ∙ ap (λ x. answer_of why x (answer_to w.level m bytes)) q ∙ ap (answer_of why end) r
@@ -89,16 +91,16 @@ answer_at_error (Some why) error = refl
 
 -- the stream ends early
 known_error : {S E : Type 0} (w : Manner S E) (s : S) (m : ℕ) (bytes : List ℕ) (error : StreamError)
-    → refused_of w s m bytes ≡ None → answer_to w.level m bytes ≡ Err error → answer_by w s m bytes ≡ stopped_by (cause_of error)
+    → refused_of w s m bytes ≡ None → answer_to w.level m bytes ≡ Err error → answer_by (plan_of w s m) m bytes ≡ stopped_by (cause_of error)
 known_error w s m bytes error p r = known w s m bytes None _ (Err error) p refl r ∙ answer_at_error (w.end (state_of w s m bytes)) error
 
 -- a fault of bytes
 exact_bad : {S E : Type 0} (w : Manner S E) (s : S) (m : ℕ) (bytes taken written : List ℕ) (left : Option (List ℕ)) (bad : Fault)
-    → Some bytes ≡ prepended taken left → place_verdict w.level m taken ≡ fault bad
-    → IsAllWritten w s m taken written → IsExactRun w s m bytes written (stopped_by (faulty bad))
+    → Some bytes ≡ prepended taken left → judge_place w.level m taken ≡ fault bad
+    → IsAllWritten (plan_of w s m) taken written → IsExactRun (plan_of w s m) m bytes written (stopped_by (faulty bad))
 exact_bad w s m bytes taken written left bad e h all =
     let t = split_of bytes taken left e in
-    let at : place_verdict w.level m bytes ≡ fault bad = ap (place_verdict w.level m) t.parts ∙ place_fault w.level (Some m) taken t.rest bad h in
+    let at : judge_place w.level m bytes ≡ fault bad = ap (judge_place w.level m) t.parts ∙ place_fault w.level (Some m) taken t.rest bad h in
     let same : front w.level (Some m) bytes ≡ front w.level (Some m) taken =
     ap (front w.level (Some m)) t.parts ∙ front_fault w.level (Some m) taken t.rest bad h in
     record {
@@ -110,7 +112,8 @@ exact_bad w s m bytes taken written left bad e h all =
 
 -- a frame that is refused
 exact_refused : {S E : Type 0} (w : Manner S E) (s : S) (m : ℕ) (bytes taken written : List ℕ) (left : Option (List ℕ)) (why : E)
-    → Some bytes ≡ prepended taken left → written ≡ text_of w s m taken → refused_of w s m taken ≡ Some why → IsExactRun w s m bytes written (refused_by why)
+    → Some bytes ≡ prepended taken left → written ≡ text_of w s m taken → refused_of w s m taken ≡ Some why
+    → IsExactRun (plan_of w s m) m bytes written (refused_by why)
 exact_refused w s m bytes taken written left why e text_is is =
     let t = split_of bytes taken left e in
     let more = front w.level (Some m) (place w.level (Some m) taken ++ t.rest) in
@@ -123,59 +126,69 @@ exact_refused w s m bytes taken written left why e text_is is =
     }
 
 -- what was refused is a frame, or the end of input
-exact_refusal : {S E : Type 0} (w : Manner S E) (s : S) (m : ℕ) (bytes taken written : List ℕ) (b : Supply) (why : E) → Some bytes ≡ prepended taken b.left
-    → written ≡ text_of w s m taken → (refused_of w s m taken ≡ Some why) ⊎ IsUnended w s m taken b why → IsExactRun w s m bytes written (refused_by why)
-exact_refusal w s m bytes taken written b why e text_is cause = elim cause [
-  | inl is ↦ exact_refused w s m bytes taken written b.left why e text_is is
-  | inr h ↦ let P : List ℕ → Type 0 = λ xs. IsExactRun w s m xs written (refused_by why) in subst P (all_taken bytes taken b.left e h.empty) (record {
-    answer = sym (known w s m taken None (Some why) (Ok tt) h.none_refused h.ends (answer_sequence w.level m taken h.sequence));
-    text_is = text_is;
-  })
+exact_refusal : {S E : Type 0} (w : Manner S E) (s : S) (call : Call Supply Store) (bytes taken written : List ℕ) (why : E)
+    → Some bytes ≡ prepended taken call.source.new.left → written ≡ text_of w s call.limit taken
+    → (refused_of w s call.limit taken ≡ Some why) ⊎ IsUnended (plan_of w s call.limit) call taken why
+    → IsExactRun (plan_of w s call.limit) call.limit bytes written (refused_by why)
+exact_refusal w s call bytes taken written why e text_is cause = elim cause [
+  | inl is ↦ exact_refused w s call.limit bytes taken written call.source.new.left why e text_is is
+  | inr h ↦
+      let P : List ℕ → Type 0 = λ xs. IsExactRun (plan_of w s call.limit) call.limit xs written (refused_by why) in
+      subst P (all_taken bytes taken call.source.new.left e h.empty) (record {
+        answer = sym (known w s call.limit taken None (Some why) (Ok tt) h.none_refused h.ends (answer_sequence w.level call.limit taken h.sequence));
+        text_is = text_is;
+      })
 ]
 
-exact_at : {S E : Type 0} (w : Manner S E) (s t : S) (m budget : ℕ) (a b : Supply) (k l : Store) (e : Ending E) (bytes : List ℕ)
-    → a.left ≡ Some bytes → (c : Streams w s t m budget a b k l e) → UnlessStoppedBy e (IsExactRun w s m bytes c.written e)
-exact_at w s t m budget a b k l finished bytes left c =
-    let P : List ℕ → Type 0 = λ xs. IsExactRun w s m xs c.written finished in
-    subst P (all_taken bytes c.taken b.left (taken_of left c.takes) c.cause.1) (record {
-      answer = sym (known w s m c.taken None None (Ok tt) c.writes.none_refused c.cause.2 (answer_sequence w.level m c.taken c.cause.0));
+exact_at : {S E : Type 0} (w : Manner S E) (s : S) (call : Call Supply Store) (e : Ending E) (bytes : List ℕ) → call.source.old.left ≡ Some bytes
+    → (c : Streams (plan_of w s call.limit) call e) → UnlessStoppedBy e (IsExactRun (plan_of w s call.limit) call.limit bytes c.written e)
+exact_at w s call finished bytes left c =
+    let P : List ℕ → Type 0 = λ xs. IsExactRun (plan_of w s call.limit) call.limit xs c.written finished in
+    subst P (all_taken bytes c.taken call.source.new.left (taken_of left c.takes) c.cause.1) (record {
+      answer = sym (known w s call.limit c.taken None None (Ok tt) c.writes.none_refused c.cause.2 (answer_sequence w.level call.limit c.taken c.cause.0));
       text_is = c.writes.text_is;
     })
-exact_at w s t m budget a b k l (refused_by why) bytes left c = exact_refusal w s m bytes c.taken c.written b why (taken_of left c.takes) c.writes c.cause
-exact_at w s t m budget a b k l (stopped_by (faulty bad)) bytes left c =
-    exact_bad w s m bytes c.taken c.written b.left bad (taken_of left c.takes) c.cause c.writes
-exact_at w s t m budget a b k l (stopped_by cut_short) bytes left c =
-    let P : List ℕ → Type 0 = λ xs. IsExactRun w s m xs c.written (stopped_by cut_short) in
-    subst P (all_taken bytes c.taken b.left (taken_of left c.takes) c.cause.1) (record {
-      answer = sym (known_error w s m c.taken errors.CutShort c.writes.none_refused (answer_more w.level m c.taken c.cause.0.0 c.cause.0.1));
+exact_at w s call (refused_by why) bytes left c = exact_refusal w s call bytes c.taken c.written why (taken_of left c.takes) c.writes c.cause
+exact_at w s call (stopped_by (faulty bad)) bytes left c =
+    exact_bad w s call.limit bytes c.taken c.written call.source.new.left bad (taken_of left c.takes) c.cause c.writes
+exact_at w s call (stopped_by cut_short) bytes left c =
+    let P : List ℕ → Type 0 = λ xs. IsExactRun (plan_of w s call.limit) call.limit xs c.written (stopped_by cut_short) in
+    subst P (all_taken bytes c.taken call.source.new.left (taken_of left c.takes) c.cause.1) (record {
+      answer =
+          sym (known_error w s call.limit c.taken errors.CutShort c.writes.none_refused
+          (answer_more w.level call.limit c.taken c.cause.0.0 c.cause.0.1));
       text_is = c.writes.text_is;
     })
-exact_at w s t m budget a b k l (stopped_by cause) bytes left c = tt
+exact_at w s call (stopped_by cause) bytes left c = tt
 
 -- Over a source that reports its bytes, a run gives what all of them give.
-pub streams_exactly : {S E : Type 0} {w : Manner S E} {s t : S} {m budget : ℕ} {a b : Supply} {k l : Store} {e : Ending E} (bytes : List ℕ)
-    → a.left ≡ Some bytes → Streams w s t m budget a b k l e → StreamsExactly w s m bytes k l e
-streams_exactly {w = w} {s = s} {t = t} {m = m} {budget = budget} {a = a} {b = b} {k = k} {l = l} {e = e} bytes left c =
-    record { written = c.written; gains = c.gains; answer = exact_at w s t m budget a b k l e bytes left c }
+pub streams_exactly : {S E : Type 0} (w : Manner S E) (s : S) {call : Call Supply Store} {e : Ending E} (bytes : List ℕ)
+    → call.source.old.left ≡ Some bytes → Streams (plan_of w s call.limit) call e → StreamsExactly (plan_of w s call.limit) call bytes e
+streams_exactly w s {call = call} {e = e} bytes left c =
+    record { written = c.written; gains = c.gains; answer = exact_at w s call e bytes left c }
 
 -- ---- completeness
 
 -- valid input that is not refused is done, unless memory runs out
-done_at : {S E : Type 0} (w : Manner S E) (s t : S) (m budget : ℕ) (a b : Supply) (k l : Store) (e : Ending E) (bytes : List ℕ)
-    → answer_by w s m bytes ≡ finished → length bytes < budget → a.left ≡ Some bytes → NoFaults a b k l
-    → (c : Streams w s t m budget a b k l e) → UnlessStoppedBy e (IsExactRun w s m bytes c.written e) → IsDoneOrWanting e
-done_at w s t m budget a b k l finished bytes p enough left f c h = tt
-done_at w s t m budget a b k l (stopped_by budget_spent) bytes p enough left f c h =
-    let t = split_of bytes c.taken b.left (taken_of left c.takes) in
+done_at : {S E : Type 0} (w : Manner S E) (s : S) (call : Call Supply Store) (e : Ending E) (bytes : List ℕ)
+    → answer_by (plan_of w s call.limit) call.limit bytes ≡ finished → length bytes < call.budget
+    → call.source.old.left ≡ Some bytes → NoFaults call.source call.sink
+    → (c : Streams (plan_of w s call.limit) call e) → UnlessStoppedBy e (IsExactRun (plan_of w s call.limit) call.limit bytes c.written e)
+    → IsDoneOrWanting e
+done_at w s call finished bytes p enough left f c h = tt
+done_at w s call (stopped_by budget_spent) bytes p enough left f c h =
+    let t = split_of bytes c.taken call.source.new.left (taken_of left c.takes) in
     absurd (omega (arith, c.cause.1, ap length t.parts, length-append c.taken t.rest))
-done_at w s t m budget a b k l (stopped_by read_failed) bytes p enough left f c h = absurd (omega (arith, c.cause.1 f.source_below, f.source))
-done_at w s t m budget a b k l (stopped_by write_failed) bytes p enough left f c h = absurd (omega (arith, c.cause f.sink_below, f.sink))
-done_at w s t m budget a b k l (stopped_by out_of_memory) bytes p enough left f c h = tt
-done_at w s t m budget a b k l e bytes p enough left f c h = absurd (let x = h.answer ∙ p in cc)
+done_at w s call (stopped_by read_failed) bytes p enough left f c h = absurd (omega (arith, c.cause.1 f.source_below, f.source))
+done_at w s call (stopped_by write_failed) bytes p enough left f c h = absurd (omega (arith, c.cause f.sink_below, f.sink))
+done_at w s call (stopped_by out_of_memory) bytes p enough left f c h = tt
+done_at w s call e bytes p enough left f c h = absurd (let x = h.answer ∙ p in cc)
 
 -- Valid input that is not refused, with enough reads and no faults of the two ends, is read to its end, or memory runs out.
-pub completes : {S E : Type 0} {w : Manner S E} {s t : S} {m budget : ℕ} {a b : Supply} {k l : Store} {e : Ending E} (bytes : List ℕ)
-    → a.left ≡ Some bytes → Streams w s t m budget a b k l e → IsValid w.level m budget bytes → IsWelcome w s m bytes → NoFaults a b k l → IsDoneOrWanting e
-completes {w = w} {s = s} {t = t} {m = m} {budget = budget} {a = a} {b = b} {k = k} {l = l} {e = e} bytes left c v welcome f =
-    done_at w s t m budget a b k l e bytes (known w s m bytes None None (Ok tt) welcome.none_refused welcome.ends (answer_sequence w.level m bytes v.sequence))
-    v.enough left f c (exact_at w s t m budget a b k l e bytes left c)
+pub completes : {S E : Type 0} (w : Manner S E) (s : S) {call : Call Supply Store} {e : Ending E} (bytes : List ℕ) → call.source.old.left ≡ Some bytes
+    → Streams (plan_of w s call.limit) call e → IsValid w.level call.limit call.budget bytes → IsWelcome (plan_of w s call.limit) bytes
+    → NoFaults call.source call.sink → IsDoneOrWanting e
+completes w s {call = call} {e = e} bytes left c v welcome f =
+    done_at w s call e bytes
+    (known w s call.limit bytes None None (Ok tt) welcome.none_refused welcome.ends (answer_sequence w.level call.limit bytes v.sequence))
+    v.enough left f c (exact_at w s call e bytes left c)

@@ -6,8 +6,8 @@ use Rattle.amqp_types.specs.Levels.{Level}
 use Rattle.amqp_types.specs.Judging.{Fault, unknown_frame_type, bad_protocol_header, too_large, bad_frame_end, not_tidy, past, fault, took, IsBytes}
 use Rattle.amqp_types.proofs.Bytes.{IsBytes-take}
 use Rattle.amqp_wire.specs.Frames.{Raw, Frame}
-use Rattle.amqp_wire.specs.Outer.{outer}
-use Rattle.amqp_wire.specs.Verdicts.{verdict, judged}
+use Rattle.amqp_wire.specs.HeaderScan.{scan}
+use Rattle.amqp_wire.specs.Verdicts.{judge_frame, judge_scanned}
 use Rattle.amqp_wire.specs.Fronts.{front, place}
 use Rattle.amqp_wire.proofs.Cuts.{IsStop, front-stop, front-got, front-none, place-none, stop-none, verdict-more, verdict-bad, verdict-whole}
 use Rattle.amqp_wire.proofs.Sequences.{sequence_of_all}
@@ -18,14 +18,16 @@ use Rattle.amqp_stream.specs.declared.errors.RunError.TheVariants as ends
 use Rattle.amqp_stream.specs.declared.sink.SinkFault.{SinkFault}
 use Rattle.amqp_stream.specs.declared.source.SourceFault.{SourceFault}
 use Rattle.amqp_stream.specs.Errors.{stream_error, read_fault, Cause, faulty, cut_short, budget_spent, read_failed, write_failed, out_of_memory, cause_of}
+use Rattle.amqp_stream.specs.Changes.{◌⇒◌}
+use Rattle.amqp_stream.specs.Calls.{Call, call_of}
 use Rattle.amqp_stream.specs.Ends.{Supply, Store, Gains, Rises, IsEmpty}
 use Rattle.amqp_stream.specs.Reading.{ReadsMore}
 use Rattle.amqp_stream.specs.Writing.{IsPrefix, WritesAll, GatherFails, IsFaulty, AsksTidy}
-use Rattle.amqp_stream.specs.Transcribing.{place_verdict, IsSequence}
+use Rattle.amqp_stream.specs.Causes.{judge_place, IsSequence}
 use Rattle.amqp_stream.specs.Steps.{Manner, text, refused, state}
 use Rattle.amqp_stream.specs.Streaming.{Ending, finished, refused_by, stopped_by, error_ending, ending_of, IsRefused, WriteFails, WritesBy, end_with, ended}
-use Rattle.amqp_stream.specs.Streaming.{EndsWith, text_of, state_of, IsShortBy, HasCauseBy, IsAllWritten, HasWrittenBy, HasStateBy, refused_of}
-use Rattle.amqp_stream.specs.Resuming.{ahead, Rests, RestsAfter, RestsAt, RestsBy, Resumes}
+use Rattle.amqp_stream.specs.Streaming.{EndsWith, text_of, state_of, plan_of, IsShortBy, HasCause, IsAllWritten, HasWritten, HasState, refused_of}
+use Rattle.amqp_stream.specs.Resuming.{with_ahead, Rests, RestsAfter, RestsAt, RestsBy, Resumes}
 use Rattle.amqp_stream.proofs.Adding.{Takes-ahead, counted_none, Gains-then, Rises-later}
 use Rattle.amqp_stream.proofs.Passing.{Passes-one, Passes-all, refuses_here}
 use Rattle.amqp_stream.proofs.Going.{Start, Spans, Spans-then, Clear, Going, Clear-flushed, Clear-read, Going-kept}
@@ -58,7 +60,7 @@ pub front_bytes : (a b : List ℕ) → IsBytes (a ++ b) → IsBytes a
 front_bytes a b fits = subst IsBytes (take_at a b (length a) refl) (IsBytes-take (length a) (a ++ b) fits)
 
 short_by : {S E : Type 0} {w : Manner S E} {m : ℕ} {s t : S} {used text : List ℕ} (rest more : List ℕ) → Spans w m s t used text
-    → IsBytes (used ++ rest) → length rest ≤ m + 8 → IsShortBy w s m (used ++ rest) (text ++ more) (m + 8)
+    → IsBytes (used ++ rest) → length rest ≤ m + 8 → IsShortBy (plan_of w s m) m (used ++ rest) (text ++ more) (m + 8)
 short_by {w = w} {m = m} {s = s} {used = used} {text = text} rest more h fits few =
     let is = spanned h (front_bytes used rest fits) in
     record {
@@ -71,9 +73,13 @@ short_by {w = w} {m = m} {s = s} {used = used} {text = text} rest more h fits fe
       few = few;
     }
 
+-- the run as a call whose source and sink are these after it
+abbrev pub over : {S E : Type 0} → Start S E → Supply → Store → Call Supply Store
+over r b l = call_of r.m r.budget (r.source ⇒ b) (r.sink ⇒ l)
+
 -- the run ended so: its writer, how many bytes came, its source and sink, and what is held after it
 abbrev pub Ended : {S E : Type 0} → Start S E → S → ℕ → Supply → Store → List ℕ → Ending E → Type 0
-Ended r t came b l after ending = Resumes r.w r.s t r.m r.budget r.held after r.came came r.source b r.sink l ending
+Ended r t came b l after ending = Resumes r.w (r.s ⇒ t) (over r b l) (r.held ⇒ after) (r.came ⇒ came) ending
 
 -- what was used is frames that were written for, and the rest is held
 rests_of : {S E : Type 0} {r : Start S E} {u : S} {left came : ℕ} {c : Supply} {l : Store} {held : List ℕ} {idle : ℕ} (h : Clear r u left came c l held idle)
@@ -93,13 +99,13 @@ rests_after {used = used} held spans fits =
 
 -- what is known of all that was taken, where no frame follows
 record AtPlace {S E : Type 0} (w : Manner S E) (m : ℕ) (s u : S) (taken held written : List ℕ) : Type 0 where
-  all : IsAllWritten w s m taken written
+  all : IsAllWritten (plan_of w s m) taken written
   state_is : u ≡ state_of w s m taken
-  verdict_is : place_verdict w.level m taken ≡ verdict w.level (Some m) held
+  verdict_is : judge_place w.level m taken ≡ judge_frame w.level (Some m) held
   place_is : place w.level (Some m) taken ≡ held
 
 at_place : {S E : Type 0} {r : Start S E} {u : S} {left came : ℕ} {c : Supply} {l : Store} {held : List ℕ} {idle : ℕ} (h : Clear r u left came c l held idle)
-    → IsStop (verdict r.w.level (Some r.m) held) → AtPlace r.w r.m r.s u (h.used ++ held) held h.text
+    → IsStop (judge_frame r.w.level (Some r.m) held) → AtPlace r.w r.m r.s u (h.used ++ held) held h.text
 at_place {r = r} {held = held} h stop =
     let w = r.w in
     let m = r.m in
@@ -111,7 +117,7 @@ at_place {r = r} {held = held} h stop =
     record {
       all = record { text_is = sym (ap (text w r.s) fronts ∙ all.text_is); none_refused = ap (refused w r.s) fronts ∙ all.none_refused };
       state_is = sym (ap (state w r.s) fronts ∙ all.state_is);
-      verdict_is = ap (verdict w.level (Some m)) places;
+      verdict_is = ap (judge_frame w.level (Some m)) places;
       place_is = places;
     }
 
@@ -123,8 +129,8 @@ rests_at h place_is = record { rests = rests_of h; place_is = sym place_is }
 -- a run that ends so
 finish : {S E : Type 0} {r : Start S E} {u : S} {left came : ℕ} {c : Supply} {l : Store}
     {held after : List ℕ} {idle : ℕ} (t : S) (e : Ending E) (h : Clear r u left came c l held idle)
-    → (e ≡ stopped_by budget_spent → left + idle ≡ 0) → HasWrittenBy r.w r.s r.m (h.used ++ held) h.text e
-    → HasStateBy r.w r.s t r.m (h.used ++ held) e → HasCauseBy r.w r.s r.m r.budget (h.used ++ held) h.text (ahead r.held r.source) c r.sink l e
+    → (e ≡ stopped_by budget_spent → left + idle ≡ 0) → HasWritten (plan_of r.w r.s r.m) (h.used ++ held) h.text e
+    → HasState r.w (r.s ⇒ t) r.m (h.used ++ held) e → HasCause (plan_of r.w r.s r.m) (with_ahead r.held (over r c l)) (h.used ++ held) h.text e
     → (e ≡ stopped_by (faulty not_tidy) → AsksTidy r.w.level) → RestsBy r.w r.s t r.m (h.used ++ held) h.text after e → Ended r t came c l after e
 finish {r = r} {left = left} {c = c} {held = held} t e h spent writes state_is cause tidy_only rests = record {
   run = record {
@@ -137,12 +143,13 @@ finish {r = r} {left = left} {c = c} {held = held} t e h spent writes state_is c
     written = h.text;
     gains = h.gains;
     writes = writes;
-    state_is = state_is;
     cause = cause;
     tidy_only = tidy_only;
     short_by =
-        subst (λ (xs : List ℕ). IsShortBy r.w r.s r.m (h.used ++ held) xs (r.m + 8)) (append-nil h.text) (short_by held [] h.spans h.taken.are_bytes h.room);
+        subst (λ (xs : List ℕ). IsShortBy (plan_of r.w r.s r.m) r.m (h.used ++ held) xs (r.m + 8)) (append-nil h.text)
+        (short_by held [] h.spans h.taken.are_bytes h.room);
   };
+  state_is = state_is;
   piece = h.taken.piece;
   parts = h.taken.parts;
   takes = h.taken.takes;
@@ -151,10 +158,10 @@ finish {r = r} {left = left} {c = c} {held = held} t e h spent writes state_is c
   rests = rests;
 }
 
-is_bad : (level : Level) (m : ℕ) (held : List ℕ) (bad : Fault) → verdict level (Some m) held ≡ fault bad → IsStop (verdict level (Some m) held)
+is_bad : (level : Level) (m : ℕ) (held : List ℕ) (bad : Fault) → judge_frame level (Some m) held ≡ fault bad → IsStop (judge_frame level (Some m) held)
 is_bad level m held bad e = rw e tt
 
-is_more : (level : Level) (m : ℕ) (held : List ℕ) → verdict level (Some m) held ≡ past → IsStop (verdict level (Some m) held)
+is_more : (level : Level) (m : ℕ) (held : List ℕ) → judge_frame level (Some m) held ≡ past → IsStop (judge_frame level (Some m) held)
 is_more level m held e = rw e tt
 
 abbrev fault_ending : (E : Type 0) → Fault → Ending E
@@ -165,7 +172,7 @@ fault_is E bad other e = cc
 
 -- a fault of bytes
 finish_bad : {S E : Type 0} {r : Start S E} {u : S} {left came : ℕ} {c : Supply} {l : Store} {held : List ℕ} {idle : ℕ} (bad : Fault)
-    → Clear r u left came c l held idle → verdict r.w.level (Some r.m) held ≡ fault bad
+    → Clear r u left came c l held idle → judge_frame r.w.level (Some r.m) held ≡ fault bad
     → (bad ≡ not_tidy → AsksTidy r.w.level) → Ended r u came c l held (stopped_by (faulty bad))
 finish_bad {E = E} {r = r} {u = u} {held = held} bad h e asks =
     let at = at_place h (is_bad r.w.level r.m held bad e) in
@@ -174,7 +181,7 @@ finish_bad {E = E} {r = r} {u = u} {held = held} bad h e asks =
 
 -- a fault that the header of a frame shows
 pub finish_fault : {S E : Type 0} {r : Start S E} {u : S} {left came : ℕ} {c : Supply} {l : Store} {held : List ℕ} {idle : ℕ} (bad : Fault) (error : ReadError)
-    → Clear r u left came c l held idle → read_fault error ≡ Some bad → outer (Some r.m) held ≡ fault bad
+    → Clear r u left came c l held idle → read_fault error ≡ Some bad → scan (Some r.m) held ≡ fault bad
     → Ended r u came c l held (stopped_by (cause_of (stream_error error)))
 finish_fault {r = r} {held = held} bad reads.UnknownFrameType h same found =
     finish_bad unknown_frame_type h (verdict-bad r.w.level (Some r.m) held unknown_frame_type (found ∙ cc)) (λ e. absurd cc)
@@ -188,7 +195,7 @@ finish_fault bad error h same found = absurd cc
 
 -- the read budget is spent
 pub finish_spent : {S E : Type 0} {r : Start S E} {u : S} {left came : ℕ} {c : Supply} {l : Store} {held : List ℕ}
-    → Clear r u left came c l held 0 → outer (Some r.m) held ≡ past → left ≡ 0 → Ended r u came c l held (stopped_by budget_spent)
+    → Clear r u left came c l held 0 → scan (Some r.m) held ≡ past → left ≡ 0 → Ended r u came c l held (stopped_by budget_spent)
 finish_spent {r = r} {u = u} {held = held} h more zero =
     let undecided = verdict-more r.w.level (Some r.m) held more in
     let at = at_place h (is_more r.w.level r.m held undecided) in
@@ -198,12 +205,12 @@ finish_spent {r = r} {u = u} {held = held} h more zero =
 
 -- a read that failed, and left what is held
 pub finish_unread : {S E : Type 0} {r : Start S E} {u : S} {left came : ℕ} {b c : Supply} {l : Store} {held after : List ℕ} {bad : SourceFault}
-    → Clear r u left came b l held 0 → outer (Some r.m) held ≡ past → 0 < left → ReadsMore b c held after (Err bad)
+    → Clear r u left came b l held 0 → scan (Some r.m) held ≡ past → 0 < left → ReadsMore (b ⇒ c) (held ⇒ after) (Err bad)
     → length after ≤ r.m + 8 → Ended r u came c l after (stopped_by read_failed)
 finish_unread {r = r} {u = u} {came = came} {b = b} {c = c} {held = held} {after = after} k more some read room =
     let h = Clear-read 1 k some read (omega arith) (counted_none came read.piece (ap length read.err.0)) room in
     let same : after ≡ held = read.held ∙ ap (λ (xs : List ℕ). held ++ xs) read.err.0 ∙ append-nil held in
-    let undecided = verdict-more r.w.level (Some r.m) after (ap (outer (Some r.m)) same ∙ more) in
+    let undecided = verdict-more r.w.level (Some r.m) after (ap (scan (Some r.m)) same ∙ more) in
     let at = at_place h (is_more r.w.level r.m after undecided) in
     finish u (stopped_by read_failed) h (λ e. absurd cc) at.all at.state_is
     (at.verdict_is ∙ undecided, Rises-later r.source.faults b.faults c.faults k.taken.takes.faults read.takes.faults read.err.1)
@@ -211,7 +218,7 @@ finish_unread {r = r} {u = u} {came = came} {b = b} {c = c} {held = held} {after
 
 -- the end of input, by what is held
 at_end : {S E : Type 0} {r : Start S E} {u : S} {left came : ℕ} {c : Supply} {l : Store} (held : List ℕ) (end : Option E)
-    → Clear r u left came c l held 1 → outer (Some r.m) held ≡ past → IsEmpty c.left → r.w.end u ≡ end → Ended r u came c l held (end_with held end)
+    → Clear r u left came c l held 1 → scan (Some r.m) held ≡ past → IsEmpty c.left → r.w.end u ≡ end → Ended r u came c l held (end_with held end)
 at_end {r = r} {u = u} [] None h more empty may =
     let at = at_place h (stop-none r.w.level (Some r.m)) in
     let sequence = sequence_of_all r.w.level (Some r.m) (h.used ++ []) h.taken.are_bytes at.place_is in
@@ -231,25 +238,25 @@ at_end {r = r} {u = u} (byte ∷ bytes) end h more empty may =
 
 -- A read that gave nothing ends the run: with what the writer says of the end, or inside a frame.
 pub finish_end : {S E : Type 0} {r : Start S E} {u : S} {left came : ℕ} {b c : Supply} {l : Store} {held after : List ℕ} {n : ℕ}
-    → Clear r u left came b l held 0 → outer (Some r.m) held ≡ past → 0 < left → ReadsMore b c held after (Ok n)
+    → Clear r u left came b l held 0 → scan (Some r.m) held ≡ past → 0 < left → ReadsMore (b ⇒ c) (held ⇒ after) (Ok n)
     → n ≡ 0 → length after ≤ r.m + 8 → Ended r u came c l after (end_with after (r.w.end u))
 finish_end {r = r} {u = u} {came = came} {held = held} {after = after} {n = n} k more some read zero room =
     let none : read.piece ≡ [] = nil_from_length read.piece (read.ok ∙ zero) in
     let same : after ≡ held = read.held ∙ ap (λ (xs : List ℕ). held ++ xs) none ∙ append-nil held in
     at_end after (r.w.end u) (Clear-read 1 k some read (omega arith) (counted_none came read.piece (ap length none)) room)
-    (ap (outer (Some r.m)) same ∙ more) (read.end zero) refl
+    (ap (scan (Some r.m)) same ∙ more) (read.end zero) refl
 
 -- ---- a frame for which a run ends
 
 -- a frame that has a fault
 finish_faulty : {S E : Type 0} {r : Start S E} {u : S} {left came : ℕ} {c : Supply} {l : Store} {held : List ℕ} (raw : Raw) (n : ℕ) (bad : Fault)
-    → Clear r u left came c l held 0 → outer (Some r.m) held ≡ took raw n → IsFaulty r.w.level raw bad → Ended r u came c l held (stopped_by (faulty bad))
-unfolding verdict
-finish_faulty {r = r} raw n bad h found is = finish_bad bad h (ap (judged r.w.level) found ∙ is.judged_bad n) is.tidy_only
+    → Clear r u left came c l held 0 → scan (Some r.m) held ≡ took raw n → IsFaulty r.w.level raw bad → Ended r u came c l held (stopped_by (faulty bad))
+unfolding judge_frame
+finish_faulty {r = r} raw n bad h found is = finish_bad bad h (ap (judge_scanned r.w.level) found ∙ is.judged_bad n) is.tidy_only
 
 -- a frame that is refused
 finish_refused : {S E : Type 0} {r : Start S E} {u : S} {left came : ℕ} {c : Supply} {l : Store} {held : List ℕ} (raw : Raw) (n : ℕ) (why : E)
-    → Clear r u left came c l held 0 → outer (Some r.m) held ≡ took raw n → IsRefused r.w u raw why → Ended r u came c l held (refused_by why)
+    → Clear r u left came c l held 0 → scan (Some r.m) held ≡ took raw n → IsRefused r.w u raw why → Ended r u came c l held (refused_by why)
 finish_refused {r = r} {u = u} {held = held} raw n why h found is =
     let w = r.w in
     let whole = verdict-whole w.level (Some r.m) held raw n is.frame found is.at_level is.is_whole in
@@ -265,7 +272,7 @@ finish_refused {r = r} {u = u} {held = held} raw n why h found is =
 
 -- a frame at which memory ran out
 finish_memory : {S E : Type 0} {r : Start S E} {u : S} {left came : ℕ} {c : Supply} {l : Store} {held : List ℕ} (t : S) (raw : Raw) (n : ℕ)
-    → Clear r u left came c l held 0 → outer (Some r.m) held ≡ took raw n → IsTrue (r.w.wants raw.kind) → Ended r t came c l held (stopped_by out_of_memory)
+    → Clear r u left came c l held 0 → scan (Some r.m) held ≡ took raw n → IsTrue (r.w.wants raw.kind) → Ended r t came c l held (stopped_by out_of_memory)
 finish_memory {r = r} {u = u} {held = held} t raw n h found wants =
     let is = spanned h.spans (front_bytes h.used held h.taken.are_bytes) in
     let more : h.text ++ text_of r.w u r.m held ≡ text_of r.w r.s r.m (h.used ++ held) =
@@ -313,13 +320,13 @@ finish_unwritten {r = r} {u = u} {left = left} {c = c} {l = l} {l' = l'} {held =
         written = (g.text ++ g.written) ++ piece;
         gains = Gains-then r.sink l l' (g.text ++ g.written) piece g.gains gains;
         writes = (prefix.0 ++ rest, whole);
-        state_is = tt;
         cause = rises g.gains.faults;
         tidy_only = λ e. absurd cc;
         short_by =
-            subst (λ (xs : List ℕ). IsShortBy w r.s r.m taken xs (r.m + 8)) (sym (append_assoc g.text g.written piece))
+            subst (λ (xs : List ℕ). IsShortBy (plan_of w r.s r.m) r.m taken xs (r.m + 8)) (sym (append_assoc g.text g.written piece))
             (short_by (g.since ++ held) (g.written ++ piece) g.spans g.taken.are_bytes g.room);
       };
+      state_is = tt;
       piece = g.taken.piece;
       parts = g.taken.parts;
       takes = g.taken.takes;
@@ -339,7 +346,7 @@ finish_unflushed {r = r} {u = u} {l = l} {l' = l'} {held = held} {pending = pend
 
 -- a frame for which nothing was written, or not all
 finish_frame : {S E : Type 0} {r : Start S E} {u : S} {left came : ℕ} {c : Supply} {l l' : Store} {held before after : List ℕ} (t : S) (raw : Raw) (n : ℕ)
-    → Going r u left came c l held before → outer (Some r.m) held ≡ took raw n
+    → Going r u left came c l held before → scan (Some r.m) held ≡ took raw n
     → WriteFails r.w u raw l l' before after → Ended r t came c l' held (stopped_by write_failed)
 finish_frame {r = r} {u = u} {l = l} {l' = l'} {held = held} t raw n g found h =
     let w = r.w in
@@ -377,7 +384,7 @@ ended_so r t came c l l' kept pending error result h run = subst (Ended r t came
 -- a fault that the header of a frame shows
 pub finish_header : {S E : Type 0} {r : Start S E} {u : S} {left came : ℕ} {c : Supply} {l l' : Store}
     {held pending : List ℕ} {result : Result (Unit {0}) (RunError E)} (bad : Fault) (error : ReadError)
-    → Going r u left came c l held pending → read_fault error ≡ Some bad → outer (Some r.m) held ≡ fault bad
+    → Going r u left came c l held pending → read_fault error ≡ Some bad → scan (Some r.m) held ≡ fault bad
     → EndsWith l l' pending (ends.Stream (stream_error error)) result → Ended r u came c l' held (ending_of result)
 finish_header {r = r} {u = u} {came = came} {c = c} {l = l} {l' = l'} {held = held} {pending = pending} {result = result} bad error g same found h =
     ended_so r u came c l l' held pending (ends.Stream (stream_error error)) result h
@@ -407,7 +414,7 @@ still_failed {l = l} {l' = l'} {l'' = l''} f g =
 -- how a run ends at a frame that was not written, by the cause
 stop_at : {S E : Type 0} {r : Start S E} {u : S} {left came : ℕ} {c : Supply} {l l' l'' : Store}
     {held before after : List ℕ} (t : S) (raw : Raw) (n : ℕ) (cause : Cause) (written : Result (Unit {0}) SinkFault)
-    → Going r u left came c l held before → outer (Some r.m) held ≡ took raw n → WritesBy r.w u t raw l l' before after (stopped_by cause)
+    → Going r u left came c l held before → scan (Some r.m) held ≡ took raw n → WritesBy r.w u t raw l l' before after (stopped_by cause)
     → WritesAll l' l'' after written → Ended r t came c l'' held (ended_by (stopped_by cause) written)
 stop_at {u = u} t raw n (faulty bad) written g found h f =
     state_as h.2 (flush_then u (stopped_by (faulty bad)) written (Going-kept g h.1) f (λ clear. finish_faulty raw n bad clear found h.0))
@@ -420,7 +427,7 @@ stop_at t raw n cause written g found h f = absurd h
 
 stop_with : {S E : Type 0} {r : Start S E} {u : S} {left came : ℕ} {c : Supply} {l l' l'' : Store}
     {held before after : List ℕ} (t : S) (raw : Raw) (n : ℕ) (error : RunError E) (written : Result (Unit {0}) SinkFault)
-    → Going r u left came c l held before → outer (Some r.m) held ≡ took raw n → WritesBy r.w u t raw l l' before after (error_ending error)
+    → Going r u left came c l held before → scan (Some r.m) held ≡ took raw n → WritesBy r.w u t raw l l' before after (error_ending error)
     → WritesAll l' l'' after written → Ended r t came c l'' held (ended_by (error_ending error) written)
 stop_with t raw n (ends.Stream error) written g found h f = stop_at t raw n (cause_of error) written g found h f
 stop_with {u = u} t raw n (ends.Refused why) written g found h f =
@@ -429,7 +436,7 @@ stop_with {u = u} t raw n (ends.Refused why) written g found h f =
 -- a frame that was not written
 pub finish_stopped : {S E : Type 0} {r : Start S E} {u t : S} {left came : ℕ} {c : Supply} {l l' l'' : Store}
     {held before after : List ℕ} {raw : Raw} {n : ℕ} {error : RunError E} {result : Result (Unit {0}) (RunError E)}
-    → Going r u left came c l held before → outer (Some r.m) held ≡ took raw n → WritesBy r.w u t raw l l' before after (error_ending error)
+    → Going r u left came c l held before → scan (Some r.m) held ≡ took raw n → WritesBy r.w u t raw l l' before after (error_ending error)
     → EndsWith l' l'' after error result → Ended r t came c l'' held (ending_of result)
 finish_stopped {r = r} {t = t} {came = came} {c = c} {l' = l'} {l'' = l''} {held = held}
     {after = after} {raw = raw} {n = n} {error = error} {result = result} g found h stop =

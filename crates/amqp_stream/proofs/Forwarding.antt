@@ -2,6 +2,7 @@
 use Rattle.std.proofs.Common.{◌≡◌, ℕ, List, [], ◌∷◌, ◌++◌, Some, Result, Ok, Err, refl, sym, ap, subst, ◌∙◌, arith, append_assoc, append-nil}
 use Rattle.std.proofs.lemmas.List.Concat.{flat_map-append}
 use Rattle.std.specs.List.{concat}
+use Rattle.std.specs.declared.string.ParseError.{Infallible}
 use Rattle.amqp_types.specs.Levels.{Level, plain}
 use Rattle.amqp_wire.specs.Canonical.{canon, canon_frames}
 use Rattle.amqp_wire.specs.Fronts.{front, place}
@@ -13,12 +14,14 @@ use Rattle.amqp_stream.specs.declared.errors.RunError.TheVariants as ends
 use Rattle.amqp_stream.specs.declared.forwarder.Forwarded.{Forwarded}
 use Rattle.amqp_stream.specs.declared.forwarder.Forwarded.TheVariants as results
 use Rattle.amqp_stream.specs.Errors.{Cause, faulty, cut_short, budget_spent, read_failed, write_failed, out_of_memory, cause_of}
+use Rattle.amqp_stream.specs.Changes.{Change}
+use Rattle.amqp_stream.specs.Calls.{Call}
 use Rattle.amqp_stream.specs.Ends.{Supply, Store, Takes}
 use Rattle.amqp_stream.specs.Canonicalizing.{Canonicalizes, canon_of}
 use Rattle.amqp_stream.specs.Manners.{canonical_at}
 use Rattle.amqp_stream.specs.Steps.{Manner}
 use Rattle.amqp_stream.specs.Streaming.{stopped_by}
-use Rattle.amqp_stream.specs.Resuming.{RestsBy, Resumes}
+use Rattle.amqp_stream.specs.Resuming.{with_ahead, RestsBy, Resumes}
 use Rattle.amqp_stream.specs.Forwarding.{Forwarding, ForwardsBy, Forwards, HeldUnless, HeldAfter, as_forward, Fed, fed_after, PiecesAreWhole}
 use Rattle.amqp_stream.proofs.Transcribing.{CanonicalizesAs, canonical, canonicalizes_as, never_out_of_memory}
 
@@ -38,53 +41,54 @@ memory_error : (error : StreamError) → cause_of error ≡ out_of_memory → er
 memory_error error e = grind arith
 
 -- no call of canonical bytes ends for memory
-no_memory : {level : Level} {m budget : ℕ} {a b : Supply} {k l : Store} (error : StreamError)
-    → Canonicalizes level m budget a b k l (Err error) → cause_of error ≡ out_of_memory → ⊥
-no_memory error call e = never_out_of_memory call.run (ap (λ x. Err x) (memory_error error e))
+no_memory : {level : Level} {call : Call Supply Store} (error : StreamError) → Canonicalizes level call (Err error) → cause_of error ≡ out_of_memory → ⊥
+no_memory error run e = never_out_of_memory canon_frames run.run (ap (λ x. Err x) (memory_error error e))
 
-held_at : {S E : Type 0} {level : Level} {s t : S} {m : ℕ} {before after : List ℕ} {came later : ℕ} {a b : Supply} {k l : Store}
-    (error : StreamError) (h : Resumes {E = E} (canonical_at level) s t m 1 before after came later a b k l (stopped_by (cause_of error)))
-    → (is : CanonicalizesAs (Err error) h.run) → HeldAfter level m is.call.run.taken after (Err error)
-held_at {level = level} {s = s} {t = t} {m = m} {after = after} error h is =
-    subst (λ (xs : List ℕ). HeldUnless level m xs after (cause_of error)) (sym is.taken)
-    (held_unless (canonical_at level) s t m h.run.taken h.run.written after (cause_of error) (no_memory error is.call) h.rests)
+held_at : {S : Type 0} {level : Level} {writer : Change S} {call : Call Supply Store} {held : Change (List ℕ)} {came : Change ℕ}
+    (error : StreamError) (h : Resumes {E = Infallible} (canonical_at level) writer call held came (stopped_by (cause_of error)))
+    → (is : CanonicalizesAs level (with_ahead held.old call) (Err error) h.run.taken h.run.reads)
+    → HeldAfter level call.limit is.call.run.taken held.new (Err error)
+held_at {level = level} {writer = writer} {call = call} {held = held} error h is =
+    subst (λ (xs : List ℕ). HeldUnless level call.limit xs held.new (cause_of error)) (sym is.taken)
+    (held_unless (canonical_at level) writer.old writer.new call.limit h.run.taken h.run.written held.new (cause_of error) (no_memory error is.call) h.rests)
 
 -- A call of a forwarder with the writer of canonical bytes is a call that writes the canonical bytes of what came.
-pub forwards : {S E : Type 0} {s t : S} {old new : Forwarding} {a b : Supply} {k l : Store} (result : Result Forwarded StreamError)
-    → ForwardsBy {E = E} (canonical_at plain) s t old new a b k l (as_forward result) → Forwards plain old new a b k l result
-forwards {a = a} {b = b} (Ok results.More) h =
-    let is = canonicalizes_as {r = Err errors.TurnsSpent} canonical h.run.run in
+pub forwards : {S : Type 0} {writer : Change S} {forwarder : Change Forwarding} {source : Change Supply} {sink : Change Store}
+    (result : Result Forwarded StreamError)
+    → ForwardsBy {E = Infallible} (canonical_at plain) writer forwarder source sink (as_forward result) → Forwards plain forwarder source sink result
+forwards {source = source} (Ok results.More) h =
+    let is = canonicalizes_as (Err errors.TurnsSpent) canonical h.run.run in
     record {
       call = is.call;
       piece = h.run.piece;
       parts = is.taken ∙ h.run.parts;
-      takes = subst (Takes a b h.run.piece) (sym is.reads) h.run.takes;
+      takes = subst (Takes source.old source.new h.run.piece) (sym is.reads) h.run.takes;
       counts = h.run.counts;
       some = λ e. h.run.some refl;
       held = held_at errors.TurnsSpent h.run is;
       limit = h.limit;
       fault = h.fault;
     }
-forwards {old = old} {a = a} {b = b} (Ok results.Ended) h =
-    let is = canonicalizes_as {r = Ok tt} canonical h.run.run in
+forwards {forwarder = forwarder} {source = source} (Ok results.Ended) h =
+    let is = canonicalizes_as (Ok tt) canonical h.run.run in
     record {
       call = is.call;
       piece = h.run.piece;
       parts = is.taken ∙ h.run.parts;
-      takes = subst (Takes a b h.run.piece) (sym is.reads) h.run.takes;
+      takes = subst (Takes source.old source.new h.run.piece) (sym is.reads) h.run.takes;
       counts = h.run.counts;
       some = λ e. absurd cc;
-      held = h.run.rests.place_is ∙ ap (place plain (Some old.limit)) (sym is.taken);
+      held = h.run.rests.place_is ∙ ap (place plain (Some forwarder.old.limit)) (sym is.taken);
       limit = h.limit;
       fault = h.fault;
     }
-forwards {a = a} {b = b} (Err error) h =
-    let is = canonicalizes_as {r = Err error} canonical h.run.run in
+forwards {source = source} (Err error) h =
+    let is = canonicalizes_as (Err error) canonical h.run.run in
     record {
       call = is.call;
       piece = h.run.piece;
       parts = is.taken ∙ h.run.parts;
-      takes = subst (Takes a b h.run.piece) (sym is.reads) h.run.takes;
+      takes = subst (Takes source.old source.new h.run.piece) (sym is.reads) h.run.takes;
       counts = h.run.counts;
       some = λ e. absurd cc;
       held = held_at error h.run is;

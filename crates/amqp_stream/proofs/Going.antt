@@ -9,13 +9,14 @@ use Rattle.amqp_wire.specs.declared.frame_type.AMQPFrameType.{AMQPFrameType}
 use Rattle.amqp_wire.specs.declared.frame_type.AMQPFrameType.TheVariants as kinds
 use Rattle.amqp_wire.specs.declared.looking.FrameLayout.{FrameLayout}
 use Rattle.amqp_wire.specs.Frames.{Raw, Frame, frame_length, length_around}
-use Rattle.amqp_wire.specs.Outer.{outer}
+use Rattle.amqp_wire.specs.HeaderScan.{scan}
 use Rattle.amqp_wire.specs.Looks.{laid_out}
 use Rattle.amqp_wire.specs.Fronts.{front, ComesBefore}
-use Rattle.amqp_wire.proofs.OuterLook.{outer-in_bounds}
-use Rattle.amqp_wire.proofs.Encoded.{outer-beside}
+use Rattle.amqp_wire.proofs.HeaderScan.{scan-in_bounds}
+use Rattle.amqp_wire.proofs.Encoded.{scan-beside}
 use Rattle.amqp_wire.proofs.Cuts.{ComesBefore-none, ComesBefore-more, verdict-whole}
 use Rattle.amqp_stream.specs.declared.source.SourceFault.{SourceFault}
+use Rattle.amqp_stream.specs.Changes.{◌⇒◌}
 use Rattle.amqp_stream.specs.Ends.{Supply, Store, Takes, Gains, counted}
 use Rattle.amqp_stream.specs.Reading.{ReadsMore, Lies}
 use Rattle.amqp_stream.specs.Writing.{WritesAll, Keeps}
@@ -61,7 +62,7 @@ Spans-then g h = record { frames = g.frames ++ h.frames; sequence = ComesBefore-
 
 -- the frame that lies at the front of what is held
 pub Spans-one : {S E : Type 0} {w : Manner S E} {s t : S} {raw : Raw} {bytes : List ℕ} (m : ℕ) (held : List ℕ) (n : ℕ)
-    → outer (Some m) held ≡ took raw n → IsStep w s t raw bytes → Spans w m s t (take n held) bytes
+    → scan (Some m) held ≡ took raw n → IsStep w s t raw bytes → Spans w m s t (take n held) bytes
 Spans-one {w = w} {s = s} {t = t} {raw = raw} {bytes = bytes} m held n found is = record {
   frames = is.frame ∷ [];
   sequence =
@@ -190,9 +191,9 @@ around_fits kinds.ProtocolHeader p n least h = least
 around_fits kind p n least h = h (λ e. absurd cc)
 
 -- A borrowed frame has no more bytes than it uses of those that it lies in.
-pub frame_fits : (m : ℕ) (held : List ℕ) (raw : Raw) (n : ℕ) → outer (Some m) held ≡ took raw n → frame_length raw ≤ n
+pub frame_fits : (m : ℕ) (held : List ℕ) (raw : Raw) (n : ℕ) → scan (Some m) held ≡ took raw n → frame_length raw ≤ n
 frame_fits m held raw n found =
-    around_fits raw.kind (length raw.payload) n (outer-in_bounds (Some m) held raw n found).least (λ e. outer-beside (Some m) held raw n found e)
+    around_fits raw.kind (length raw.payload) n (scan-in_bounds (Some m) held raw n found).least (λ e. scan-beside (Some m) held raw n found e)
 
 -- a frame that lies at the front of what is held is used, and what is written for it was gathered
 pub Going-frame : {S E : Type 0} {r : Start S E} {u v : S} {left came : ℕ} {b : Supply} {l l' : Store} {held before after : List ℕ} {layout : FrameLayout}
@@ -241,7 +242,7 @@ fits_room {r = r} {held = held} {layout = layout} g lies is =
 -- one read, after which nothing is pending still
 pub Clear-read : {S E : Type 0} {r : Start S E} {u : S} {left came later : ℕ}
     {b c : Supply} {l : Store} {held after : List ℕ} {q : Result ℕ SourceFault} (idle : ℕ)
-    → Clear r u left came b l held 0 → 0 < left → (h : ReadsMore b c held after q) → 1 ≤ length h.piece + idle
+    → Clear r u left came b l held 0 → 0 < left → (h : ReadsMore (b ⇒ c) (held ⇒ after) q) → 1 ≤ length h.piece + idle
     → Some later ≡ counted (length h.piece) (Some came) → length after ≤ r.m + 8 → Clear r u (left - 1) later c l after idle
 Clear-read {r = r} {left = left} {came = came} {later = later} {b = b} {c = c} {held = held} {after = after} idle k some h enough counts room =
     let t = k.taken in
@@ -276,4 +277,4 @@ read_falls m left h h' some room =
 pub frame_falls : (m left : ℕ) (held : List ℕ) (layout : FrameLayout) → Lies m held layout
     → left * (m + 9) + length (drop layout.frame_len held) < left * (m + 9) + length held
 frame_falls m left held layout lies =
-    omega (arith, (outer-in_bounds (Some m) held (laid_out layout held) layout.frame_len lies.found).least, lies.inside, length-drop layout.frame_len held)
+    omega (arith, (scan-in_bounds (Some m) held (laid_out layout held) layout.frame_len lies.found).least, lies.inside, length-drop layout.frame_len held)

@@ -6,15 +6,17 @@ use Rattle.amqp_types.specs.Levels.{Level}
 use Rattle.amqp_types.specs.Judging.{IsBytes}
 use Rattle.amqp_wire.specs.Frames.{Frame}
 use Rattle.amqp_wire.specs.Spelling.{SpellsFrames}
-use Rattle.amqp_wire.specs.Verdicts.{verdict}
+use Rattle.amqp_wire.specs.Verdicts.{judge_frame}
 use Rattle.amqp_wire.specs.Fronts.{front, IsUndecided, ComesBefore}
 use Rattle.amqp_wire.proofs.Sequences.{SpellsFrames-precedes, sequence_front}
 use Rattle.amqp_stream.specs.Errors.{faulty, cut_short, budget_spent, read_failed, write_failed, out_of_memory}
+use Rattle.amqp_stream.specs.Changes.{◌⇒◌}
+use Rattle.amqp_stream.specs.Calls.{call_of}
 use Rattle.amqp_stream.specs.Ends.{Supply, Store}
-use Rattle.amqp_stream.specs.Transcribing.{IsSequence}
+use Rattle.amqp_stream.specs.Causes.{IsSequence}
 use Rattle.amqp_stream.specs.Steps.{Manner, text_at, text, refused_at, refused, state_at, state}
-use Rattle.amqp_stream.specs.Streaming.{Ending, finished, refused_by, stopped_by, text_of, refused_of, state_of, IsShortBy}
-use Rattle.amqp_stream.specs.Streaming.{HasCauseBy, HasWrittenBy, HasStateBy}
+use Rattle.amqp_stream.specs.Streaming.{Ending, finished, refused_by, stopped_by, text_of, refused_of, state_of, plan_of, IsShortBy}
+use Rattle.amqp_stream.specs.Streaming.{HasCause, HasWritten, HasState}
 use Rattle.amqp_stream.specs.Resuming.{ahead, Rests, RestsAfter, RestsBy, RunsAddUp}
 use Rattle.amqp_stream.proofs.Adding.{Takes-then, Takes-ahead, counted_more, Gains-then, Rises-later, IsBytes-append}
 use Rattle.amqp_stream.proofs.Passing.{Passes, Passes-none, Passes-then, Passes-one}
@@ -73,7 +75,7 @@ sequence_then level m a b f g = (f.0 ++ g.0, spells_then level (Some m) a b f.0 
 -- ---- what is said of the second run is said of both
 
 writes_then : {S E : Type 0} {w : Manner S E} {m : ℕ} {s t : S} {used p : List ℕ} → Spans w m s t used p
-    → (bytes q : List ℕ) (e : Ending E) → HasWrittenBy w t m bytes q e → HasWrittenBy w s m (used ++ bytes) (p ++ q) e
+    → (bytes q : List ℕ) (e : Ending E) → HasWritten (plan_of w t m) bytes q e → HasWritten (plan_of w s m) (used ++ bytes) (p ++ q) e
 writes_then {p = p} sp bytes q (stopped_by write_failed) h = (h.0, append_assoc p q h.0 ∙ ap (λ (xs : List ℕ). p ++ xs) h.1 ∙ sym (text_then sp bytes))
 writes_then {p = p} sp bytes q (stopped_by out_of_memory) h = (h.0, append_assoc p q h.0 ∙ ap (λ (xs : List ℕ). p ++ xs) h.1 ∙ sym (text_then sp bytes))
 writes_then {p = p} sp bytes q (refused_by why) h = ap (λ (xs : List ℕ). p ++ xs) h ∙ sym (text_then sp bytes)
@@ -81,13 +83,13 @@ writes_then {p = p} sp bytes q ending h =
     record { text_is = ap (λ (xs : List ℕ). p ++ xs) h.text_is ∙ sym (text_then sp bytes); none_refused = refused_then sp bytes ∙ h.none_refused }
 
 states_then : {S E : Type 0} {w : Manner S E} {m : ℕ} {s t : S} {used p : List ℕ} → Spans w m s t used p
-    → (u : S) (bytes : List ℕ) (e : Ending E) → HasStateBy w t u m bytes e → HasStateBy w s u m (used ++ bytes) e
+    → (u : S) (bytes : List ℕ) (e : Ending E) → HasState w (t ⇒ u) m bytes e → HasState w (s ⇒ u) m (used ++ bytes) e
 states_then sp u bytes (stopped_by write_failed) h = tt
 states_then sp u bytes (stopped_by out_of_memory) h = tt
 states_then sp u bytes ending h = h ∙ sym (state_then sp bytes)
 
 short_then : {S E : Type 0} {w : Manner S E} {m n : ℕ} {s t : S} {used p bytes q : List ℕ} → Spans w m s t used p
-    → IsSequence w.level m used → IsShortBy w t m bytes q n → IsShortBy w s m (used ++ bytes) (p ++ q) n
+    → IsSequence w.level m used → IsShortBy (plan_of w t m) m bytes q n → IsShortBy (plan_of w s m) m (used ++ bytes) (p ++ q) n
 short_then {w = w} {m = m} {used = used} {p = p} sp sequence h = record {
   sequence = used ++ h.sequence;
   rest = h.rest;
@@ -105,7 +107,8 @@ short_then {w = w} {m = m} {used = used} {p = p} sp sequence h = record {
 causes_then : {S E : Type 0} {w : Manner S E} {m : ℕ} {s t : S} {used p : List ℕ} (budget more : ℕ) (a b c : Supply) (k l n : Store)
     → Spans w m s t used p → IsSequence w.level m used → a.faults ≤ b.faults → b.faults ≤ c.faults → k.faults ≤ l.faults
     → l.faults ≤ n.faults → (bytes q : List ℕ) (e : Ending E) → (e ≡ stopped_by budget_spent → budget ≤ length (used ++ bytes))
-    → HasCauseBy w t m more bytes q b c l n e → HasCauseBy w s m budget (used ++ bytes) (p ++ q) a c k n e
+    → HasCause (plan_of w t m) (call_of m more (b ⇒ c) (l ⇒ n)) bytes q e
+    → HasCause (plan_of w s m) (call_of m budget (a ⇒ c) (k ⇒ n)) (used ++ bytes) (p ++ q) e
 causes_then {w = w} {m = m} {used = used} budget more a b c k l n sp sequence ab bc kl ln bytes q finished few h =
     (sequence_then w.level m used bytes sequence h.0, h.1, ap w.end (state_then sp bytes) ∙ h.2)
 causes_then {w = w} {m = m} {used = used} budget more a b c k l n sp sequence ab bc kl ln bytes q (refused_by why) few h = elim h [
@@ -118,13 +121,13 @@ causes_then {w = w} {m = m} {used = used} budget more a b c k l n sp sequence ab
   })
 ]
 causes_then {w = w} {m = m} budget more a b c k l n sp sequence ab bc kl ln bytes q (stopped_by (faulty bad)) few h =
-    ap (verdict w.level (Some m)) (sp.sequence.after bytes) ∙ h
+    ap (judge_frame w.level (Some m)) (sp.sequence.after bytes) ∙ h
 causes_then {w = w} {m = m} budget more a b c k l n sp sequence ab bc kl ln bytes q (stopped_by cut_short) few h =
     (subst (IsUndecided w.level (Some m)) (sym (sp.sequence.after bytes)) h.0, h.1)
 causes_then {w = w} {m = m} budget more a b c k l n sp sequence ab bc kl ln bytes q (stopped_by budget_spent) few h =
-    (ap (verdict w.level (Some m)) (sp.sequence.after bytes) ∙ h.0, few refl)
+    (ap (judge_frame w.level (Some m)) (sp.sequence.after bytes) ∙ h.0, few refl)
 causes_then {w = w} {m = m} budget more a b c k l n sp sequence ab bc kl ln bytes q (stopped_by read_failed) few h =
-    (ap (verdict w.level (Some m)) (sp.sequence.after bytes) ∙ h.0, Rises-later a.faults b.faults c.faults ab bc h.1)
+    (ap (judge_frame w.level (Some m)) (sp.sequence.after bytes) ∙ h.0, Rises-later a.faults b.faults c.faults ab bc h.1)
 causes_then budget more a b c k l n sp sequence ab bc kl ln bytes q (stopped_by write_failed) few h = Rises-later k.faults l.faults n.faults kl ln h
 causes_then {w = w} {m = m} {used = used} {p = p} budget more a b c k l n sp sequence ab bc kl ln bytes q (stopped_by out_of_memory) few h = record {
   sequence = used ++ h.sequence;
@@ -190,7 +193,6 @@ runs_add_up w s t u m budget more h0 h1 h2 c0 c1 c2 a b c k l n e f g =
         written = f.run.written ++ g.run.written;
         gains = Gains-then k l n f.run.written g.run.written f.run.gains g.run.gains;
         writes = writes_then sp g.run.taken g.run.written e g.run.writes;
-        state_is = states_then sp u g.run.taken e g.run.state_is;
         cause =
             causes_then (budget + more) more (ahead h0 a) (ahead h1 b) c k l n sp first.is_sequence
             f.takes.faults g.takes.faults f.run.gains.faults g.run.gains.faults g.run.taken g.run.written e
@@ -198,6 +200,7 @@ runs_add_up w s t u m budget more h0 h1 h2 c0 c1 c2 a b c k l n e f g =
         tidy_only = g.run.tidy_only;
         short_by = short_then sp first.is_sequence g.run.short_by;
       };
+      state_is = states_then sp u g.run.taken e g.state_is;
       piece = f.piece ++ g.piece;
       parts = parts;
       takes = takes;

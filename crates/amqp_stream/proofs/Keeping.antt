@@ -2,12 +2,12 @@
 use Rattle.std.proofs.Common.{◌≡◌, ℕ, ◌+◌, ◌-◌, ◌≤◌, List, ◌++◌, length, take, drop, Ok, refl, sym, ap, ◌∙◌, arith, append_assoc, append-nil}
 use Rattle.std.proofs.lemmas.List.{drop-drop, drop_at, length-append, take_at}
 use Rattle.amqp_types.specs.Writing.{written}
-use Rattle.amqp_types.proofs.Written.{written-length}
+use Rattle.amqp_types.proofs.WrittenParts.{written-length}
 use Rattle.amqp_wire.specs.declared.looking.FrameLayout.{FrameLayout}
 use Rattle.amqp_wire.specs.Frames.{Raw, frame_length}
 use Rattle.amqp_wire.specs.Looks.{laid_out}
 use Rattle.amqp_wire.specs.Canonical.{canon}
-use Rattle.amqp_wire.specs.Verdicts.{whole}
+use Rattle.amqp_wire.specs.Verdicts.{decode_raw}
 use Rattle.amqp_stream.specs.Buffers.{Adds}
 use Rattle.amqp_stream.specs.Reading.{Lies}
 use Rattle.amqp_stream.specs.Taking.{GathersFrame}
@@ -25,7 +25,7 @@ before_are before middle bytes pending put same = ap (λ k. take k middle) same 
 
 -- they were put into the place of the frame
 pub kept_in_place : {m : ℕ} {layout : FrameLayout} {held rest before middle after piece : List ℕ} {passed longer pending : ℕ} (raw : Raw)
-    → passed ≤ length held → Lies m (drop passed held) layout → raw ≡ laid_out layout (drop passed held) → Adds before middle (whole raw) (Ok tt)
+    → passed ≤ length held → Lies m (drop passed held) layout → raw ≡ laid_out layout (drop passed held) → Adds before middle (decode_raw raw) (Ok tt)
     → pending ≡ length before → length middle - pending ≡ layout.frame_len
     → piece ≡ drop pending middle → rest ≡ written held passed piece → after ≡ take pending middle
     → longer ≡ passed + layout.frame_len → GathersFrame layout held rest before after passed longer
@@ -43,7 +43,7 @@ kept_in_place {layout = layout} {held = held} {rest = rest} {before = before} {m
     ap (λ k. drop k rest) place ∙ ap (drop (passed + length bytes)) placed ∙ written_behind held passed bytes room in
     record {
       frame = put.0;
-      is_whole = ap whole (sym frame) ∙ put.1;
+      is_whole = ap decode_raw (sym frame) ∙ put.1;
       within = omega (arith, place, room, long);
       rest =
           behind ∙ ap (λ k. drop k held) {x = passed + length bytes} {y = passed + layout.frame_len} (omega (arith, count))
@@ -57,7 +57,7 @@ kept_in_place {layout = layout} {held = held} {rest = rest} {before = before} {m
 -- or the stretch was put before them, and both are pending
 pub kept_pending : {m : ℕ} {layout : FrameLayout} {held rest before middle after : List ℕ} {passed none pending : ℕ} (raw : Raw)
     → Lies m (drop passed held) layout → raw ≡ laid_out layout (drop passed held)
-    → Adds before middle (whole raw) (Ok tt) → length middle ≤ length before + frame_length raw
+    → Adds before middle (decode_raw raw) (Ok tt) → length middle ≤ length before + frame_length raw
     → pending ≡ length before → after ≡ take pending middle ++ (take passed held ++ drop pending middle) → rest ≡ drop (passed + layout.frame_len) held
     → none ≡ 0 → GathersFrame layout held rest before after passed none
 kept_pending {m = m} {layout = layout} {held = held} {rest = rest} {before = before} {middle = middle}
@@ -70,7 +70,7 @@ kept_pending {m = m} {layout = layout} {held = held} {rest = rest} {before = bef
     omega (arith, ap frame_length frame, frame_fits m (drop passed held) (laid_out layout (drop passed held)) layout.frame_len lies.found) in
     record {
       frame = put.0;
-      is_whole = ap whole (sym frame) ∙ put.1;
+      is_whole = ap decode_raw (sym frame) ∙ put.1;
       within = omega (arith, zero);
       rest = ap (λ k. drop k rest) zero ∙ left ∙ sym (drop-drop layout.frame_len passed held);
       no_longer = omega (arith, few, fits, ap length put.2, length-append before bytes);

@@ -2,6 +2,7 @@
 pub mod Spans
 pub mod Adding
 pub mod Pulling
+pub mod NextCalls
 pub mod Writes
 pub mod Passing
 pub mod Going

@@ -10,9 +10,11 @@ use Rattle.amqp_stream.specs.declared.errors.RunError.{RunError}
 use Rattle.amqp_stream.specs.declared.errors.RunError.TheVariants as ends
 use Rattle.amqp_stream.specs.declared.report.RunReport.{RunReport}
 use Rattle.amqp_stream.specs.Errors.{Cause, faulty, cut_short, budget_spent, read_failed, write_failed, out_of_memory, cause_of}
+use Rattle.amqp_stream.specs.Changes.{Change}
+use Rattle.amqp_stream.specs.Calls.{Call, as_reported}
 use Rattle.amqp_stream.specs.Ends.{Supply, Store, Takes, last, counted}
 use Rattle.amqp_stream.specs.Steps.{Manner}
-use Rattle.amqp_stream.specs.Transcribing.{IsSequence}
+use Rattle.amqp_stream.specs.Causes.{IsSequence}
 use Rattle.amqp_stream.specs.Streaming.{Ending, refused_by, stopped_by, error_ending, ending_of, as_run, refused_of, state_of}
 use Rattle.amqp_stream.specs.Resuming.{IsRefusedThere, RestsBy, Resumes}
 use Rattle.amqp_stream.specs.Reports.{channel_in, IsRestBy, IsReportBy, IsRestAt, IsReportAt, NeverRanReport}
@@ -25,20 +27,20 @@ use Rattle.amqp_stream.proofs.Transcribing.{Transcriber, never_began}
 -- ---- a run that began with nothing held
 
 -- A run that began with nothing held is a run of a writer, with all that is said of one.
-pub one_run : {T E S K : Type 0} {w : Manner T E} {s t : T} {supply : S → Supply} {store : K → Store} {m budget c0 c1 : ℕ}
-    {before after : List ℕ} {source source' : S} {sink sink' : K} {result : Result (Unit {0}) (RunError E)}
-    → before ≡ [] → Resumes w s t m budget before after c0 c1 (supply source) (supply source') (store sink) (store sink') (ending_of result)
-    → (budget ≡ 0 → source' ≡ source) → (budget ≡ 0 → sink' ≡ sink) → (budget ≡ 0 → result ≡ Err (ends.Stream errors.TurnsSpent))
-    → WriterRun w s t supply store m budget source source' sink sink' result
-one_run none resumed unread unwritten spent =
+pub one_run : {T E S K : Type 0} {w : Manner T E} {writer : Change T} {supply : S → Supply} {store : K → Store} {call : Call S K}
+    {held : Change (List ℕ)} {came : Change ℕ} {result : Result (Unit {0}) (RunError E)}
+    → held.old ≡ [] → Resumes w writer (as_reported supply store call) held came (ending_of result)
+    → (call.budget ≡ 0 → call.source.new ≡ call.source.old) → (call.budget ≡ 0 → call.sink.new ≡ call.sink.old)
+    → (call.budget ≡ 0 → result ≡ Err (ends.Stream errors.TurnsSpent)) → WriterRun w writer supply store call result
+one_run {w = w} {writer = writer} none resumed unread unwritten spent =
     let stream = as_one_run none resumed in
     record {
       stream = stream;
       unread = unread;
       unwritten = unwritten;
       spent = spent;
-      exact = λ bytes left. streams_exactly bytes left stream;
-      complete = λ bytes left accepted faultless. completes bytes left stream accepted.0 accepted.1 faultless;
+      exact = λ bytes left. streams_exactly w writer.old bytes left stream.run;
+      complete = λ bytes left accepted faultless. completes w writer.old bytes left stream.run accepted.0 accepted.1 faultless;
     }
 
 -- the frames in front of what is held
@@ -69,19 +71,20 @@ reached w s t m bytes written held ending h =
 came_is : (came n : ℕ) → Some came ≡ counted n (Some 0) → n ≤ last → came ≡ n
 came_is came n e few = let c : came ≡ max 0 (min (0 + n) last) = cc in omega (arith, c, few)
 
-report_by : {S E : Type 0} {w : Manner S E} {s t : S} {m budget came : ℕ} {before held : List ℕ} {a b : Supply} {k l : Store} (report : RunReport (RunError E))
-    → before ≡ [] → Resumes w s t m budget before held 0 came a b k l (error_ending report.error)
-    → length held ≤ m + 8 → report.place ≡ came - length held → report.channel ≡ channel_in held
-    → IsReportBy w s m a b report
-report_by {w = w} {s = s} {t = t} {m = m} {came = came} {held = held} {a = a} {b = b} report none h few at_is channel_is =
-    let at = reached w s t m h.run.taken h.run.written held (error_ending report.error) h.rests in
+report_by : {S E : Type 0} {w : Manner S E} {writer : Change S} {call : Call Supply Store} {held : Change (List ℕ)} {came : Change ℕ}
+    (report : RunReport (RunError E)) → held.old ≡ [] → came.old ≡ 0 → Resumes w writer call held came (error_ending report.error)
+    → length held.new ≤ call.limit + 8 → report.place ≡ came.new - length held.new → report.channel ≡ channel_in held.new
+    → IsReportBy w writer.old call.limit call.source report
+report_by {w = w} {writer = writer} {call = call} {held = held} {came = came} report none zero h few at_is channel_is =
+    let at = reached w writer.old writer.new call.limit h.run.taken h.run.written held.new (error_ending report.error) h.rests in
     let taken : h.run.taken ≡ h.piece = h.parts ∙ ap (λ (xs : List ℕ). xs ++ h.piece) none in
+    let counts : Some came.new ≡ counted (length h.piece) (Some 0) = h.counts ∙ ap (λ n. counted (length h.piece) (Some n)) zero in
     record {
       taken = h.run.taken;
       reads = h.run.reads;
-      takes = subst (λ (piece : List ℕ). Takes a b piece h.run.reads) (sym taken) h.takes;
+      takes = subst (λ (piece : List ℕ). Takes call.source.old call.source.new piece h.run.reads) (sym taken) h.takes;
       sequence = at.used;
-      rest = held;
+      rest = held.new;
       parts = at.parts;
       is_sequence = at.is_sequence;
       few = few;
@@ -90,24 +93,23 @@ report_by {w = w} {s = s} {t = t} {m = m} {came = came} {held = held} {a = a} {b
           omega (
             arith,
             at_is,
-            came_is came (length h.piece) h.counts (omega (arith, fits, ap length taken)),
+            came_is came.new (length h.piece) counts (omega (arith, fits, ap length taken)),
             ap length taken,
             ap length at.parts,
-            length-append at.used held,
+            length-append at.used held.new,
           );
       channel_is = channel_is;
     }
 
 -- by its result
-pub reports : {S E : Type 0} {w : Manner S E} {s t : S} {m budget came : ℕ} {before held : List ℕ} {a b : Supply}
-    {k l : Store} {ended : Result (Unit {0}) (RunError E)} (r : Result (Unit {0}) (RunReport (RunError E)))
-    → unreported r ≡ ended → before ≡ [] → Resumes w s t m budget before held 0 came a b k l (ending_of ended) → length held ≤ m + 8
-    → IfErr r (λ report. report.place ≡ came - length held) → IfErr r (λ report. report.channel ≡ channel_in held)
-    → IfErr r (IsReportBy w s m a b)
-reports (Ok done) e none h few at_is channel_is = tt
-reports {w = w} {s = s} {t = t} {m = m} {budget = budget} {came = came} {before = before}
-    {held = held} {a = a} {b = b} {k = k} {l = l} (Err report) e none h few at_is channel_is =
-    report_by report none (subst (λ x. Resumes w s t m budget before held 0 came a b k l (ending_of x)) (sym e) h) few at_is channel_is
+pub reports : {S E : Type 0} {w : Manner S E} {writer : Change S} {call : Call Supply Store} {held : Change (List ℕ)} {came : Change ℕ}
+    {ended : Result (Unit {0}) (RunError E)} (r : Result (Unit {0}) (RunReport (RunError E)))
+    → unreported r ≡ ended → held.old ≡ [] → came.old ≡ 0 → Resumes w writer call held came (ending_of ended) → length held.new ≤ call.limit + 8
+    → IfErr r (λ report. report.place ≡ came.new - length held.new) → IfErr r (λ report. report.channel ≡ channel_in held.new)
+    → IfErr r (IsReportBy w writer.old call.limit call.source)
+reports (Ok done) e none zero h few at_is channel_is = tt
+reports {w = w} {writer = writer} {call = call} {held = held} {came = came} (Err report) e none zero h few at_is channel_is =
+    report_by report none zero (subst (λ x. Resumes w writer call held came (ending_of x)) (sym e) h) few at_is channel_is
 
 -- ---- a run in which nothing is refused
 
@@ -127,10 +129,10 @@ rest_at w t m taken rest read_failed never h = h
 
 -- Of a writer that writes bytes for each frame and refuses none, a report says where reading ended.
 pub report_at : {S E : Type 0} {w : Manner S E} {s : S} {f : List Frame → List ℕ}
-    → Transcriber w s f → (m : ℕ) (a b : Supply) (r : Result (Unit {0}) (RunReport StreamError))
-    → IfErr (as_run_report {E = E} r) (IsReportBy w s m a b) → IfErr r (IsReportAt w.level m a b)
-report_at is m a b (Ok done) h = tt
-report_at {w = w} {s = s} is m a b (Err report) h = record {
+    → Transcriber w s f → (m : ℕ) (source : Change Supply) (r : Result (Unit {0}) (RunReport StreamError))
+    → IfErr (as_run_report {E = E} r) (IsReportBy w s m source) → IfErr r (IsReportAt w.level m source)
+report_at is m source (Ok done) h = tt
+report_at {w = w} {s = s} is m source (Err report) h = record {
   taken = h.taken;
   reads = h.reads;
   takes = h.takes;
@@ -139,7 +141,9 @@ report_at {w = w} {s = s} is m a b (Err report) h = record {
   parts = h.parts;
   is_sequence = h.is_sequence;
   few = h.few;
-  there = rest_at w (state_of w s m h.sequence) m h.taken h.rest (cause_of report.error) (λ wanting. is.wants_none wanting.raw.kind wanting.such) h.there.1;
+  there =
+      rest_at w (state_of w s m h.sequence) m h.taken h.rest (cause_of report.error)
+      (λ wanting. is.wants_none wanting.raw.kind wanting.such) h.there.1;
   place_is = h.place_is;
   channel_is = h.channel_is;
 }
@@ -152,7 +156,7 @@ without_report (inl h) = inl h.0
 without_report (inr h) = inr h.0
 
 -- a run that never began, where nothing is refused
-pub never_began_report : {T E S K : Type 0} {s t : T} {source source' : S} {sink sink' : K} (r : Result (Unit {0}) (RunReport StreamError))
-    → NeverRanReport {E = E} s t source source' sink sink' (as_run_report r) → NeverBeganReport source source' sink sink' errors.NoMemory r
+pub never_began_report : {T E S K : Type 0} {writer : Change T} {source : Change S} {sink : Change K} (r : Result (Unit {0}) (RunReport StreamError))
+    → NeverRanReport {E = E} writer source sink (as_run_report r) → NeverBeganReport source sink errors.NoMemory r
 never_began_report (Ok done) h = absurd (let other = h.0.0.no_memory in cc)
 never_began_report (Err report) h = (never_began (rw unreported_as_run at h.0.0), record { place_is = h.1.place_is; no_channel = h.1.no_channel })

@@ -6,9 +6,9 @@ use Rattle.std.proofs.Math.Seq.{drop-nil}
 use Rattle.amqp_types.specs.Judging.{past, IsBytes}
 use Rattle.amqp_wire.specs.Frames.{frame_length}
 use Rattle.amqp_wire.specs.declared.looking.FrameLayout.{FrameLayout}
-use Rattle.amqp_wire.specs.Outer.{outer}
+use Rattle.amqp_wire.specs.HeaderScan.{scan}
 use Rattle.amqp_wire.specs.Looks.{laid_out}
-use Rattle.amqp_wire.proofs.OuterLook.{outer-none}
+use Rattle.amqp_wire.proofs.HeaderScan.{scan-none}
 use Rattle.amqp_stream.specs.declared.errors.ReadError.{ReadError}
 use Rattle.amqp_stream.specs.declared.errors.StreamError.{StreamError}
 use Rattle.amqp_stream.specs.declared.errors.RunError.{RunError}
@@ -16,6 +16,7 @@ use Rattle.amqp_stream.specs.declared.errors.RunError.TheVariants as ends
 use Rattle.amqp_stream.specs.declared.sink.SinkFault.{SinkFault}
 use Rattle.amqp_stream.specs.declared.source.SourceFault.{SourceFault}
 use Rattle.amqp_stream.specs.Errors.{stream_error, budget_spent, read_failed, write_failed}
+use Rattle.amqp_stream.specs.Changes.{◌⇒◌}
 use Rattle.amqp_stream.specs.Ends.{Supply, Store, counted}
 use Rattle.amqp_stream.specs.Reading.{Holding, ReadsMore, Lies, Finds}
 use Rattle.amqp_stream.specs.Buffers.{Buffered}
@@ -162,7 +163,7 @@ ends_unflushed round failed rest = held_as rest (finish_unflushed _ round.going 
 -- Nothing is pending, and the held bytes are the front of a frame.
 record Idle {S E : Type 0} (r : Start S E) (u : S) (left came : ℕ) (b : Supply) (l : Store) (held : List ℕ) : Type 0 where
   clear : Clear r u left came b l held 0
-  more : outer (Some r.m) held ≡ past
+  more : scan (Some r.m) held ≡ past
 
 -- All that was gathered was written, and what passed is held no more.
 pub record Flushed {S : Type 0} (x : Loop S) (found : Option FrameLayout) (l : Store) (held : List ℕ) : Type 0 where
@@ -175,10 +176,10 @@ pub record Flushed {S : Type 0} (x : Loop S) (found : Option FrameLayout) (l : S
 idle : {S E : Type 0} {r : Start S E} {room : ℕ} {x : Loop S} {found : Option FrameLayout} {l : Store} {held : List ℕ}
     → Round r room x → Flushed x found l held → Idle r x.writer x.left x.came x.source l held
 idle {r = r} {x = x} {l = l} round f =
-    let more : outer (Some r.m) (drop x.passed x.reader.held) ≡ past = rw (f.none, round.limit) at f.finds in
+    let more : scan (Some r.m) (drop x.passed x.reader.held) ≡ past = rw (f.none, round.limit) at f.finds in
     record {
       clear = subst (λ (bytes : List ℕ). Clear r x.writer x.left x.came x.source l bytes 0) (sym f.rest) (Clear-flushed round.going f.written);
-      more = ap (outer (Some r.m)) f.rest ∙ more;
+      more = ap (scan (Some r.m)) f.rest ∙ more;
     }
 
 -- Where no read is left the run ends.
@@ -189,7 +190,7 @@ ends_spent round flushed zero = let at = idle round flushed in finish_spent at.c
 -- Where a read failed the run ends.
 pub ends_unread : {S E : Type 0} {r : Start S E} {room : ℕ} {x : Loop S} {found : Option FrameLayout}
     {l : Store} {held : List ℕ} {b : Supply} {after : List ℕ} {limit : ℕ} {bad : SourceFault}
-    → Round r room x → Flushed x found l held → x.left ≢ 0 → ReadsMore x.source b held after (Err bad)
+    → Round r room x → Flushed x found l held → x.left ≢ 0 → ReadsMore (x.source ⇒ b) (held ⇒ after) (Err bad)
     → limit ≡ x.reader.limit → length after ≤ limit + 8 → Ended r x.writer x.came b l after (stopped_by read_failed)
 ends_unread round flushed some read same few =
     let at = idle round flushed in
@@ -198,7 +199,7 @@ ends_unread round flushed some read same few =
 -- Where a read gave nothing the run ends.
 pub ends_at_end : {S E : Type 0} {r : Start S E} {room : ℕ} {x : Loop S} {found : Option FrameLayout}
     {l : Store} {held : List ℕ} {b : Supply} {after : List ℕ} {n limit : ℕ} {ending : Ending E}
-    → Round r room x → Flushed x found l held → x.left ≢ 0 → ReadsMore x.source b held after (Ok n) → n ≡ 0 → limit ≡ x.reader.limit
+    → Round r room x → Flushed x found l held → x.left ≢ 0 → ReadsMore (x.source ⇒ b) (held ⇒ after) (Ok n) → n ≡ 0 → limit ≡ x.reader.limit
     → length after ≤ limit + 8 → ending ≡ end_with after (r.w.end x.writer) → Ended r x.writer x.came b l after ending
 ends_at_end round flushed some read zero at_limit few same =
     let at = idle round flushed in
@@ -207,7 +208,7 @@ ends_at_end round flushed some read zero at_limit few same =
 -- What the loop keeps holds after a read.
 pub round_after_read : {S E : Type 0} {r : Start S E} {room : ℕ} {x : Loop S} {found : Option FrameLayout}
     {l : Store} {held : List ℕ} {b : Supply} {reader : Holding} {out : Buffered} {n passed limit came : ℕ}
-    → Round r room x → Flushed x found l held → x.left ≢ 0 → ReadsMore x.source b held reader.held (Ok n) → n ≢ 0 → Some came ≡ counted n (Some x.came)
+    → Round r room x → Flushed x found l held → x.left ≢ 0 → ReadsMore (x.source ⇒ b) (held ⇒ reader.held) (Ok n) → n ≢ 0 → Some came ≡ counted n (Some x.came)
     → limit ≡ x.reader.limit → length reader.held ≤ limit + 8 → reader.limit ≡ limit → out ≡ nothing_in x.out.room → passed ≡ 0
     → Round r room (record { writer = x.writer; left = x.left - 1; came = came; source = b; sink = l; reader = reader; out = out; passed = passed })
 round_after_read {r = r} {x = x} {l = l} {b = b} {reader = reader} {passed = passed}
@@ -236,12 +237,12 @@ pub no_frame : (m passed : ℕ) {held : List ℕ} {found : Option FrameLayout} {
     → held ≡ [] → Finds m (drop passed held) (Ok found) → found ≡ Some layout → ⊥
 no_frame m passed none finds is =
     let lies = rw (is, none, drop-nil passed) at finds in
-    let found = sym (outer-none (Some m)) ∙ lies.found in
+    let found = sym (scan-none (Some m)) ∙ lies.found in
     cc found
 
 -- nor a fault
 pub no_fault : (m passed : ℕ) {held : List ℕ} (error : ReadError) → held ≡ [] → Finds m (drop passed held) (Err error) → ⊥
 no_fault m passed error none finds =
     let at = rw (none, drop-nil passed) at finds in
-    let found = sym (outer-none (Some m)) ∙ at.2 in
+    let found = sym (scan-none (Some m)) ∙ at.2 in
     cc found

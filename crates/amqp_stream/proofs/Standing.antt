@@ -11,7 +11,7 @@ use Rattle.amqp_wire.specs.Frames.{Raw, Frame, frame_length}
 use Rattle.amqp_wire.specs.Looks.{laid_out}
 use Rattle.amqp_wire.specs.Canonical.{canon}
 use Rattle.amqp_wire.specs.Judgements.{IsJudged}
-use Rattle.amqp_wire.specs.Verdicts.{whole}
+use Rattle.amqp_wire.specs.Verdicts.{decode_raw}
 use Rattle.amqp_wire.proofs.Cuts.{verdict-whole}
 use Rattle.amqp_wire.proofs.Encoded.{verdict-spells}
 use Rattle.amqp_wire.proofs.Strictness.{strict_canon}
@@ -30,7 +30,7 @@ use Rattle.amqp_stream.proofs.Transcribing.{gathered_then}
 use Rattle.amqp_stream.proofs.Writes.{pushed, kept, settled}
 
 -- a payload encodes one frame
-whole_once : (raw : Raw) (f g : Frame) → whole raw ≡ Ok f → whole raw ≡ Ok g → g ≡ f
+whole_once : (raw : Raw) (f g : Frame) → decode_raw raw ≡ Ok f → decode_raw raw ≡ Ok g → g ≡ f
 whole_once raw f g p q = let both = sym p ∙ q in cc
 
 -- the bytes of a frame that was judged to be canonical

@@ -1,8 +1,10 @@
 -- A run of a writer that refuses nothing and takes no memory transcribes its stream.
-use Rattle.std.proofs.Common.{◌≡◌, ◌≢◌, ℕ, List, [], ◌∷◌, ◌++◌, length, Some, None, Result, Ok, Err, IsTrue, Bool, refl, sym, ap, subst, ◌∙◌}
-use Rattle.std.proofs.Common.{arith, append-nil, append_assoc}
+use Rattle.std.proofs.Common.{◌≡◌, ◌≢◌, ℕ, List, [], ◌∷◌, ◌++◌, length, Option, Some, None, Result, Ok, Err, IsTrue, Bool, true, false}
+use Rattle.std.proofs.Common.{refl, sym, ap, subst, ◌∙◌, arith, append-nil, append_assoc}
+use mathlib.Core.Path.{fun_ext}
 use Rattle.std.proofs.lemmas.List.{length-append}
 use Rattle.std.specs.List.{flat_map}
+use Rattle.std.specs.declared.string.ParseError.{Infallible}
 use Rattle.amqp_types.specs.Levels.{Level}
 use Rattle.amqp_wire.specs.declared.frame_type.AMQPFrameType.{AMQPFrameType}
 use Rattle.amqp_wire.specs.Frames.{Frame}
@@ -12,17 +14,22 @@ use Rattle.amqp_wire.proofs.Strictness.{canon_front-short}
 use Rattle.amqp_stream.specs.declared.errors.StreamError.{StreamError}
 use Rattle.amqp_stream.specs.declared.errors.StreamError.TheVariants as errors
 use Rattle.amqp_stream.specs.declared.errors.RunError.TheVariants as ends
+use Rattle.amqp_types.specs.Judging.{not_tidy}
 use Rattle.amqp_stream.specs.Errors.{error_for, Cause, faulty, cut_short, budget_spent, read_failed, write_failed, out_of_memory, cause_of}
+use Rattle.amqp_stream.specs.Changes.{Change}
 use Rattle.amqp_stream.specs.Ends.{Supply, Store}
+use Rattle.amqp_stream.specs.Calls.{Call}
 use Rattle.amqp_stream.specs.Writing.{IsPrefix, Gathered}
 use Rattle.amqp_stream.proofs.Adding.{Gains-then}
 use Rattle.amqp_stream.specs.Steps.{Manner, text, refused}
 use Rattle.amqp_stream.specs.Manners.{mapping, canonical_at}
-use Rattle.amqp_stream.specs.Transcribing.{transcript, answer_to, IsCausedBy, HasCause, IsWrittenUpTo, IsWrittenUnless, HasWritten, Transcribes, NeverBegan}
-use Rattle.amqp_stream.specs.Transcribing.{UnlessStopped, IsExactly, IsAnswerTo, TranscribesExactly, IsOutOfMemory}
+use Rattle.amqp_stream.specs.Causes.{answer_to, IsCausedBy, IsWrittenUnless, NeverBegan, UnlessStopped, IsOutOfMemory}
+use Rattle.amqp_stream.specs.Streaming.{Ending, finished, refused_by, stopped_by, ending_of, as_run, Plan, HasWritten, AtWanting, IsShortBy}
+use Rattle.amqp_stream.specs.Streaming.{Streams, StreamsBy, StreamsExactly}
+use Rattle.amqp_stream.specs.Streaming.{IsWelcome, UnlessStoppedBy}
+use Rattle.amqp_stream.specs.Streaming.{IsDoneOrWanting, plan_of, answer_at_end, IsExactRun}
+use Rattle.amqp_stream.specs.Transcribing.{transcript, text_plan, text_ending, Transcribes, TranscribesExactly}
 use Rattle.amqp_stream.specs.Canonicalizing.{Canonicalizes}
-use Rattle.amqp_stream.specs.Streaming.{Ending, finished, refused_by, stopped_by, ending_of, as_run, text_of, state_of, HasWrittenBy, Streams, answer_at_end}
-use Rattle.amqp_stream.specs.Streaming.{answer_of, IsExactRun, UnlessStoppedBy, StreamsExactly, IsWelcome, IsDoneOrWanting}
 
 -- From this state on the writer has this text for frames, refuses none, takes no memory, and may end anywhere.
 pub record Transcriber {S E : Type 0} (w : Manner S E) (s : S) (text_for : List Frame → List ℕ) : Type 0 where
@@ -31,97 +38,160 @@ pub record Transcriber {S E : Type 0} (w : Manner S E) (s : S) (text_for : List 
   pub wants_none : (kind : AMQPFrameType) → IsTrue (w.wants kind) → ⊥
   pub ends : (t : S) → w.end t ≡ None
 
--- ---- a run
+-- ---- its plan is that of the text
 
--- a run that stopped early did not stop for memory
-early : {S E : Type 0} {w : Manner S E} {s t : S} {m budget : ℕ} {a b : Supply} {k l : Store} (cause : Cause)
-    → ((kind : AMQPFrameType) → IsTrue (w.wants kind) → ⊥) → (run : Streams w s t m budget a b k l (stopped_by cause))
-    → IsWrittenUpTo (text_of w s m run.taken) run.written cause × IsCausedBy w.level m budget run.taken a b k l ⊥ cause
-early write_failed none run = (run.writes, run.cause)
-early out_of_memory none run = absurd (none run.cause.wanting.raw.kind run.cause.wanting.such)
-early cause none run = (run.writes.text_is, run.cause)
+false_by : (b : Bool) → (IsTrue b → ⊥) → b ≡ false
+false_by true none = absurd (none refl)
+false_by false none = refl
 
--- what a run has written of its text, where memory may end it too
-pub written_unless : {S E : Type 0} (w : Manner S E) (s : S) (m : ℕ) (taken text_is written : List ℕ) (cause : Cause)
-    → text_of w s m taken ≡ text_is → HasWrittenBy w s m taken written (stopped_by cause) → IsWrittenUnless text_is written cause
-written_unless w s m taken text_is written write_failed e h = (h.0, h.1 ∙ e)
-written_unless w s m taken text_is written out_of_memory e h = (h.0, h.1 ∙ e)
-written_unless w s m taken text_is written (faulty bad) e h = h.text_is ∙ e
-written_unless w s m taken text_is written cut_short e h = h.text_is ∙ e
-written_unless w s m taken text_is written budget_spent e h = h.text_is ∙ e
-written_unless w s m taken text_is written read_failed e h = h.text_is ∙ e
+same_plan : {E : Type 0} (level : Level) {text_is text_for : List ℕ → List ℕ} {refusal other : List ℕ → Option E} {end may : List ℕ → Option E}
+    {wants none : AMQPFrameType → Bool} → text_is ≡ text_for → refusal ≡ other → end ≡ may → wants ≡ none
+    → (let a : Plan E = record { level = level; text = text_is; refusal = refusal; end = end; wants = wants } in
+    let b : Plan E = record { level = level; text = text_for; refusal = other; end = may; wants = none } in a ≡ b)
+same_plan level p q r e = cc
 
-ended : {S E : Type 0} {w : Manner S E} {s t : S} {m budget : ℕ} {a b : Supply} {k l : Store} (r : Result (Unit {0}) StreamError)
-    → ((kind : AMQPFrameType) → IsTrue (w.wants kind) → ⊥) → (run : Streams w s t m budget a b k l (ending_of (as_run r)))
-    → HasWritten (text_of w s m run.taken) run.written r × HasCause w.level m budget run.taken a b k l r
-ended (Ok done) none run = (run.writes.text_is, (run.cause.0, run.cause.1))
-ended (Err error) none run = early (cause_of error) none run
+-- What such a writer is to write is the text.
+pub plan_is : {S E : Type 0} {w : Manner S E} {s : S} {f : List Frame → List ℕ} → Transcriber w s f → (m : ℕ) → plan_of w s m ≡ text_plan f w.level m
+plan_is {w = w} is m =
+    same_plan w.level (fun_ext λ bytes. is.text_is (front w.level (Some m) bytes)) (fun_ext λ bytes. is.none_refused (front w.level (Some m) bytes))
+    (fun_ext λ bytes. is.ends _) (fun_ext λ kind. false_by (w.wants kind) (is.wants_none kind))
+
+-- what is known where memory ran out is replaced in the cause of an error
+pub caused_by : (level : Level) (call : Call Supply Store) (taken : List ℕ) {P Q : Type 0} (cause : Cause)
+    → (P → Q) → IsCausedBy level call taken P cause → IsCausedBy level call taken Q cause
+caused_by level call taken (faulty bad) f h = h
+caused_by level call taken cut_short f h = h
+caused_by level call taken budget_spent f h = h
+caused_by level call taken read_failed f h = h
+caused_by level call taken write_failed f h = h
+caused_by level call taken out_of_memory f h = f h
+
+-- ---- where nothing is refused it is no matter of what type the refusals are
+
+stopped_so : (cause other : Cause) (early : Ending Infallible) → early ≡ stopped_by cause → early ≡ stopped_by other → cause ≡ other
+stopped_so cause other early p q = let both = sym p ∙ q in cc
+
+module _ (E : Type 0) (f : List Frame → List ℕ) (level : Level) where
+  never_wanting : {m : ℕ} {taken written : List ℕ} → AtWanting {E = E} (text_plan f level m) m taken written → ⊥
+  never_wanting h = absurd (let none = h.wanting.such in cc)
+
+  written_so : (m : ℕ) (taken written : List ℕ) (cause : Cause) → HasWritten {E = E} (text_plan f level m) taken written (stopped_by cause)
+      → HasWritten {E = Infallible} (text_plan f level m) taken written (stopped_by cause)
+  written_so m taken written write_failed h = h
+  written_so m taken written out_of_memory h = h
+  written_so m taken written (faulty bad) h = record { text_is = h.text_is; none_refused = refl }
+  written_so m taken written cut_short h = record { text_is = h.text_is; none_refused = refl }
+  written_so m taken written budget_spent h = record { text_is = h.text_is; none_refused = refl }
+  written_so m taken written read_failed h = record { text_is = h.text_is; none_refused = refl }
+
+  short_so : {m n : ℕ} {taken written : List ℕ} → IsShortBy {E = E} (text_plan f level m) m taken written n
+      → IsShortBy {E = Infallible} (text_plan f level m) m taken written n
+  short_so h = record {
+    sequence = h.sequence;
+    rest = h.rest;
+    parts = h.parts;
+    is_sequence = h.is_sequence;
+    none_refused = refl;
+    written_begins = h.written_begins;
+    few = h.few;
+  }
+
+  -- So a run of a writer that refuses nothing is one of the text.
+  infallibly : {call : Call Supply Store} (r : Result (Unit {0}) StreamError)
+      → Streams {E = E} (text_plan f level call.limit) call (text_ending r) → Transcribes f level call r
+  infallibly (Ok done) run = record {
+    taken = run.taken;
+    are_bytes = run.are_bytes;
+    reads = run.reads;
+    takes = run.takes;
+    at_most = run.at_most;
+    all_spent = λ e. absurd cc;
+    written = run.written;
+    gains = run.gains;
+    writes = record { text_is = run.writes.text_is; none_refused = refl };
+    cause = (run.cause.0, run.cause.1, refl);
+    tidy_only = λ e. absurd cc;
+    short_by = short_so run.short_by;
+  }
+  infallibly {call = call} (Err error) run = record {
+    taken = run.taken;
+    are_bytes = run.are_bytes;
+    reads = run.reads;
+    takes = run.takes;
+    at_most = run.at_most;
+    all_spent = λ e. run.all_spent (ap stopped_by (stopped_so (cause_of error) budget_spent _ refl e));
+    written = run.written;
+    gains = run.gains;
+    writes = written_so call.limit run.taken run.written (cause_of error) run.writes;
+    cause = caused_by level call run.taken (cause_of error) (λ h. absurd (never_wanting h)) run.cause;
+    tidy_only = λ e. run.tidy_only (ap stopped_by (stopped_so (cause_of error) (faulty not_tidy) _ refl e));
+    short_by = short_so run.short_by;
+  }
 
 -- A run of a writer that writes this text for frames and refuses none is a call that transcribes so.
-pub transcribes : {S E : Type 0} {w : Manner S E} {s t : S} {f : List Frame → List ℕ}
-    {m budget : ℕ} {a b : Supply} {k l : Store} {r : Result (Unit {0}) StreamError}
-    → Transcriber w s f → Streams w s t m budget a b k l (ending_of (as_run r)) → Transcribes f w.level m budget a b k l r
-transcribes {w = w} {m = m} {r = r} is run =
-    let end = ended r is.wants_none run in
-    let short = run.short_by in
-    record {
-      taken = run.taken;
-      are_bytes = run.are_bytes;
-      reads = run.reads;
-      takes = run.takes;
-      at_most = run.at_most;
-      all_spent = λ e. run.all_spent (ap (λ x. ending_of (as_run x)) e);
-      written = run.written;
-      gains = run.gains;
-      writes = subst (λ (xs : List ℕ). HasWritten xs run.written r) (is.text_is (front w.level (Some m) run.taken)) end.0;
-      cause = end.1;
-      tidy_only = λ e. run.tidy_only (ap (λ x. ending_of (as_run x)) e);
-      behind = record {
-        sequence = short.sequence;
-        rest = short.rest;
-        parts = short.parts;
-        is_sequence = short.is_sequence;
-        written_begins = subst (λ (xs : List ℕ). IsPrefix xs run.written) (is.text_is (front w.level (Some m) short.sequence)) short.written_begins;
-        few = short.few;
-      };
-    }
+pub transcribes : {S E : Type 0} {w : Manner S E} {writer : Change S} {f : List Frame → List ℕ} {call : Call Supply Store}
+    (r : Result (Unit {0}) StreamError) → Transcriber w writer.old f → StreamsBy w writer call (text_ending r) → Transcribes f w.level call r
+transcribes {E = E} {w = w} {f = f} {call = call} r is run =
+    infallibly E f w.level r (subst (λ (plan : Plan E). Streams plan call (text_ending r)) (plan_is is call.limit) run.run)
 
--- A call that writes a text for the frames that came never runs out of memory.
-pub never_out_of_memory : {f : List Frame → List ℕ} {level : Level} {m budget : ℕ} {a b : Supply} {k l : Store} {r : Result (Unit {0}) StreamError}
-    → Transcribes f level m budget a b k l r → r ≢ Err errors.NoMemory
-never_out_of_memory {level = level} {m = m} {budget = budget} {a = a} {b = b} {k = k} {l = l} call e =
-    subst (HasCause level m budget call.taken a b k l) e call.cause
+-- ---- what follows of a call that writes a text
 
--- ---- what was written begins the text of all of the front
+no_memory : (f : List Frame → List ℕ) (level : Level) (call : Call Supply Store)
+    → Streams {E = Infallible} (text_plan f level call.limit) call (stopped_by out_of_memory) → ⊥
+no_memory f level call run = absurd (let none = run.cause.wanting.such in cc)
 
-begins_by : (text_is written : List ℕ) (cause : Cause) → IsWrittenUpTo text_is written cause → IsPrefix written text_is
-begins_by text_is written write_failed h = h
-begins_by text_is written cause h = ([], append-nil written ∙ h)
+-- It never runs out of memory.
+pub never_out_of_memory : (f : List Frame → List ℕ) {level : Level} {call : Call Supply Store} {r : Result (Unit {0}) StreamError}
+    → Transcribes f level call r → r ≢ Err errors.NoMemory
+never_out_of_memory f {level = level} {call = call} run e =
+    no_memory f level call (subst (λ x. Streams {E = Infallible} (text_plan f level call.limit) call (text_ending x)) e run)
 
-begins_at : (text_is written : List ℕ) (r : Result (Unit {0}) StreamError) → HasWritten text_is written r → IsPrefix written text_is
-begins_at text_is written (Ok done) h = ([], append-nil written ∙ h)
-begins_at text_is written (Err error) h = begins_by text_is written (cause_of error) h
+begins_by : (f : List Frame → List ℕ) (level : Level) (m : ℕ) (taken written : List ℕ) (cause : Cause)
+    → HasWritten {E = Infallible} (text_plan f level m) taken written (stopped_by cause) → IsPrefix written (transcript f level m taken)
+begins_by f level m taken written write_failed h = h
+begins_by f level m taken written out_of_memory h = h
+begins_by f level m taken written (faulty bad) h = ([], append-nil written ∙ h.text_is)
+begins_by f level m taken written cut_short h = ([], append-nil written ∙ h.text_is)
+begins_by f level m taken written budget_spent h = ([], append-nil written ∙ h.text_is)
+begins_by f level m taken written read_failed h = ([], append-nil written ∙ h.text_is)
 
--- What a call wrote begins the text of all frames in front of what it took.
-pub begins : {f : List Frame → List ℕ} {level : Level} {m budget : ℕ} {a b : Supply} {k l : Store} {r : Result (Unit {0}) StreamError}
-    → (call : Transcribes f level m budget a b k l r) → IsPrefix call.written (transcript f level m call.taken)
-begins {f = f} {level = level} {m = m} {r = r} call = begins_at (transcript f level m call.taken) call.written r call.writes
+begins_at : (f : List Frame → List ℕ) (level : Level) (m : ℕ) (taken written : List ℕ) (r : Result (Unit {0}) StreamError)
+    → HasWritten {E = Infallible} (text_plan f level m) taken written (text_ending r) → IsPrefix written (transcript f level m taken)
+begins_at f level m taken written (Ok done) h = ([], append-nil written ∙ h.text_is)
+begins_at f level m taken written (Err error) h = begins_by f level m taken written (cause_of error) h
+
+-- What it wrote begins the text of all frames in front of what it took.
+pub begins : (f : List Frame → List ℕ) {level : Level} {call : Call Supply Store} (r : Result (Unit {0}) StreamError)
+    → (run : Transcribes f level call r) → IsPrefix run.written (transcript f level call.limit run.taken)
+begins f {level = level} {call = call} r run = begins_at f level call.limit run.taken run.written r run.writes
+
+-- what was written by a run that stopped early, by its cause
+pub written_unless : {E : Type 0} (plan : Plan E) (taken written : List ℕ) (cause : Cause)
+    → HasWritten plan taken written (stopped_by cause) → IsWrittenUnless (plan.text taken) written cause
+written_unless plan taken written write_failed h = h
+written_unless plan taken written out_of_memory h = h
+written_unless plan taken written (faulty bad) h = h.text_is
+written_unless plan taken written cut_short h = h.text_is
+written_unless plan taken written budget_spent h = h.text_is
+written_unless plan taken written read_failed h = h.text_is
 
 -- ---- valid input
 
 -- A writer that writes bytes for each frame and refuses none refuses no stream.
-pub welcome : {S E : Type 0} {w : Manner S E} {s : S} {f : List Frame → List ℕ} → Transcriber w s f → (m : ℕ) (bytes : List ℕ) → IsWelcome w s m bytes
+pub welcome : {S E : Type 0} {w : Manner S E} {s : S} {f : List Frame → List ℕ} → Transcriber w s f → (m : ℕ) (bytes : List ℕ)
+    → IsWelcome (plan_of w s m) bytes
 welcome {w = w} is m bytes = record { none_refused = is.none_refused (front w.level (Some m) bytes); ends = is.ends _ }
 
 memory_is : (cause : Cause) → IsOutOfMemory cause → cause ≡ out_of_memory
 memory_is cause h = grind arith
 
 -- a call that is done, or ran out of memory, is done
-pub is_done : {f : List Frame → List ℕ} {level : Level} {m budget : ℕ} {a b : Supply} {k l : Store} (E : Type 0) (r : Result (Unit {0}) StreamError)
-    → Transcribes f level m budget a b k l r → IsDoneOrWanting (ending_of {E = E} (as_run r)) → r ≡ Ok tt
-is_done E (Ok done) call h = refl
-is_done {level = level} {m = m} {budget = budget} {a = a} {b = b} {k = k} {l = l} E (Err error) call h =
-    absurd (subst (IsCausedBy level m budget call.taken a b k l ⊥) (memory_is (cause_of error) h) call.cause)
+pub is_done : (E : Type 0) (f : List Frame → List ℕ) {level : Level} {call : Call Supply Store} (r : Result (Unit {0}) StreamError)
+    → Transcribes f level call r → IsDoneOrWanting (text_ending {E = E} r) → r ≡ Ok tt
+is_done E f (Ok done) run h = refl
+is_done E f {level = level} {call = call} (Err error) run h =
+    absurd (no_memory f level call
+    (subst (λ cause. Streams {E = Infallible} (text_plan f level call.limit) call (stopped_by cause)) (memory_is (cause_of error) h) run))
 
 -- ---- an ending as the result of a stream
 
@@ -148,26 +218,34 @@ returned-run : (E : Type 0) (r : Result (Unit {0}) StreamError) → returned (en
 returned-run E (Ok done) = refl
 returned-run E (Err error) = ap Err (error_by-cause error)
 
-returned-at_end : (E : Type 0) (answer : Result (Unit {0}) StreamError) → returned (answer_at_end {E = E} None answer) ≡ answer
-returned-at_end E (Ok done) = refl
-returned-at_end E (Err error) = ap Err (error_by-cause error)
-
 -- A run that never began since memory ran out, as a call that returns the error of a stream.
-pub never_began : {E S K : Type 0} {source source' : S} {sink sink' : K} {r : Result (Unit {0}) StreamError}
-    → NeverBegan source source' sink sink' (ends.Stream errors.NoMemory) (as_run {E = E} r) → NeverBegan source source' sink sink' errors.NoMemory r
+pub never_began : {E S K : Type 0} {source : Change S} {sink : Change K} {r : Result (Unit {0}) StreamError}
+    → NeverBegan source sink (ends.Stream errors.NoMemory) (as_run {E = E} r) → NeverBegan source sink errors.NoMemory r
 never_began {E = E} {r = r} h =
     record { no_memory = sym (returned-run E r) ∙ ap (λ x. returned (ending_of x)) h.no_memory; source_stays = h.source_stays; sink_stays = h.sink_stays }
 
 -- ---- the result by all of the bytes
 
-exactly : {S E : Type 0} {w : Manner S E} {s : S} {f : List Frame → List ℕ} {m : ℕ} {bytes written : List ℕ} {r : Result (Unit {0}) StreamError}
-    → Transcriber w s f → IsExactRun w s m bytes written (ending_of (as_run r)) → IsExactly f w.level m bytes written r
-exactly {E = E} {w = w} {s = s} {m = m} {bytes = bytes} {r = r} is h =
-    let frames = front w.level (Some m) bytes in
-    let answer = answer_to w.level m bytes in
-    let ending =
-    h.answer ∙ ap (λ why. answer_of why (w.end (state_of w s m bytes)) answer) (is.none_refused frames) ∙ ap (λ end. answer_at_end end answer) (is.ends _) in
-    (sym (returned-run E r) ∙ ap returned ending ∙ returned-at_end E answer, h.text_is ∙ is.text_is frames)
+returned-at_end : (E : Type 0) (answer : Result (Unit {0}) StreamError) → returned (answer_at_end {E = E} None answer) ≡ answer
+returned-at_end E (Ok done) = refl
+returned-at_end E (Err error) = ap Err (error_by-cause error)
+
+-- A call that writes a text returns what all bytes of its source give, and wrote the text of the frames at their front.
+pub text_exactly : {E : Type 0} (f : List Frame → List ℕ) (level : Level) (m : ℕ) (bytes written : List ℕ) (r : Result (Unit {0}) StreamError)
+    → IsExactRun {E = E} (text_plan f level m) m bytes written (text_ending r) → (r ≡ answer_to level m bytes) × (written ≡ transcript f level m bytes)
+text_exactly {E = E} f level m bytes written r h =
+    (sym (returned-run E r) ∙ ap returned h.answer ∙ returned-at_end E (answer_to level m bytes), h.text_is)
+
+at_end_of : (E : Type 0) (r : Result (Unit {0}) StreamError) → text_ending {E = E} r ≡ answer_at_end None r
+at_end_of E (Ok done) = refl
+at_end_of E (Err error) = refl
+
+exactly_so : {E : Type 0} (f : List Frame → List ℕ) (level : Level) (m : ℕ) (bytes written : List ℕ) (r : Result (Unit {0}) StreamError)
+    → IsExactRun {E = E} (text_plan f level m) m bytes written (text_ending r)
+    → IsExactRun {E = Infallible} (text_plan f level m) m bytes written (text_ending r)
+exactly_so f level m bytes written r h =
+    let both = text_exactly f level m bytes written r h in
+    record { answer = at_end_of Infallible r ∙ ap (answer_at_end None) both.0; text_is = both.1 }
 
 -- What follows from a fact follows where the fact holds but for causes that stop a run.
 pub unless : {P Q : Type 0} (cause : Cause) → (P → Q) → UnlessStopped cause P → UnlessStopped cause Q
@@ -175,18 +253,18 @@ unless (faulty bad) g h = g h
 unless cut_short g h = g h
 unless cause g h = tt
 
-exactly_unless : {S E : Type 0} {w : Manner S E} {s : S} {f : List Frame → List ℕ} (m : ℕ) (bytes written : List ℕ) (r : Result (Unit {0}) StreamError)
-    → Transcriber w s f → UnlessStoppedBy (ending_of {E = E} (as_run r)) (IsExactRun w s m bytes written (ending_of (as_run r)))
-    → IsAnswerTo f w.level m bytes written r
-exactly_unless m bytes written (Ok done) is h = exactly is h
-exactly_unless m bytes written (Err error) is h = unless (cause_of error) (exactly is) h
+unless_so : (E : Type 0) {P Q : Type 0} (r : Result (Unit {0}) StreamError) → (P → Q)
+    → UnlessStoppedBy (text_ending {E = E} r) P → UnlessStoppedBy (text_ending {E = Infallible} r) Q
+unless_so E (Ok done) g h = g h
+unless_so E (Err error) g h = unless (cause_of error) g h
 
 -- Over a source that reports its bytes, a writer that writes this text gives it for all of them.
-pub transcribes_exactly : {S E : Type 0} {w : Manner S E} {s : S} {f : List Frame → List ℕ}
-    {m : ℕ} {bytes : List ℕ} {k l : Store} {r : Result (Unit {0}) StreamError}
-    → Transcriber w s f → StreamsExactly w s m bytes k l (ending_of (as_run r)) → TranscribesExactly f w.level m bytes k l r
-transcribes_exactly {m = m} {bytes = bytes} {r = r} is run =
-    record { written = run.written; gains = run.gains; answer = exactly_unless m bytes run.written r is run.answer }
+pub transcribes_exactly : {S E : Type 0} {w : Manner S E} {s : S} {f : List Frame → List ℕ} {call : Call Supply Store} {bytes : List ℕ}
+    (r : Result (Unit {0}) StreamError) → Transcriber w s f
+    → StreamsExactly (plan_of w s call.limit) call bytes (text_ending r) → TranscribesExactly f w.level call bytes r
+transcribes_exactly {E = E} {w = w} {f = f} {call = call} {bytes = bytes} r is run =
+    let h = subst (λ (plan : Plan E). StreamsExactly plan call bytes (text_ending r)) (plan_is is call.limit) run in
+    record { written = h.written; gains = h.gains; answer = unless_so E r (exactly_so f w.level call.limit bytes h.written r) h.answer }
 
 -- ---- writers of bytes for each frame by itself
 
@@ -219,37 +297,38 @@ pub canonical : {S E : Type 0} {level : Level} {s : S} → Transcriber {E = E} (
 canonical {s = s} = maps (λ s f. canon f) s
 
 -- A call that transcribes into canonical bytes writes no more than was taken.
-pub canonicalizes : {level : Level} {m budget : ℕ} {a b : Supply} {k l : Store} {r : Result (Unit {0}) StreamError}
-    → Transcribes canon_frames level m budget a b k l r → Canonicalizes level m budget a b k l r
-canonicalizes {level = level} {m = m} call =
-    let begun = begins call in
+pub canonicalizes : {level : Level} {call : Call Supply Store} {r : Result (Unit {0}) StreamError}
+    → Transcribes canon_frames level call r → Canonicalizes level call r
+canonicalizes {level = level} {call = call} {r = r} run =
+    let begun = begins canon_frames r run in
     record {
-      run = call;
-      no_longer = omega (arith, ap length begun.1, length-append call.written begun.0, canon_front-short level (Some m) call.taken call.are_bytes);
+      run = run;
+      no_longer = omega (arith, ap length begun.1, length-append run.written begun.0, canon_front-short level (Some call.limit) run.taken run.are_bytes);
     }
 
--- a run as a call of canonical bytes, with what it took
-pub record CanonicalizesAs {S E : Type 0} {w : Manner S E} {s t : S} {m budget : ℕ} {a b : Supply} {k l : Store}
-    (r : Result (Unit {0}) StreamError) (run : Streams w s t m budget a b k l (ending_of (as_run r))) : Type 0 where
-  pub call : Canonicalizes w.level m budget a b k l r
-  pub taken : call.run.taken ≡ run.taken
-  pub reads : call.run.reads ≡ run.reads
+-- a run by another plan that is the same, with what it took
+record Again {E : Type 0} (plan : Plan E) (call : Call Supply Store) (ending : Ending E) (taken : List ℕ) (reads : ℕ) : Type 0 where
+  run : Streams plan call ending
+  taken_is : run.taken ≡ taken
+  reads_is : run.reads ≡ reads
+
+again : {E : Type 0} {plan other : Plan E} {call : Call Supply Store} {ending : Ending E}
+    → plan ≡ other → (run : Streams plan call ending) → Again other call ending run.taken run.reads
+again {call = call} {ending = ending} same run =
+    subst (λ p. Again p call ending run.taken run.reads) same (record { run = run; taken_is = refl; reads_is = refl })
+
+-- a call that canonicalizes, with what it took
+pub record CanonicalizesAs (level : Level) (over : Call Supply Store) (r : Result (Unit {0}) StreamError) (taken_is : List ℕ) (reads_is : ℕ) : Type 0 where
+  pub call : Canonicalizes level over r
+  pub taken : call.run.taken ≡ taken_is
+  pub reads : call.run.reads ≡ reads_is
 
 -- A run of a writer of canonical bytes is a call that canonicalizes, with what the run took.
-pub canonicalizes_as : {S E : Type 0} {w : Manner S E} {s t : S} {m budget : ℕ} {a b : Supply} {k l : Store} {r : Result (Unit {0}) StreamError}
-    → Transcriber w s canon_frames → (run : Streams w s t m budget a b k l (ending_of (as_run r))) → CanonicalizesAs r run
-unfolding transcribes canonicalizes
-canonicalizes_as is run = record { call = canonicalizes (transcribes is run); taken = refl; reads = refl }
-
--- what is known where memory ran out is replaced in the cause of an error
-pub caused_by : (level : Level) (m budget : ℕ) (taken : List ℕ) (a b : Supply) (k l : Store) {P Q : Type 0} (cause : Cause)
-    → (P → Q) → IsCausedBy level m budget taken a b k l P cause → IsCausedBy level m budget taken a b k l Q cause
-caused_by level m budget taken a b k l (faulty bad) f h = h
-caused_by level m budget taken a b k l cut_short f h = h
-caused_by level m budget taken a b k l budget_spent f h = h
-caused_by level m budget taken a b k l read_failed f h = h
-caused_by level m budget taken a b k l write_failed f h = h
-caused_by level m budget taken a b k l out_of_memory f h = f h
+pub canonicalizes_as : {S : Type 0} {w : Manner S Infallible} {s : S} {call : Call Supply Store} (r : Result (Unit {0}) StreamError)
+    → Transcriber w s canon_frames → (run : Streams (plan_of w s call.limit) call (text_ending r)) → CanonicalizesAs w.level call r run.taken run.reads
+unfolding canonicalizes
+canonicalizes_as {call = call} r is run =
+    let other = again (plan_is is call.limit) run in record { call = canonicalizes other.run; taken = other.taken_is; reads = other.reads_is }
 
 -- bytes gathered after bytes
 pub gathered_then : {a b c : Store} {x y z p q : List ℕ} → Gathered a b x y p → Gathered b c y z q → Gathered a c x z (p ++ q)

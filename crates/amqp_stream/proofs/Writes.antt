@@ -6,7 +6,7 @@ use Rattle.std.proofs.Math.Seq.{take-add}
 use Rattle.amqp_wire.specs.declared.frame_type.AMQPFrameType.TheVariants as kinds
 use Rattle.amqp_wire.specs.declared.version.ProtocolVersion.{ProtocolVersion}
 use Rattle.amqp_wire.specs.Frames.{Raw, Frame, Body, Proto, beat_on}
-use Rattle.amqp_wire.specs.Verdicts.{IsPayloadError, whole, whole_as, is_at, judged_frame}
+use Rattle.amqp_wire.specs.Verdicts.{IsPayloadError, decode_raw, decode_payload, is_at, judge_decoded}
 use Rattle.amqp_wire.specs.Spelling.{framed, proto}
 use Rattle.amqp_wire.specs.Canonical.{canon}
 use Rattle.amqp_types.specs.Levels.{Level}
@@ -112,31 +112,31 @@ settled {before = before} {bytes = bytes} g = record { written = g.written; gain
 
 -- The canonical bytes of a frame were gathered, or a write failed.
 pub wrote : (raw : Raw) (a b : Store) (before after bytes : List ℕ) (f : Frame) (r : Result (Unit {0}) SinkFault)
-    → whole raw ≡ Ok f → bytes ≡ canon f → Gathers a b before after bytes r → WritesFrame raw a b before after (stream_result r)
+    → decode_raw raw ≡ Ok f → bytes ≡ canon f → Gathers a b before after bytes r → WritesFrame raw a b before after (stream_result r)
 wrote raw a b before after bytes f (Ok u) w e h = (f, w, subst (λ (xs : List ℕ). Gathered a b before after xs) e h)
 wrote raw a b before after bytes f (Err d) w e h = (f, w, subst (λ (xs : List ℕ). GatherFails a b before after xs) e h)
 
 -- canonical bytes that are pending after the others
-pub added : (raw : Raw) (a : Store) (before after : List ℕ) (f : Frame) → whole raw ≡ Ok f
+pub added : (raw : Raw) (a : Store) (before after : List ℕ) (f : Frame) → decode_raw raw ≡ Ok f
     → after ≡ before ++ canon f → WritesFrame raw a a before after (Ok tt)
 added raw a before after f w e = (f, w, pushed a before after (canon f) tt e)
 
 -- A body that was gathered as it came is the canonical bytes of its frame.
 pub wrote-body : (raw : Raw) (a b : Store) (before after : List ℕ) (r : Result (Unit {0}) SinkFault) → raw.kind ≡ kinds.Body
     → Gathers a b before after (framed 3 raw.channel raw.payload) r → WritesFrame raw a b before after (stream_result r)
-unfolding whole_as canon
+unfolding decode_payload canon
 wrote-body raw a b before after r k h = wrote raw a b before after (framed 3 raw.channel raw.payload) (Body raw.channel raw.payload) r (rw k refl) refl h
 
 -- A heartbeat without a payload that was gathered is the canonical bytes of its frame.
 pub wrote-beat : (raw : Raw) (a : Store) (before after bytes : List ℕ) → raw.kind ≡ kinds.Heartbeat
     → bytes ≡ framed 8 raw.channel [] → after ≡ before ++ bytes → WritesFrame raw a a before after (Ok tt)
-unfolding whole_as
+unfolding decode_payload
 wrote-beat raw a before after bytes k e h =
     added raw a before after (beat_on raw.channel) (rw k refl) (h ∙ ap (λ (xs : List ℕ). before ++ xs) (e ∙ canon_beat raw.channel))
 
 -- A protocol header that was gathered is the canonical bytes of its frame.
 pub wrote-proto : (raw : Raw) (a : Store) (before after bytes : List ℕ) (v : ProtocolVersion) → raw.kind ≡ kinds.ProtocolHeader
-    → whole_as kinds.ProtocolHeader raw.channel raw.payload ≡ Ok (Proto v.major v.minor v.revision)
+    → decode_payload kinds.ProtocolHeader raw.channel raw.payload ≡ Ok (Proto v.major v.minor v.revision)
     → bytes ≡ proto v.major v.minor v.revision → after ≡ before ++ bytes → WritesFrame raw a a before after (Ok tt)
 unfolding canon
 wrote-proto raw a before after bytes v k is_whole is h =
@@ -151,7 +151,7 @@ kept a before after e = record { written = []; gains = Gains-none a; parts = e �
 -- a payload that has a fault, at any level
 pub record IsNone (raw : Raw) (cause : Cause) : Type 0 where
   pub bad : Fault
-  pub is_whole : whole raw ≡ Err bad
+  pub is_whole : decode_raw raw ≡ Err bad
   pub other : bad ≢ not_tidy
   pub tells : faulty bad ≡ cause
 
@@ -165,7 +165,7 @@ refused_by h = cc
 
 -- A payload that was refused, and not out of memory, has that fault at any level.
 pub is_none : (raw : Raw) (error : ParserError) → IsPayloadError error → refusing error ≢ Err parses.NoMemory
-    → RefusesWhole error (whole raw) → IsNone raw (cause_of (payload_fault error))
+    → RefusesWhole error (decode_raw raw) → IsNone raw (cause_of (payload_fault error))
 is_none raw parses.NoMemory inside some h = absurd (some refl)
 is_none raw parses.Incomplete inside some h = absurd inside
 is_none raw parses.UnknownFrameType inside some h = absurd inside
@@ -175,7 +175,7 @@ is_none raw error inside some h = record { bad = _; is_whole = h; other = λ e. 
 
 -- a method or content header that was not read
 pub added_refused : (raw : Raw) (a : Store) (before after : List ℕ) (error : ParserError) → IsPayloadError error → refusing error ≢ Err parses.NoMemory
-    → RefusesWhole error (whole raw) → after ≡ before → WritesFrame raw a a before after (Err (payload_fault error))
+    → RefusesWhole error (decode_raw raw) → after ≡ before → WritesFrame raw a a before after (Err (payload_fault error))
 added_refused raw a before after error inside some h same =
     let none = is_none raw error inside some h in
     subst (IsUnwritten raw a a before after) none.tells (none.is_whole, none.other, kept a before after same)
@@ -183,13 +183,13 @@ added_refused raw a before after error inside some h same =
 -- ---- a frame at a level
 
 -- what whole payload has a fault, at each level
-faulty_at : (t : Bool) (read : Result Frame Fault) (bad : Fault) (n : ℕ) → read ≡ Err bad → judged_frame t read n ≡ fault bad
-faulty_at true read bad n e = ap (λ r. judged_frame true r n) e
-faulty_at false read bad n e = ap (λ r. judged_frame false r n) e
+faulty_at : (t : Bool) (read : Result Frame Fault) (bad : Fault) (n : ℕ) → read ≡ Err bad → judge_decoded t read n ≡ fault bad
+faulty_at true read bad n e = ap (λ r. judge_decoded true r n) e
+faulty_at false read bad n e = ap (λ r. judge_decoded false r n) e
 
 -- a frame that is none at any level
-pub is_faulty : (level : Level) (raw : Raw) (bad : Fault) → whole raw ≡ Err bad → bad ≢ not_tidy → IsFaulty level raw bad
-is_faulty level raw bad e other = record { judged_bad = λ n. faulty_at (is_at level raw) (whole raw) bad n e; tidy_only = λ h. absurd (other h) }
+pub is_faulty : (level : Level) (raw : Raw) (bad : Fault) → decode_raw raw ≡ Err bad → bad ≢ not_tidy → IsFaulty level raw bad
+is_faulty level raw bad e other = record { judged_bad = λ n. faulty_at (is_at level raw) (decode_raw raw) bad n e; tidy_only = λ h. absurd (other h) }
 
 -- ---- a step of a writer that writes the canonical bytes of a frame
 

@@ -5,23 +5,24 @@ use Rattle.amqp_wire.specs.Canonical.{canon_frames}
 use Rattle.amqp_wire.specs.Fronts.{front}
 use Rattle.amqp_stream.specs.declared.errors.StreamError.{StreamError}
 use Rattle.amqp_stream.specs.Ends.{Supply, Store}
-use Rattle.amqp_stream.specs.Transcribing.{IsSequence, Transcribes, TranscribesExactly}
+use Rattle.amqp_stream.specs.Calls.{Call}
+use Rattle.amqp_stream.specs.Causes.{IsSequence}
+use Rattle.amqp_stream.specs.Transcribing.{Transcribes, TranscribesExactly}
 
 -- the canonical bytes of the sequence of frames at the front of some bytes
 abbrev pub canon_of : Level → ℕ → List ℕ → List ℕ
 canon_of level m bytes = canon_frames (front level (Some m) bytes)
 
--- A whole call, which writes the canonical bytes of the frames: a is the source before it and b
--- after it, k and l the sink.
-pub record Canonicalizes (level : Level) (m budget : ℕ) (a b : Supply)
-    (k l : Store) (result : Result (Unit {0}) StreamError) : Type 0 where
-  pub run : Transcribes canon_frames level m budget a b k l result
+-- a whole call, which writes the canonical bytes of the frames
+pub record Canonicalizes (level : Level) (call : Call Supply Store)
+    (result : Result (Unit {0}) StreamError) : Type 0 where
+  pub run : Transcribes canon_frames level call result
   pub no_longer : length run.written ≤ length run.taken
 
--- what a call returns and writes over a source that reports its bytes
-abbrev pub AnswersExactly : Level → ℕ → List ℕ → Store
-    → Store → Result (Unit {0}) StreamError → Type 0
-AnswersExactly level m bytes k l result = TranscribesExactly canon_frames level m bytes k l result
+-- what it returns and writes over a source that reports its bytes
+abbrev pub AnswersExactly : Level → Call Supply Store
+    → List ℕ → Result (Unit {0}) StreamError → Type 0
+AnswersExactly level call bytes result = TranscribesExactly canon_frames level call bytes result
 
 -- What is written for two sequences of frames is equal exactly where they encode the same frames.
 abbrev pub EqualOutputIsEqualFrames : Type 0

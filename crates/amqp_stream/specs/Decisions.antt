@@ -5,7 +5,7 @@ use Rattle.amqp_wire.specs.declared.judging.FrameJudgement.{FrameJudgement}
 use Rattle.amqp_wire.specs.Frames.{Raw}
 use Rattle.amqp_wire.specs.Canonical.{canon}
 use Rattle.amqp_wire.specs.Judgements.{IsJudged}
-use Rattle.amqp_wire.specs.Verdicts.{whole}
+use Rattle.amqp_wire.specs.Verdicts.{decode_raw}
 use Rattle.amqp_stream.specs.declared.decision.Decision.{Decision}
 use Rattle.amqp_stream.specs.declared.decision.Decision.TheVariants as decisions
 use Rattle.amqp_stream.specs.declared.errors.RunError.{RunError}
@@ -28,7 +28,7 @@ IsDecided raw decisions.Dropped = Unit {0}
 
 -- what was decided of a frame is put after the pending bytes
 abbrev pub PutsDecided : Raw → List ℕ → List ℕ → Decision → Type 0
-PutsDecided raw before after (decisions.Kept judged) = Adds before after (whole raw) (Ok tt)
+PutsDecided raw before after (decisions.Kept judged) = Adds before after (decode_raw raw) (Ok tt)
 PutsDecided raw before after decisions.Dropped = after ≡ before
 
 -- A frame for which a compact writer writes its canonical bytes, judged so.

@@ -12,11 +12,13 @@ use Rattle.amqp_stream.specs.declared.errors.RunError.TheVariants as ends
 use Rattle.amqp_stream.specs.declared.forwarder.Forwarded.{Forwarded}
 use Rattle.amqp_stream.specs.declared.forwarder.Forwarded.TheVariants as results
 use Rattle.amqp_stream.specs.Errors.{Cause, budget_spent, write_failed, cause_of}
+use Rattle.amqp_stream.specs.Changes.{Change, ◌⇒◌}
 use Rattle.amqp_stream.specs.Ends.{Supply, Store, Takes, counted}
+use Rattle.amqp_stream.specs.Calls.{call_of}
 use Rattle.amqp_stream.specs.Canonicalizing.{Canonicalizes, canon_of}
 use Rattle.amqp_stream.specs.Steps.{Manner}
 use Rattle.amqp_stream.specs.Streaming.{Ending, finished, stopped_by, error_ending}
-use Rattle.amqp_stream.specs.Resuming.{ahead, Resumes}
+use Rattle.amqp_stream.specs.Resuming.{with_ahead, Resumes}
 
 -- A forwarder: the limit on payloads, the bytes that it holds, how many came, and the error that it
 -- returns from now on.
@@ -49,12 +51,14 @@ fault_after (Err (ends.Stream error)) = lasting error
 fault_after (Err (ends.Refused why)) = None
 
 -- a call, by any writer
-pub record ForwardsBy {S E : Type 0} (w : Manner S E) (s t : S) (old new : Forwarding)
-    (a b : Supply) (k l : Store) (result : Result Forwarded (RunError E)) : Type 0 where
-  pub run : Resumes w s t old.limit 1 old.held new.held
-      old.came new.came a b k l (forward_ending result)
-  pub limit : new.limit ≡ old.limit
-  pub fault : new.fault ≡ fault_after result
+pub record ForwardsBy {S E : Type 0} (w : Manner S E) (writer : Change S)
+    (forwarder : Change Forwarding) (source : Change Supply) (sink : Change Store)
+    (result : Result Forwarded (RunError E)) : Type 0 where
+  pub run : Resumes w writer (call_of forwarder.old.limit 1 source sink)
+      (forwarder.old.held ⇒ forwarder.new.held)
+      (forwarder.old.came ⇒ forwarder.new.came) (forward_ending result)
+  pub limit : forwarder.new.limit ≡ forwarder.old.limit
+  pub fault : forwarder.new.fault ≡ fault_after result
 
 -- ---- canonical bytes
 
@@ -86,17 +90,20 @@ HeldAfter level m bytes held (Err error) = HeldUnless level m bytes held (cause_
 
 -- A call that writes the canonical bytes of the frames held and read. What is said of a run holds
 -- of it: nothing is pending after it.
-pub record Forwards (level : Level) (old new : Forwarding) (a b : Supply)
-    (k l : Store) (result : Result Forwarded StreamError) : Type 0 where
-  pub call : Canonicalizes level old.limit 1 (ahead old.held a) b k l (forward_result result)
+pub record Forwards (level : Level) (forwarder : Change Forwarding) (source : Change Supply)
+    (sink : Change Store) (result : Result Forwarded StreamError) : Type 0 where
+  pub call : Canonicalizes level
+      (with_ahead forwarder.old.held (call_of forwarder.old.limit 1 source sink))
+      (forward_result result)
   pub piece : List ℕ
-  pub parts : call.run.taken ≡ old.held ++ piece
-  pub takes : Takes a b piece call.run.reads
-  pub counts : Some new.came ≡ counted (length piece) (Some old.came)
+  pub parts : call.run.taken ≡ forwarder.old.held ++ piece
+  pub takes : Takes source.old source.new piece call.run.reads
+  pub counts : Some forwarder.new.came ≡ counted (length piece) (Some forwarder.old.came)
   pub some : result ≡ Ok results.More → 1 ≤ length piece
-  pub held : HeldAfter level old.limit call.run.taken new.held (forward_result result)
-  pub limit : new.limit ≡ old.limit
-  pub fault : new.fault ≡ lasting_after result
+  pub held : HeldAfter level forwarder.old.limit
+      call.run.taken forwarder.new.held (forward_result result)
+  pub limit : forwarder.new.limit ≡ forwarder.old.limit
+  pub fault : forwarder.new.fault ≡ lasting_after result
 
 -- ---- calls one after another
 

@@ -1,15 +1,18 @@
 -- The definitions of amqp_stream.
+pub mod Changes
 pub mod Ends
+pub mod Calls
 pub mod Scripts
 pub mod Errors
 pub mod Spans
 pub mod Reading
 pub mod Buffers
 pub mod Writing
-pub mod Transcribing
-pub mod Canonicalizing
+pub mod Causes
 pub mod Steps
 pub mod Streaming
+pub mod Transcribing
+pub mod Canonicalizing
 pub mod Runs
 pub mod Resuming
 pub mod Reports

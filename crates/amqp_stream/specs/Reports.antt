@@ -6,16 +6,18 @@ use Rattle.std.specs.Prelude.{Result, Ok, Err, IfErr, IsTrue}
 use Rattle.std.specs.Int.{w16, from_be_bytes}
 use Rattle.amqp_types.specs.Constants.{method_byte, header_byte, body_byte, heartbeat_byte}
 use Rattle.amqp_types.specs.Levels.{Level}
-use Rattle.amqp_wire.specs.Outer.{BeginsWith}
+use Rattle.amqp_wire.specs.HeaderScan.{BeginsWith}
 use Rattle.amqp_wire.specs.Fronts.{place}
 use Rattle.amqp_stream.specs.declared.errors.StreamError.{StreamError}
 use Rattle.amqp_stream.specs.declared.errors.RunError.{RunError}
 use Rattle.amqp_stream.specs.declared.errors.RunError.TheVariants as ends
 use Rattle.amqp_stream.specs.declared.report.RunReport.{RunReport}
 use Rattle.amqp_stream.specs.Errors.{Cause, write_failed, out_of_memory, cause_of}
+use Rattle.amqp_stream.specs.Changes.{Change}
 use Rattle.amqp_stream.specs.Ends.{Supply, Store, Takes, last}
+use Rattle.amqp_stream.specs.Calls.{Call, as_reported}
+use Rattle.amqp_stream.specs.Causes.{IsSequence, NeverBegan}
 use Rattle.amqp_stream.specs.Steps.{Manner}
-use Rattle.amqp_stream.specs.Transcribing.{IsSequence, NeverBegan}
 use Rattle.amqp_stream.specs.Streaming.{Ending, refused_by, stopped_by}
 use Rattle.amqp_stream.specs.Streaming.{error_ending, refused_of, state_of}
 use Rattle.amqp_stream.specs.Resuming.{IsRefusedThere}
@@ -43,11 +45,11 @@ channel_in bytes =
 -- buffer's follow. The place is the number of bytes of the sequence, as they came, and the
 -- channel that of the frame after it. `IsThere` says of the taken bytes, the sequence and the
 -- rest why it ends there.
-pub record EndsAt (level : Level) (m : ℕ) (a b : Supply)
+pub record EndsAt (level : Level) (m : ℕ) (source : Change Supply)
     (IsThere : List ℕ → List ℕ → List ℕ → Type 0) (at : ℕ) (channel : Option ℕ) : Type 0 where
   pub taken : List ℕ
   pub reads : ℕ
-  pub takes : Takes a b taken reads
+  pub takes : Takes source.old source.new taken reads
   pub sequence : List ℕ
   pub rest : List ℕ
   pub parts : taken ≡ sequence ++ rest
@@ -70,8 +72,8 @@ IsRestBy w t m taken rest ending = rest ≡ place w.level (Some m) taken
 
 -- the report of a run of a writer, which refuses none of the frames in front
 abbrev pub IsReportBy : {S E : Type 0} → Manner S E → S
-    → ℕ → Supply → Supply → RunReport (RunError E) → Type 0
-IsReportBy w s m a b report = EndsAt w.level m a b
+    → ℕ → Change Supply → RunReport (RunError E) → Type 0
+IsReportBy w s m source report = EndsAt w.level m source
     (λ taken sequence rest. (refused_of w s m sequence ≡ None)
     × IsRestBy w (state_of w s m sequence) m taken rest (error_ending report.error))
     report.place report.channel
@@ -83,9 +85,9 @@ IsRestAt level m taken rest out_of_memory = ⊥
 IsRestAt level m taken rest cause = rest ≡ place level (Some m) taken
 
 -- the report of such a run
-abbrev pub IsReportAt : Level → ℕ → Supply → Supply → RunReport StreamError → Type 0
-IsReportAt level m a b report =
-    EndsAt level m a b (λ taken sequence rest. IsRestAt level m taken rest (cause_of report.error))
+abbrev pub IsReportAt : Level → ℕ → Change Supply → RunReport StreamError → Type 0
+IsReportAt level m source report = EndsAt level m source
+    (λ taken sequence rest. IsRestAt level m taken rest (cause_of report.error))
     report.place report.channel
 
 -- memory ran out before anything was read
@@ -111,28 +113,27 @@ as_run_report (Err report) =
 -- ---- whole calls
 
 -- a run of a writer, with its report
-abbrev pub WriterReport : {T E S K : Type 0} → Manner T E → T
-    → T → (S → Supply) → (K → Store) → ℕ → ℕ → S → S → K → K
-    → Result (Unit {0}) (RunReport (RunError E)) → Type 0
-WriterReport w s t supply store m budget source source' sink sink' result =
-    WriterRun w s t supply store m budget source source' sink sink' (unreported result)
-    × IfErr result (IsReportBy w s m (supply source) (supply source'))
+abbrev pub WriterReport : {T E S K : Type 0} → Manner T E → Change T → (S → Supply)
+    → (K → Store) → Call S K → Result (Unit {0}) (RunReport (RunError E)) → Type 0
+WriterReport w writer supply store call result =
+    WriterRun w writer supply store call (unreported result)
+    × IfErr result (IsReportBy w writer.old call.limit (as_reported supply store call).source)
 
 -- one that never began
-abbrev pub NeverRanReport : {T E S K : Type 0} → T → T → S → S
-    → K → K → Result (Unit {0}) (RunReport (RunError E)) → Type 0
-NeverRanReport s t source source' sink sink' result =
-    NeverRan s t source source' sink sink' (unreported result) × IfErr result IsAtStart
+abbrev pub NeverRanReport : {T E S K : Type 0} → Change T → Change S
+    → Change K → Result (Unit {0}) (RunReport (RunError E)) → Type 0
+NeverRanReport writer source sink result =
+    NeverRan writer source sink (unreported result) × IfErr result IsAtStart
 
 -- a run that writes canonical bytes, with its report
 abbrev pub CanonicalReport : {S K : Type 0} → Level → (S → Supply) → (K → Store)
-    → ℕ → ℕ → S → S → K → K → Result (Unit {0}) (RunReport StreamError) → Type 0
-CanonicalReport level supply store m budget source source' sink sink' result =
-    CanonicalRun level supply store m budget source source' sink sink' (unreported result)
-    × IfErr result (IsReportAt level m (supply source) (supply source'))
+    → Call S K → Result (Unit {0}) (RunReport StreamError) → Type 0
+CanonicalReport level supply store call result =
+    CanonicalRun level supply store call (unreported result)
+    × IfErr result (IsReportAt level call.limit (as_reported supply store call).source)
 
 -- one that never began
-abbrev pub NeverBeganReport : {S K E : Type 0} → S → S
-    → K → K → E → Result (Unit {0}) (RunReport E) → Type 0
-NeverBeganReport source source' sink sink' error result =
-    NeverBegan source source' sink sink' error (unreported result) × IfErr result IsAtStart
+abbrev pub NeverBeganReport : {S K E : Type 0} → Change S
+    → Change K → E → Result (Unit {0}) (RunReport E) → Type 0
+NeverBeganReport source sink error result =
+    NeverBegan source sink error (unreported result) × IfErr result IsAtStart

@@ -5,18 +5,24 @@ use Rattle.std.specs.Prelude.{length, None, Some, Err, IsTrue}
 use Rattle.amqp_types.specs.Judging.{took}
 use Rattle.amqp_wire.specs.Frames.{Frame}
 use Rattle.amqp_wire.specs.Fronts.{place}
-use Rattle.amqp_wire.specs.Outer.{BeginsWith}
-use Rattle.amqp_wire.specs.Verdicts.{verdict}
+use Rattle.amqp_wire.specs.HeaderScan.{BeginsWith}
+use Rattle.amqp_wire.specs.Verdicts.{judge_frame}
 use Rattle.amqp_stream.specs.Errors.{budget_spent, write_failed, out_of_memory}
+use Rattle.amqp_stream.specs.Changes.{Change, ◌⇒◌}
 use Rattle.amqp_stream.specs.Ends.{Supply, Store, Takes, prepended, counted}
+use Rattle.amqp_stream.specs.Calls.{Call, call_of}
+use Rattle.amqp_stream.specs.Causes.{IsSequence}
 use Rattle.amqp_stream.specs.Steps.{Manner}
-use Rattle.amqp_stream.specs.Transcribing.{IsSequence}
 use Rattle.amqp_stream.specs.Streaming.{Ending, refused_by, stopped_by, text_of}
-use Rattle.amqp_stream.specs.Streaming.{refused_of, state_of, Streams}
+use Rattle.amqp_stream.specs.Streaming.{refused_of, state_of, plan_of, HasState, Streams}
 
 -- a source with these bytes in front of those that it has left
 abbrev pub ahead : List ℕ → Supply → Supply
 ahead held a = record { left = prepended held a.left; reads = a.reads; faults = a.faults }
+
+-- a call over such a source
+abbrev pub with_ahead : List ℕ → Call Supply Store → Call Supply Store
+with_ahead held call = record call { source = ahead held call.source.old ⇒ call.source.new }
 
 -- Of some bytes those in front are frames that were written for, from the writer's state s to t,
 -- and the rest is held.
@@ -40,7 +46,7 @@ pub record IsRefusedThere {S E : Type 0} (w : Manner S E)
     (t : S) (m : ℕ) (bytes : List ℕ) (why : E) : Type 0 where
   pub frame : Frame
   pub used : ℕ
-  pub found : verdict w.level (Some m) bytes ≡ took frame used
+  pub found : judge_frame w.level (Some m) bytes ≡ took frame used
   pub refuses : w.step t frame ≡ Err why
 
 -- The refused frame is held and what follows it; or all was written for, and the end of
@@ -75,15 +81,16 @@ RestsBy w s t m bytes written held ending = RestsAt w s t m bytes written held
 
 -- A run over a source with the held bytes in front. The count of bytes that came stays at
 -- its last value.
-pub record Resumes {S E : Type 0} (w : Manner S E) (s t : S) (m budget : ℕ) (before after : List ℕ)
-    (came_old came_new : ℕ) (a b : Supply) (k l : Store) (ending : Ending E) : Type 0 where
-  pub run : Streams w s t m budget (ahead before a) b k l ending
+pub record Resumes {S E : Type 0} (w : Manner S E) (writer : Change S) (call : Call Supply Store)
+    (held : Change (List ℕ)) (came : Change ℕ) (ending : Ending E) : Type 0 where
+  pub run : Streams (plan_of w writer.old call.limit) (with_ahead held.old call) ending
+  pub state_is : HasState w writer call.limit run.taken ending
   pub piece : List ℕ
-  pub parts : run.taken ≡ before ++ piece
-  pub takes : Takes a b piece run.reads
-  pub counts : Some came_new ≡ counted (length piece) (Some came_old)
-  pub some : ending ≡ stopped_by budget_spent → budget ≤ length piece
-  pub rests : RestsBy w s t m run.taken run.written after ending
+  pub parts : run.taken ≡ held.old ++ piece
+  pub takes : Takes call.source.old call.source.new piece run.reads
+  pub counts : Some came.new ≡ counted (length piece) (Some came.old)
+  pub some : ending ≡ stopped_by budget_spent → call.budget ≤ length piece
+  pub rests : RestsBy w writer.old writer.new call.limit run.taken run.written held.new ending
 
 -- Two runs one after another are one run, with both read budgets, where the first has spent its
 -- own. So are any number of them.
@@ -91,6 +98,7 @@ abbrev pub RunsAddUp : {S E : Type 0} → Manner S E → Type 0
 RunsAddUp {S = S} {E = E} w =
     (s t u : S) (m budget more : ℕ) (h0 h1 h2 : List ℕ)
     (c0 c1 c2 : ℕ) (a b c : Supply) (k l n : Store) (e : Ending E)
-    → Resumes w s t m budget h0 h1 c0 c1 a b k l (stopped_by budget_spent)
-    → Resumes w t u m more h1 h2 c1 c2 b c l n e
-    → Resumes w s u m (budget + more) h0 h2 c0 c2 a c k n e
+    → Resumes w (s ⇒ t) (call_of m budget (a ⇒ b) (k ⇒ l))
+    (h0 ⇒ h1) (c0 ⇒ c1) (stopped_by budget_spent)
+    → Resumes w (t ⇒ u) (call_of m more (b ⇒ c) (l ⇒ n)) (h1 ⇒ h2) (c1 ⇒ c2) e
+    → Resumes w (s ⇒ u) (call_of m (budget + more) (a ⇒ c) (k ⇒ n)) (h0 ⇒ h2) (c0 ⇒ c2) e

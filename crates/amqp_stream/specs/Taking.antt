@@ -5,7 +5,7 @@ use Rattle.amqp_wire.specs.declared.looking.FrameLayout.{FrameLayout}
 use Rattle.amqp_wire.specs.Canonical.{canon}
 use Rattle.amqp_wire.specs.Frames.{Raw, Frame}
 use Rattle.amqp_wire.specs.Looks.{laid_out}
-use Rattle.amqp_wire.specs.Verdicts.{whole}
+use Rattle.amqp_wire.specs.Verdicts.{decode_raw}
 use Rattle.amqp_stream.specs.declared.stretch.Stretch.{Stretch}
 use Rattle.amqp_stream.specs.declared.errors.StreamError.TheVariants as errors
 use Rattle.amqp_stream.specs.declared.errors.RunError.{RunError}
@@ -26,7 +26,7 @@ gathered pending passed held = pending ++ take passed held
 pub record GathersFrame (layout : FrameLayout)
     (held_old held_new before after : List ℕ) (passed passed_after : ℕ) : Type 0 where
   pub frame : Frame
-  pub is_whole : whole (laid_out layout (drop passed held_old)) ≡ Ok frame
+  pub is_whole : decode_raw (laid_out layout (drop passed held_old)) ≡ Ok frame
   pub within : passed_after ≤ length held_new
   pub rest : drop passed_after held_new ≡ drop layout.frame_len (drop passed held_old)
   pub no_longer : length (canon frame) ≤ layout.frame_len

@@ -5,7 +5,7 @@ use Rattle.amqp_types.specs.Judging.{Fault, not_tidy, fault, took}
 use Rattle.amqp_types.specs.declared.errors.ParserError.{ParserError}
 use Rattle.amqp_types.specs.declared.errors.ParserError.TheVariants as parser_errors
 use Rattle.amqp_wire.specs.Frames.{Raw, Frame}
-use Rattle.amqp_wire.specs.Verdicts.{whole, judged}
+use Rattle.amqp_wire.specs.Verdicts.{decode_raw, judge_scanned}
 use Rattle.amqp_wire.specs.Canonical.{canon}
 use Rattle.amqp_stream.specs.declared.errors.StreamError.{StreamError}
 use Rattle.amqp_stream.specs.declared.errors.StreamError.TheVariants as errors
@@ -78,21 +78,21 @@ AsksTidy strict = Unit {0}
 
 -- a frame that is none at this level
 pub record IsFaulty (level : Level) (raw : Raw) (bad : Fault) : Type 0 where
-  pub judged_bad : (used : ℕ) → judged level (took raw used) ≡ fault bad
+  pub judged_bad : (used : ℕ) → judge_scanned level (took raw used) ≡ fault bad
   pub tidy_only : bad ≡ not_tidy → AsksTidy level
 
 -- why the canonical bytes of a frame were not written
 abbrev pub IsUnwritten : Raw → Store → Store → List ℕ → List ℕ → Cause → Type 0
 IsUnwritten raw old new before after (faulty bad) =
-    (whole raw ≡ Err bad) × (bad ≢ not_tidy) × Keeps old new before after
+    (decode_raw raw ≡ Err bad) × (bad ≢ not_tidy) × Keeps old new before after
 IsUnwritten raw old new before after write_failed =
-    (frame : Frame) × (whole raw ≡ Ok frame) × GatherFails old new before after (canon frame)
+    (frame : Frame) × (decode_raw raw ≡ Ok frame) × GatherFails old new before after (canon frame)
 IsUnwritten raw old new before after cause = ⊥
 
 -- the canonical bytes of a frame were gathered, or it is reported why not
 abbrev pub WritesFrame : Raw → Store → Store → List ℕ
     → List ℕ → Result (Unit {0}) StreamError → Type 0
 WritesFrame raw old new before after (Ok done) =
-    (frame : Frame) × (whole raw ≡ Ok frame) × Gathered old new before after (canon frame)
+    (frame : Frame) × (decode_raw raw ≡ Ok frame) × Gathered old new before after (canon frame)
 WritesFrame raw old new before after (Err error) =
     IsUnwritten raw old new before after (cause_of error)

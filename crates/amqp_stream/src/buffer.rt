@@ -2,6 +2,7 @@
 
 ghost use Rattle.std.specs.Prelude.{◌≡◌, ◌-◌, ◌<◌, length};
 ghost use Rattle.amqp_types.specs.Judging.{IsBytes};
+ghost use Rattle.amqp_stream.specs.Changes.{◌⇒◌};
 ghost use Rattle.amqp_stream.specs.Reading.{ReadsMore};
 ghost use Rattle.amqp_stream.specs.Spans.{IsSpan, held_in};
 
@@ -51,8 +52,8 @@ pub(crate) fn read_more<S: Source>(
     requires span { IsSpan span.old (length buf.old) }
     requires room { span.old.end - span.old.start < length buf.old }
     ensures span { IsSpan span.new (length buf.new) }
-    ensures reads { ReadsMore (S.supply source.old) (S.supply source.new)
-        (held_in buf.old span.old) (held_in buf.new span.new) result }
+    ensures reads { ReadsMore (S.supply source.old ⇒ S.supply source.new)
+        (held_in buf.old span.old ⇒ held_in buf.new span.new) result }
 {
     make_room(buf, span);
     let end = span.end;

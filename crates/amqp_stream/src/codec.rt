@@ -2,9 +2,11 @@
 
 ghost use Rattle.std.specs.Prelude.{◌≡◌, ◌≢◌, ◌⊎◌, ◌+◌, ◌-◌, ◌≤◌, length, Err, IfOk, IfErr};
 ghost use Rattle.amqp_types.specs.Levels.{plain, level_of};
+ghost use Rattle.amqp_stream.specs.Changes.{◌⇒◌};
+ghost use Rattle.amqp_stream.specs.Calls.{call_of};
 ghost use Rattle.amqp_stream.specs.Runs.{CanonicalRun, WriterRun, NeverRan};
-ghost use Rattle.amqp_stream.specs.Transcribing.{NeverBegan};
-ghost use Rattle.amqp_stream.specs.Reports.{IsReportBy, IsReportAt, channel_in, unreported};
+ghost use Rattle.amqp_stream.specs.Causes.{NeverBegan};
+ghost use Rattle.amqp_stream.specs.Reports.{channel_in, unreported};
 ghost use Rattle.amqp_stream.specs.Reports.{WriterReport, NeverRanReport};
 ghost use Rattle.amqp_stream.specs.Reports.{CanonicalReport, NeverBeganReport};
 
@@ -77,10 +79,8 @@ impl Codec {
         budget: u64,
     ) -> Result<(), RunReport<RunError<W::Refusal>>>
         ensures limit { self.new ≡ self.old }
-        ensures run { WriterRun W.manner writer.old writer.new S.supply K.store
-            self.old budget source.old source.new sink.old sink.new (unreported result) }
-        ensures place { IfErr result
-            (IsReportBy W.manner writer.old self.old (S.supply source.old) (S.supply source.new)) }
+        ensures run { WriterReport W.manner (writer.old ⇒ writer.new) S.supply K.store
+            (call_of self.old budget (source.old ⇒ source.new) (sink.old ⇒ sink.new)) result }
     {
         self.reader.clear();
         let mut came = 0;
@@ -105,8 +105,8 @@ impl Codec {
         budget: u64,
     ) -> Result<(), RunError<W::Refusal>>
         ensures limit { self.new ≡ self.old }
-        ensures run { WriterRun W.manner writer.old writer.new S.supply K.store
-            self.old budget source.old source.new sink.old sink.new result }
+        ensures run { WriterRun W.manner (writer.old ⇒ writer.new) S.supply K.store
+            (call_of self.old budget (source.old ⇒ source.new) (sink.old ⇒ sink.new)) result }
     {
         unreported(self.run_reported(writer, source, sink, budget))
     }
@@ -122,10 +122,8 @@ impl Codec {
         budget: u64,
     ) -> Result<(), RunReport<StreamError>>
         ensures limit { self.new ≡ self.old }
-        ensures run { CanonicalRun (level_of profile) S.supply K.store self.old
-            budget source.old source.new sink.old sink.new (unreported result) }
-        ensures place { IfErr result
-            (IsReportAt (level_of profile) self.old (S.supply source.old) (S.supply source.new)) }
+        ensures run { CanonicalReport (level_of profile) S.supply K.store
+            (call_of self.old budget (source.old ⇒ source.new) (sink.old ⇒ sink.new)) result }
         ensures memory { unreported result ≢ Err StreamError.NoMemory }
     {
         match profile {
@@ -148,7 +146,7 @@ impl Codec {
     ) -> Result<(), StreamError>
         ensures limit { self.new ≡ self.old }
         ensures run { CanonicalRun (level_of profile) S.supply K.store
-            self.old budget source.old source.new sink.old sink.new result }
+            (call_of self.old budget (source.old ⇒ source.new) (sink.old ⇒ sink.new)) result }
         ensures memory { result ≢ Err StreamError.NoMemory }
     {
         unreported(self.rewrite_reported(profile, source, sink, budget))
@@ -164,9 +162,10 @@ pub fn run_stream_reported<W: FrameWriter, S: Source, K: Sink>(
     max_payload: ChunkSize,
     budget: u64,
 ) -> Result<(), RunReport<RunError<W::Refusal>>>
-    ensures run { WriterReport W.manner writer.old writer.new S.supply K.store
-        max_payload budget source.old source.new sink.old sink.new result
-        ⊎ NeverRanReport writer.old writer.new source.old source.new sink.old sink.new result }
+    ensures run { WriterReport W.manner (writer.old ⇒ writer.new) S.supply K.store
+        (call_of max_payload budget (source.old ⇒ source.new) (sink.old ⇒ sink.new)) result
+        ⊎ NeverRanReport (writer.old ⇒ writer.new)
+        (source.old ⇒ source.new) (sink.old ⇒ sink.new) result }
 {
     match Codec::open(alloc, max_payload) {
         Ok(codec) => {
@@ -186,9 +185,10 @@ pub fn run_stream<W: FrameWriter, S: Source, K: Sink>(
     max_payload: ChunkSize,
     budget: u64,
 ) -> Result<(), RunError<W::Refusal>>
-    ensures run { WriterRun W.manner writer.old writer.new S.supply K.store
-        max_payload budget source.old source.new sink.old sink.new result
-        ⊎ NeverRan writer.old writer.new source.old source.new sink.old sink.new result }
+    ensures run { WriterRun W.manner (writer.old ⇒ writer.new) S.supply K.store
+        (call_of max_payload budget (source.old ⇒ source.new) (sink.old ⇒ sink.new)) result
+        ⊎ NeverRan (writer.old ⇒ writer.new)
+        (source.old ⇒ source.new) (sink.old ⇒ sink.new) result }
 {
     unreported(run_stream_reported(alloc, writer, source, sink, max_payload, budget))
 }
@@ -201,9 +201,10 @@ pub fn canonicalize_reported<S: Source, K: Sink>(
     max_payload: ChunkSize,
     budget: u64,
 ) -> Result<(), RunReport<StreamError>>
-    ensures run { CanonicalReport plain S.supply K.store max_payload
-        budget source.old source.new sink.old sink.new result
-        ⊎ NeverBeganReport source.old source.new sink.old sink.new StreamError.NoMemory result }
+    ensures run { CanonicalReport plain S.supply K.store
+        (call_of max_payload budget (source.old ⇒ source.new) (sink.old ⇒ sink.new)) result
+        ⊎ NeverBeganReport (source.old ⇒ source.new)
+        (sink.old ⇒ sink.new) StreamError.NoMemory result }
     ensures never_untidy { unreported result ≢ Err StreamError.NotTidy }
 {
     match Codec::open(alloc, max_payload) {
@@ -224,9 +225,10 @@ pub fn canonicalize<S: Source, K: Sink>(
     max_payload: ChunkSize,
     budget: u64,
 ) -> Result<(), StreamError>
-    ensures run { CanonicalRun plain S.supply K.store max_payload
-        budget source.old source.new sink.old sink.new result
-        ⊎ NeverBegan source.old source.new sink.old sink.new StreamError.NoMemory result }
+    ensures run { CanonicalRun plain S.supply K.store
+        (call_of max_payload budget (source.old ⇒ source.new) (sink.old ⇒ sink.new)) result
+        ⊎ NeverBegan (source.old ⇒ source.new)
+        (sink.old ⇒ sink.new) StreamError.NoMemory result }
     ensures never_untidy { result ≢ Err StreamError.NotTidy }
 {
     unreported(canonicalize_reported(alloc, source, sink, max_payload, budget))

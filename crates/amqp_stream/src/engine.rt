@@ -3,6 +3,8 @@
 ghost use Rattle.std.specs.Prelude.{◌≡◌, ◌+◌, ◌≤◌, [], length, drop, Ok, Err, IsTrue};
 ghost use Rattle.amqp_types.specs.Judging.{IsBytes};
 ghost use Rattle.amqp_wire.specs.Looks.{laid_out};
+ghost use Rattle.amqp_stream.specs.Changes.{◌⇒◌};
+ghost use Rattle.amqp_stream.specs.Calls.{call_of};
 ghost use Rattle.amqp_stream.specs.Reading.{Lies};
 ghost use Rattle.amqp_wire.specs.Frames.{frame_length};
 ghost use Rattle.amqp_stream.specs.Streaming.{ending_of, end_with};
@@ -174,10 +176,11 @@ pub(crate) fn run_with<W: FrameWriter, S: Source, K: Sink>(
     requires room { reader.old.limit + 8 ≤ out.old.room }
     ensures limit { reader.new.limit ≡ reader.old.limit }
     ensures room { out.new.room ≡ out.old.room }
-    ensures stream { Resumes W.manner writer.old writer.new reader.old.limit
-        budget reader.old.held reader.new.held came.old came.new
-        (S.supply source.old) (S.supply source.new)
-        (K.store sink.old) (K.store sink.new) (ending_of result) }
+    ensures stream { Resumes W.manner (writer.old ⇒ writer.new)
+        (call_of reader.old.limit budget
+        (S.supply source.old ⇒ S.supply source.new)
+        (K.store sink.old ⇒ K.store sink.new))
+        (reader.old.held ⇒ reader.new.held) (came.old ⇒ came.new) (ending_of result) }
     ensures unread { budget ≡ 0 → source.new ≡ source.old }
     ensures spent { reader.old.held ≡ [] → budget ≡ 0
         → result ≡ Err (RunError.Stream StreamError.TurnsSpent) }

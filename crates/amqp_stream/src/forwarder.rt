@@ -3,6 +3,7 @@
 ghost use Rattle.std.specs.Prelude.{◌≡◌, ◌≢◌, ◌+◌, ◌-◌, ◌≤◌, [], Some, None};
 ghost use Rattle.std.specs.Prelude.{Ok, Err, IfOk, IfSome, length};
 ghost use Rattle.amqp_types.specs.Levels.{plain};
+ghost use Rattle.amqp_stream.specs.Changes.{◌⇒◌};
 ghost use Rattle.amqp_stream.specs.Streaming.{ending_of};
 ghost use Rattle.amqp_stream.specs.Forwarding.{ForwardsBy, Forwards, Lasts};
 ghost use Rattle.amqp_stream.specs.Forwarding.{as_forward, forward_ending, lasting};
@@ -141,9 +142,9 @@ impl Forwarder {
         sink: &mut K,
     ) -> Result<Forwarded, RunError<W::Refusal>>
         ensures forwards { self.old.fault ≡ None
-            → ForwardsBy W.manner writer.old writer.new self.old self.new
-            (S.supply source.old) (S.supply source.new)
-            (K.store sink.old) (K.store sink.new) result }
+            → ForwardsBy W.manner (writer.old ⇒ writer.new) (self.old ⇒ self.new)
+            (S.supply source.old ⇒ S.supply source.new)
+            (K.store sink.old ⇒ K.store sink.new) result }
         ensures never_spent { result ≢ Err (RunError.Stream StreamError.TurnsSpent) }
 
         // A lasting fault is returned again, and nothing is read or written.
@@ -178,9 +179,9 @@ impl Forwarder {
         source: &mut S,
         sink: &mut K,
     ) -> Result<Forwarded, StreamError>
-        ensures forwards { self.old.fault ≡ None → Forwards plain self.old self.new
-            (S.supply source.old) (S.supply source.new)
-            (K.store sink.old) (K.store sink.new) result }
+        ensures forwards { self.old.fault ≡ None → Forwards plain (self.old ⇒ self.new)
+            (S.supply source.old ⇒ S.supply source.new)
+            (K.store sink.old ⇒ K.store sink.new) result }
         ensures never_spent { result ≢ Err StreamError.TurnsSpent }
 
         // A lasting fault is returned again, and nothing is read or written.

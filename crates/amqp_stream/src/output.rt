@@ -3,7 +3,7 @@
 ghost use Rattle.std.specs.Prelude.{◌≡◌, ◌+◌, ◌++◌, ◌^◌, ◌<◌, ◌≤◌, [], length, Ok, Err};
 ghost use Rattle.amqp_wire.specs.Frames.{raw_of, IsTyped, frame_length};
 ghost use Rattle.amqp_wire.specs.Spelling.{framed};
-ghost use Rattle.amqp_wire.specs.Verdicts.{IsPayloadError, whole};
+ghost use Rattle.amqp_wire.specs.Verdicts.{IsPayloadError, decode_raw};
 ghost use Rattle.amqp_stream.specs.Writing.{WritesAll, WritesFrame, Gathers};
 ghost use Rattle.amqp_stream.specs.Writing.{stream_result, payload_fault};
 ghost use Rattle.amqp_stream.specs.Buffers.{Adds};
@@ -240,7 +240,7 @@ fn write_typed(out: &mut OutputBuffer, raw: AMQPRawFrame<'_>) -> Result<(), Stre
 }
 
 /// Gathers the canonical bytes of a borrowed frame. A large body is written from where it lies.
-#[tactic(auto, unfolding(amqp_wire::specs::Verdicts::whole_as, amqp_wire::specs::Canonical::canon))]
+#[tactic(auto, unfolding(amqp_wire::specs::Verdicts::decode_payload, amqp_wire::specs::Canonical::canon))]
 #[inline(always)]
 pub fn write_canonical<K: Sink>(
     out: &mut OutputBuffer,

@@ -3,7 +3,7 @@
 ghost use Rattle.std.specs.Prelude.{◌≡◌, ◌≢◌, ◌+◌, ◌++◌, ◌^◌, ◌<◌, ◌≤◌, ℕ, [], length, take, drop};
 ghost use Rattle.std.specs.Prelude.{vec_len, vec_capacity, Ok, Err, IfOk, IfErr};
 ghost use Rattle.amqp_wire.specs.Frames.{raw_of, frame_length};
-ghost use Rattle.amqp_wire.specs.Verdicts.{IsPayloadError, whole};
+ghost use Rattle.amqp_wire.specs.Verdicts.{IsPayloadError, decode_raw};
 ghost use Rattle.amqp_wire.specs.Judgements.{IsJudged};
 ghost use Rattle.amqp_stream.specs.Buffers.{Adds, AddsAt};
 
@@ -32,7 +32,7 @@ fn put_raw_after(
 ) -> Result<usize, ParserError>
     requires few { length raw.payload.now < 2 ^ 32 }
     requires room { len + length raw.payload.now + 8 ≤ length buf.old }
-    ensures adds { AddsAt buf.old buf.new len (whole (raw_of raw.entry)) result }
+    ensures adds { AddsAt buf.old buf.new len (decode_raw (raw_of raw.entry)) result }
     ensures place { IfOk result (λ end. end ≤ len + length raw.entry.payload.now + 8) }
     ensures inside { IfErr result IsPayloadError }
     ensures memory { result ≢ Err ParserError.NoMemory }
@@ -51,7 +51,7 @@ fn put_judged_after(
     requires judged { IsJudged (raw_of raw) judged }
     requires few { length raw.payload.now < 2 ^ 32 }
     requires room { len + frame_length (raw_of raw) ≤ length buf.old }
-    ensures adds { AddsAt buf.old buf.new len (whole (raw_of raw.entry)) (Ok result) }
+    ensures adds { AddsAt buf.old buf.new len (decode_raw (raw_of raw.entry)) (Ok result) }
     ensures place { result ≤ len + frame_length (raw_of raw.entry) }
 {
     let (frame_type, channel_id, payload) = (raw.frame_type, raw.channel_id, raw.payload);
@@ -198,7 +198,7 @@ impl OutputBuffer {
         requires few { length raw.payload.now < 2 ^ 32 }
         requires enough { length self.old.bytes + (length raw.payload.now + 8) ≤ self.old.room }
         ensures room { self.new.room ≡ self.old.room }
-        ensures adds { Adds self.old.bytes self.new.bytes (whole (raw_of raw.entry)) result }
+        ensures adds { Adds self.old.bytes self.new.bytes (decode_raw (raw_of raw.entry)) result }
         ensures compact { length self.new.bytes
             ≤ length self.old.bytes + (length raw.entry.payload.now + 8) }
         ensures inside { IfErr result IsPayloadError }
@@ -216,7 +216,7 @@ impl OutputBuffer {
         requires few { length raw.payload.now < 2 ^ 32 }
         requires enough { length self.old.bytes + frame_length (raw_of raw) ≤ self.old.room }
         ensures room { self.new.room ≡ self.old.room }
-        ensures adds { Adds self.old.bytes self.new.bytes (whole (raw_of raw.entry)) (Ok tt) }
+        ensures adds { Adds self.old.bytes self.new.bytes (decode_raw (raw_of raw.entry)) (Ok tt) }
         ensures compact { length self.new.bytes
             ≤ length self.old.bytes + frame_length (raw_of raw.entry) }
     {

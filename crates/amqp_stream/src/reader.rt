@@ -67,11 +67,12 @@ impl FrameReader {
     ghost use Rattle.amqp_types.specs.Judging.{past, IsBytes};
     ghost use Rattle.amqp_types.specs.Writing.{written};
     ghost use Rattle.amqp_wire.specs.Frames.{raw_of};
-    ghost use Rattle.amqp_wire.specs.Outer.{outer};
+    ghost use Rattle.amqp_wire.specs.HeaderScan.{scan};
     ghost use Rattle.amqp_wire.specs.Looks.{laid_out};
     ghost use Rattle.amqp_stream.specs.contracts.reader.FrameReader.{the_row};
-    ghost use Rattle.amqp_stream.specs.Reading.{ReadsMore, PullsTo, Lies};
-    ghost use Rattle.amqp_stream.specs.Reading.{LiesIn, Finds, HasNext, Returns};
+    ghost use Rattle.amqp_stream.specs.Changes.{◌⇒◌};
+    ghost use Rattle.amqp_stream.specs.Reading.{Holding, ReadsMore, Lies};
+    ghost use Rattle.amqp_stream.specs.Reading.{LiesIn, IsBorrowed, Finds, HasNext};
     ghost use Rattle.amqp_stream.specs.Reports.{channel_in};
 
     /// A reader that holds nothing, for payloads of at most so many bytes.
@@ -212,11 +213,11 @@ impl FrameReader {
 
     /// Reads once, after the held bytes, and returns how many bytes came. None is the end of input.
     pub fn fill<S: Source>(&mut self, source: &mut S) -> Result<usize, SourceFault>
-        requires { outer (Some self.old.limit) self.old.held ≡ past }
+        requires { scan (Some self.old.limit) self.old.held ≡ past }
         ensures limit { self.new.limit ≡ self.old.limit }
         ensures room { length self.new.held ≤ self.old.limit + 8 }
-        ensures reads { ReadsMore (S.supply source.old)
-            (S.supply source.new) self.old.held self.new.held result }
+        ensures reads { ReadsMore (S.supply source.old ⇒ S.supply source.new)
+            (self.old.held ⇒ self.new.held) result }
     {
         let mut span = self.span;
         let count = read_more(source, &mut self.buf, &mut span);
@@ -231,10 +232,8 @@ impl FrameReader {
         source: &mut S,
         budget: &mut u64,
     ) -> Result<Option<FrameLayout>, ReadError>
-        ensures limit { self.new.limit ≡ self.old.limit }
-        ensures pulls { PullsTo (LiesIn self.old.limit) self.old.limit
-            (S.supply source.old) (S.supply source.new)
-            budget.old budget.new self.old.held self.new.held result }
+        ensures pulls { HasNext LiesIn (S.supply source.old ⇒ S.supply source.new)
+            (budget.old ⇒ budget.new) (self.old ⇒ self.new) result }
         ensures unread { budget.new ≡ budget.old → source.new ≡ source.old }
     {
         'reads: loop {
@@ -265,16 +264,20 @@ impl FrameReader {
         budget: &mut u64,
     ) -> Result<Option<AMQPRawFrame<'_>>, ReadError>
         ensures few { IfOk result (λ found. IfSome found (λ raw. length raw.payload.now < 2 ^ 32)) }
-        ensures returns { Returns (S.supply source.old)
-            (S.supply source.new) budget.old budget.new self.old result }
+        ensures fits { self.old.limit < 2 ^ 32 }
+
+        // While the frame is borrowed, also by a caller that passes it on: there is a state that the reader has afterwards.
+        ensures returns { (new : Holding)
+            × HasNext IsBorrowed (S.supply source.old ⇒ S.supply source.new)
+            (budget.old ⇒ budget.new) (self.old ⇒ new) result }
 
         // A frame or a fault that is held is returned without a read.
-        ensures decided { outer (Some self.old.limit) self.old.held ≢ past
+        ensures decided { scan (Some self.old.limit) self.old.held ≢ past
             → source.new ≡ source.old }
         ensures unread { budget.old ≡ 0 → source.new ≡ source.old }
         ensures* after { sem 𝓛 (Rests the_row self.entry (λ new.
-            HasNext (S.supply source.old)
-            (S.supply source.new) budget.old budget.new self.old new result)) }
+            HasNext IsBorrowed (S.supply source.old ⇒ S.supply source.new)
+            (budget.old ⇒ budget.new) (self.old ⇒ new) result)) }
     {
         match self.pull(source, budget) {
             Err(error) => Err(error),

@@ -7,7 +7,7 @@ pub mod Sequences
 pub mod Numbers
 pub mod Texts
 pub mod Booleans
-pub mod Written
+pub mod WrittenParts
 pub mod Puts
 pub mod FlagBytes
 pub mod FormLaws

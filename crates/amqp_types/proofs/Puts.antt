@@ -2,7 +2,7 @@
 use Rattle.std.proofs.Common.{◌≡◌, ℕ, ◌+◌, ◌≤◌, List, [], ◌++◌, length, take, drop, replicate, sym, ap, ◌∙◌, arith}
 use Rattle.std.proofs.lemmas.List.{length-append, length-replicate, take_at}
 use Rattle.amqp_types.specs.Writing.{written, Puts}
-use Rattle.amqp_types.proofs.Written.{written-written, written_end, written-nil, written-length}
+use Rattle.amqp_types.proofs.WrittenParts.{written-written, written_end, written-nil, written-length}
 
 -- A put of some bytes and then one of more bytes at the place after them are one put of them all.
 pub puts_then : (old middle new : List ℕ) (at place end : ℕ) (first second : List ℕ) → at + length (first ++ second) ≤ length old

@@ -1,5 +1,5 @@
 -- What an array or a table holds is put first, and then its length in front of it.
-use Rattle.std.proofs.Common.{◌≡◌, ℕ, ◌+◌, ◌-◌, ◌<◌, ◌≤◌, ◌^◌, ◌||◌, List, [], ◌++◌, length, take, drop, Bool, true, false, sym, ap}
+use Rattle.std.proofs.Common.{◌≡◌, ℕ, ◌+◌, ◌-◌, ◌<◌, ◌≤◌, ◌^◌, ◌||◌, List, [], ◌++◌, length, take, drop, Bool, false, sym, ap}
 use Rattle.std.proofs.Common.{ap₂, ◌∙◌, append_assoc, arith}
 use Rattle.std.proofs.lemmas.Bool.Decides.{nat_tests}
 use Rattle.std.proofs.lemmas.List.{length-append, length-take-le, take-take, take-append-le, drop_at}
@@ -7,7 +7,7 @@ use Rattle.amqp_types.specs.Numbers.{bytes4, number_bytes}
 use Rattle.amqp_types.specs.Strings.{with_length, is_too_long}
 use Rattle.amqp_types.specs.Writing.{written, Puts}
 use Rattle.amqp_types.proofs.Numbers.{number_bytes-length}
-use Rattle.amqp_types.proofs.Written.{written-length}
+use Rattle.amqp_types.proofs.WrittenParts.{written-length}
 use Rattle.amqp_laws.proofs.Pieces.{IsPut, is_put}
 use Rattle.amqp_laws.proofs.Deciding.{or_right}
 

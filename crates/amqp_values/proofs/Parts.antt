@@ -1,10 +1,8 @@
 -- The parts of an array or a table: their weight is below that of the whole.
-use Rattle.std.proofs.Common.{◌≡◌, ℕ, zero, suc, ◌<◌, List, [], ◌∷◌, ◌++◌, length, get_or, map, refl, ap, arith}
-use Rattle.std.specs.Map.{keys_of}
+use Rattle.std.proofs.Common.{ℕ, zero, suc, ◌<◌, List, [], ◌∷◌, ◌++◌, length, get_or, map, arith}
 use Rattle.amqp_types.specs.Values.{Entry, weight, values_weight, entries_weight, values_of, entries_of}
-use Rattle.amqp_values.specs.Views.{value_of, entry_of}
+use Rattle.amqp_values.specs.Views.{value_of}
 use Rattle.amqp_values.specs.declared.value.AMQPValue.{AMQPValue}
-use Rattle.amqp_values.proofs.Pairs.{Held}
 
 -- The weight of a value of an array is below that of all its values.
 pub weight_at : (xs : List AMQPValue) (i : ℕ) (d : AMQPValue) → i < length xs → weight (value_of (get_or xs i d)) < values_weight (values_of (map value_of xs))

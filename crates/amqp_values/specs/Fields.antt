@@ -1,5 +1,6 @@
 -- The canonical bytes of lists of fields, and their size.
-use Rattle.std.specs.Prelude.{◌≡◌, ◌≤◌, ℕ, List, [], ◌∷◌, ◌++◌, length, Bool, false, ◌||◌, Result}
+use Rattle.std.specs.Prelude.{◌≡◌, ◌≤◌, ℕ, ◌+◌, List, [], ◌∷◌, ◌++◌, length, Bool, false, ◌||◌}
+use Rattle.std.specs.Prelude.{Result, Ok, Err, if◌then◌else◌}
 use Rattle.amqp_types.specs.Numbers.{bytes1, bytes2, bytes4, bytes8}
 use Rattle.amqp_types.specs.Sizes.{measured}
 use Rattle.amqp_types.specs.Slots.{number_item, text_item, bytes_item, entries_item, number_form}
@@ -7,6 +8,7 @@ use Rattle.amqp_types.specs.Slots.{short_string_form, long_string_form, table_fo
 use Rattle.amqp_types.specs.SlotBytes.{form_bytes, is_deep_item, is_long_item}
 use Rattle.amqp_types.specs.SlotLaws.{IsFormHeld}
 use Rattle.amqp_types.specs.declared.errors.GenError.{GenError}
+use Rattle.amqp_types.specs.declared.errors.GenError.TheVariants as errors
 use Rattle.amqp_values.specs.declared.fields.Field.{Field}
 use Rattle.amqp_values.specs.declared.fields.Field.TheVariants as field
 
@@ -53,6 +55,13 @@ any_long_field (x ∷ xs) = is_long_field x || any_long_field xs
 -- where one is too long
 unfoldable pub fields_size : List Field → Result ℕ GenError
 fields_size fields = measured (any_deep_field fields) (any_long_field fields) (fields_bytes fields)
+
+-- the same with so many bytes before them, where a field before them may have been too long
+unfoldable pub fields_size_after : ℕ → Bool → List Field → Result ℕ GenError
+fields_size_after before long fields =
+    if any_deep_field fields then Err errors.TooDeep
+    else (if long || any_long_field fields then Err errors.TooLong
+    else Ok (before + length (fields_bytes fields)))
 
 -- what a field holds is held in the form that its variant names; of bytes and flags
 -- nothing is asked

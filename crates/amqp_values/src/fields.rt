@@ -1,11 +1,12 @@
 //! Fields that are written one after another: measured, put into a slice, or appended to a vector.
 
 ghost use Rattle.std.specs.Prelude.{◌≡◌, ◌≤◌, ◌<◌, ◌+◌, ◌*◌, ◌^◌, ◌++◌, ◌||◌, ℕ, List};
-ghost use Rattle.std.specs.Prelude.{Bool, false, length, IfOk, IsOk};
+ghost use Rattle.std.specs.Prelude.{Bool, Ok, false, length, IfOk, IsOk};
 ghost use Rattle.amqp_types.specs.Sizes.{measured};
 ghost use Rattle.amqp_types.specs.Writing.{Puts, Appends};
 ghost use Rattle.amqp_values.specs.Fields.{field_bytes, is_deep_field, is_long_field, fields_bytes};
 ghost use Rattle.amqp_values.specs.Fields.{any_deep_field, any_long_field, fields_size};
+ghost use Rattle.amqp_values.specs.Fields.{fields_size_after};
 
 use crate::generation::put_field_table;
 use crate::measuring::size_field_table;
@@ -48,6 +49,7 @@ pub enum Field<'a> {
 }
 
 /// The size of a field.
+#[inline(always)]
 #[tactic(auto, unfolding(crate::specs::Fields::field_bytes, crate::specs::Fields::is_deep_field, crate::specs::Fields::is_long_field, amqp_types::specs::SlotBytes::form_bytes))]
 fn size_field(field: &Field<'_>) -> Result<u64, GenError>
     ensures size { result
@@ -67,43 +69,59 @@ fn size_field(field: &Field<'_>) -> Result<u64, GenError>
     }
 }
 
-/// The size of two parts: too deep where one of them is, else too long where one of them is.
-#[tactic(auto, using(crate::proofs::FieldLists::length_append))]
-fn size_both(first: Result<u64, GenError>, second: Result<u64, GenError>) -> Result<u64, GenError>
-    requires { IfOk first (λ n. IfOk second (λ m. n + m < 2 ^ 64)) }
-    ensures sum { IfOk result
-        (λ k. IfOk first (λ n. IfOk second (λ m. k ≡ n + m)) × IsOk first × IsOk second) }
-    ensures size { (da db la lb : Bool) (xs ys : List ℕ)
-        → first ≡ measured da la xs → second ≡ measured db lb ys
-        → result ≡ measured (da || db) (la || lb) (xs ++ ys) }
+/// The size of fields with so many bytes before them, where a field before them may have been too long. Apart, since
+/// few fields are refused.
+#[inline(never)]
+fn size_after(fields: &[Field<'_>], before: u64, long: bool) -> Result<u64, GenError>
+    requires few { before + length fields.now * 2 ^ 33 < 2 ^ 63 }
+    ensures size { result ≡ fields_size_after before long fields.now }
+    ensures bound { IfOk result (λ n. n ≤ before + length fields.now * 2 ^ 33) }
 {
-    match first {
-        Ok(n) => match second {
-            Ok(m) => Ok(n + m),
-            Err(error) => Err(error),
-        },
-        Err(GenError::TooDeep) => Err(GenError::TooDeep),
-        Err(error) => match second {
-            Err(GenError::TooDeep) => Err(GenError::TooDeep),
-            _ => Err(error),
+    match fields {
+        [] => {
+            if long {
+                return Err(GenError::TooLong);
+            }
+            Ok(before)
+        }
+        [first, rest @ ..] => match size_field(first) {
+            Ok(n) => size_after(rest, before + n, long),
+            Err(error) => match error {
+                GenError::TooLong => size_after(rest, before, true),
+                _ => Err(error),
+            },
         },
     }
 }
 
-/// The size of fields, one after another.
-#[tactic(auto, unfolding(crate::specs::Fields::fields_size, crate::specs::Fields::fields_bytes, crate::specs::Fields::any_deep_field, crate::specs::Fields::any_long_field))]
+/// The size of fields with so many bytes before them; more than any have where one of them is refused. A plain number,
+/// so that going from field to field is a loop.
+fn sum_sizes(fields: &[Field<'_>], before: u64) -> u64
+    requires few { before + length fields.now * 2 ^ 33 < 2 ^ 63 }
+    ensures size { result < 2 ^ 63 → Ok result ≡ fields_size_after before false fields.now }
+    ensures bound { result < 2 ^ 63 → result ≤ before + length fields.now * 2 ^ 33 }
+{
+    match fields {
+        [] => before,
+        [first, rest @ ..] => match size_field(first) {
+            Ok(n) => sum_sizes(rest, before + n),
+            Err(_) => u64::MAX,
+        },
+    }
+}
+
+/// The size of fields, one after another: too deep where one of them is, else too long where one of them is.
+#[tactic(auto, unfolding(crate::specs::Fields::fields_size))]
 pub fn size_fields(fields: &[Field<'_>]) -> Result<u64, GenError>
     requires few { length fields.now ≤ 64 }
     ensures size { result ≡ fields_size fields.now }
     ensures bound { IfOk result (λ n. n ≤ length fields.now * 2 ^ 33) }
 {
-    match fields {
-        [] => Ok(0),
-        [first, rest @ ..] => match first {
-            Field::Nothing => size_fields(rest),
-            _ => size_both(size_field(first), size_fields(rest)),
-        },
+    let size = sum_sizes(fields, 0);
+    if size < 1 << 63 {
+        return Ok(size);
     }
+    size_after(fields, 0, false)
 }
 
 /// Puts a field at a place of a slice, and returns the place after it.

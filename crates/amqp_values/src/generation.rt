@@ -47,6 +47,7 @@ impl AMQPValue {
 
 /// Puts a tag and its value.
 #[cycle(put)]
+#[inline(always)]
 fn put_tagged(buf: &mut [u8], at: usize, value: &AMQPValue) -> usize
     requires short { is_long (value_of value.now) ≡ false }
     requires room { at + length (tagged_bytes (value_of value.now)) ≤ length buf.old }
@@ -58,6 +59,7 @@ fn put_tagged(buf: &mut [u8], at: usize, value: &AMQPValue) -> usize
 
 /// Puts a value without its tag.
 #[cycle(put)]
+#[inline(always)]
 fn put_behind(buf: &mut [u8], at: usize, value: &AMQPValue) -> usize
     requires short { is_long (value_of value.now) ≡ false }
     requires room { at + length (value_bytes (value_of value.now)) ≤ length buf.old }
@@ -86,6 +88,7 @@ fn put_behind(buf: &mut [u8], at: usize, value: &AMQPValue) -> usize
 
 /// Puts the values of an array, and their length in front of them.
 #[cycle(put)]
+#[inline(never)]
 fn put_array(buf: &mut [u8], at: usize, array: &FieldArray) -> usize
     requires short { is_long (array_value (values_of array.now)) ≡ false }
     requires room { at + length (array_bytes array.now) ≤ length buf.old }
@@ -101,6 +104,7 @@ fn put_array(buf: &mut [u8], at: usize, array: &FieldArray) -> usize
 
 /// Puts the entries of a table, and their length in front of them.
 #[cycle(put)]
+#[inline(never)]
 fn put_table(buf: &mut [u8], at: usize, table: &FieldTable) -> usize
     requires short { is_long (table_value (entries_of table.now)) ≡ false }
     requires room { at + length (value_bytes (table_value (entries_of table.now)))

@@ -1,12 +1,12 @@
 //! How many bytes values are written as, and which are not written.
 
 ghost use Rattle.std.specs.Prelude.{◌≡◌, ◌+◌, ◌^◌, ◌<◌, ◌≤◌, length, nat_le};
-ghost use Rattle.std.specs.Prelude.{if◌then◌else◌, Some, None, Ok, IfSome, IfOk};
-ghost use Rattle.amqp_types.specs.Values.{array_value, table_value, depth, values_of};
+ghost use Rattle.std.specs.Prelude.{if◌then◌else◌, IfOk};
+ghost use Rattle.amqp_types.specs.Values.{depth, values_of};
 ghost use Rattle.amqp_types.specs.Values.{entries_of, values_depth, entries_depth};
 ghost use Rattle.amqp_types.specs.Strings.{is_too_long, with_length};
-ghost use Rattle.amqp_types.specs.ValueBytes.{value_bytes, values_bytes, entries_bytes, is_long};
-ghost use Rattle.amqp_types.specs.ValueBytes.{is_deep, tagged_size, array_size, table_size};
+ghost use Rattle.amqp_types.specs.ValueBytes.{tagged_size, array_size, table_size};
+ghost use Rattle.amqp_values.specs.Counts.{value_count, values_count, entries_count};
 ghost use Rattle.amqp_values.specs.Views.{value_of};
 
 use crate::value::{AMQPValue, FieldArray, FieldTable};
@@ -53,81 +53,93 @@ fn table_has_room(table: &FieldTable, depth_left: usize) -> bool
     true
 }
 
-/// The number of some bytes and their length, unless four bytes do not hold the length.
-fn bytes_length(bytes: &[u8]) -> Option<u64>
-    ensures exact { result
-        ≡ (if is_too_long bytes.now then None else Some (length (with_length bytes.now))) }
-    ensures small { IfSome result (λ n. n < 4 + 2 ^ 32) }
+/// The number of some bytes and their length, or more than any have where four bytes do not hold it.
+fn bytes_length(bytes: &[u8]) -> u64
+    ensures { result
+        ≡ (if is_too_long bytes.now then 4 + 2 ^ 32 else length (with_length bytes.now)) }
 {
     let n = bytes.len() as u64;
-    if n < LENGTH_LIMIT { Some(4 + n) } else { None }
-}
-
-/// The number of a value's bytes without its tag, unless four bytes do not hold a length in it.
-#[cycle(measure)]
-fn value_length(value: &AMQPValue) -> Option<u64>
-    ensures exact { result
-        ≡ (if is_long (value_of value.now) then None
-        else Some (length (value_bytes (value_of value.now)))) }
-    ensures small { IfSome result (λ n. n < 4 + 2 ^ 32) }
-{
-    match value {
-        AMQPValue::Boolean(_) => Some(1),
-        AMQPValue::ShortShortInt(_) => Some(1),
-        AMQPValue::ShortShortUInt(_) => Some(1),
-        AMQPValue::ShortInt(_) => Some(2),
-        AMQPValue::ShortUInt(_) => Some(2),
-        AMQPValue::LongInt(_) => Some(4),
-        AMQPValue::LongUInt(_) => Some(4),
-        AMQPValue::LongLongInt(_) => Some(8),
-        AMQPValue::Float(_) => Some(4),
-        AMQPValue::Double(_) => Some(8),
-        AMQPValue::DecimalValue(_) => Some(5),
-        AMQPValue::LongString(string) => bytes_length(string.as_bytes()),
-        AMQPValue::FieldArray(array) => Some(4 + values_length(array)?),
-        AMQPValue::Timestamp(_) => Some(8),
-        AMQPValue::FieldTable(table) => Some(4 + entries_length(table)?),
-        AMQPValue::ByteArray(array) => bytes_length(array.as_slice()),
-        AMQPValue::Void => Some(0),
+    if n < LENGTH_LIMIT {
+        4 + n
+    } else {
+        4 + LENGTH_LIMIT
     }
 }
 
-/// The number of the bytes of an array's values, unless four bytes do not hold a length.
+/// The number of a value's bytes without its tag. It is more than any value has where tables and arrays nest more than
+/// `depth_left` deep, or four bytes do not hold a length in it: one walk tells both.
+#[tactic(auto, using(crate::proofs::Walk::no_depth, crate::proofs::Walk::no_room, crate::proofs::Walk::one_less))]
+#[cycle(measure)]
+#[inline(always)]
+fn value_length(value: &AMQPValue, depth_left: usize) -> u64
+    ensures count { result ≡ value_count depth_left (value_of value.now) }
+    ensures small { result ≤ 4 + 2 ^ 32 }
+{
+    match value {
+        AMQPValue::Boolean(_) => 1,
+        AMQPValue::ShortShortInt(_) => 1,
+        AMQPValue::ShortShortUInt(_) => 1,
+        AMQPValue::ShortInt(_) => 2,
+        AMQPValue::ShortUInt(_) => 2,
+        AMQPValue::LongInt(_) => 4,
+        AMQPValue::LongUInt(_) => 4,
+        AMQPValue::LongLongInt(_) => 8,
+        AMQPValue::Float(_) => 4,
+        AMQPValue::Double(_) => 8,
+        AMQPValue::DecimalValue(_) => 5,
+        AMQPValue::LongString(string) => bytes_length(string.as_bytes()),
+        AMQPValue::FieldArray(array) => {
+            if depth_left == 0 {
+                return 4 + LENGTH_LIMIT;
+            }
+            4 + values_length(array, depth_left - 1)
+        }
+        AMQPValue::Timestamp(_) => 8,
+        AMQPValue::FieldTable(table) => {
+            if depth_left == 0 {
+                return 4 + LENGTH_LIMIT;
+            }
+            4 + entries_length(table, depth_left - 1)
+        }
+        AMQPValue::ByteArray(array) => bytes_length(array.as_slice()),
+        AMQPValue::Void => 0,
+    }
+}
+
+/// The number of the bytes of an array's values, with the same exceptions.
 #[tactic(auto, using(crate::proofs::Walk::values_counted))]
 #[cycle(measure)]
-fn values_length(array: &FieldArray) -> Option<u64>
-    ensures exact { result
-        ≡ (if is_long (array_value (values_of array.now)) then None
-        else Some (length (values_bytes (values_of array.now)))) }
-    ensures small { IfSome result (λ n. n < 2 ^ 32) }
+#[inline(never)]
+fn values_length(array: &FieldArray, depth_left: usize) -> u64
+    ensures count { result ≡ values_count depth_left array.now }
+    ensures small { result ≤ 2 ^ 32 }
 {
     let mut n = 0;
     for value in array.as_slice() {
-        n += 1 + value_length(value)?;
+        n += 1 + value_length(value, depth_left);
         if n >= LENGTH_LIMIT {
-            return None;
+            return LENGTH_LIMIT;
         }
     }
-    Some(n)
+    n
 }
 
-/// The number of the bytes of a table's entries, unless four bytes do not hold a length.
+/// The number of the bytes of a table's entries, with the same exceptions.
 #[tactic(auto, using(crate::proofs::Walk::entries_counted))]
 #[cycle(measure)]
-fn entries_length(table: &FieldTable) -> Option<u64>
-    ensures exact { result
-        ≡ (if is_long (table_value (entries_of table.now)) then None
-        else Some (length (entries_bytes (entries_of table.now)))) }
-    ensures small { IfSome result (λ n. n < 2 ^ 32) }
+#[inline(never)]
+fn entries_length(table: &FieldTable, depth_left: usize) -> u64
+    ensures count { result ≡ entries_count depth_left table.now }
+    ensures small { result ≤ 2 ^ 32 }
 {
     let mut n = 0;
     for (key, value) in table.iter() {
-        n += 2 + key.len() as u64 + value_length(value)?;
+        n += 2 + key.len() as u64 + value_length(value, depth_left);
         if n >= LENGTH_LIMIT {
-            return None;
+            return LENGTH_LIMIT;
         }
     }
-    Some(n)
+    n
 }
 
 /// The size of a tag and its value.
@@ -135,13 +147,14 @@ pub fn size_value(value: &AMQPValue) -> Result<u64, GenError>
     ensures size { result ≡ tagged_size (value_of value.now) }
     ensures bound { IfOk result (λ n. n < 2 ^ 33) }
 {
-    if !has_room(value, MAX_DEPTH) {
-        return Err(GenError::TooDeep);
+    let n = value_length(value, MAX_DEPTH);
+    if n < 4 + LENGTH_LIMIT {
+        return Ok(1 + n);
     }
-    match value_length(value) {
-        None => Err(GenError::TooLong),
-        Some(n) => Ok(1 + n),
+    if has_room(value, MAX_DEPTH) {
+        return Err(GenError::TooLong);
     }
+    Err(GenError::TooDeep)
 }
 
 /// The size of an array with its length.
@@ -149,13 +162,14 @@ pub fn size_field_array(value: &FieldArray) -> Result<u64, GenError>
     ensures size { result ≡ array_size value.now }
     ensures bound { IfOk result (λ n. n < 2 ^ 33) }
 {
-    if !array_has_room(value, INNER_DEPTH) {
-        return Err(GenError::TooDeep);
+    let n = values_length(value, INNER_DEPTH);
+    if n < LENGTH_LIMIT {
+        return Ok(4 + n);
     }
-    match values_length(value) {
-        None => Err(GenError::TooLong),
-        Some(n) => Ok(4 + n),
+    if array_has_room(value, INNER_DEPTH) {
+        return Err(GenError::TooLong);
     }
+    Err(GenError::TooDeep)
 }
 
 /// The size of a table with its length.
@@ -164,11 +178,12 @@ pub fn size_field_table(value: &FieldTable) -> Result<u64, GenError>
     ensures size { result ≡ table_size value.now }
     ensures bound { IfOk result (λ n. n < 2 ^ 33) }
 {
-    if !table_has_room(value, INNER_DEPTH) {
-        return Err(GenError::TooDeep);
+    let n = entries_length(value, INNER_DEPTH);
+    if n < LENGTH_LIMIT {
+        return Ok(4 + n);
     }
-    match entries_length(value) {
-        None => Err(GenError::TooLong),
-        Some(n) => Ok(4 + n),
+    if table_has_room(value, INNER_DEPTH) {
+        return Err(GenError::TooLong);
     }
+    Err(GenError::TooDeep)
 }

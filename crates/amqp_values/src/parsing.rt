@@ -28,6 +28,7 @@ const LONG_CONTENT: usize = 512;
 /// Decodes a tag and its value, in which tables and arrays may nest `depth_left` deep.
 #[tactic(auto, using(amqp_types::proofs::Judged::refuses_next), unfolding(amqp_types::specs::ValueJudging::judge_tagged, amqp_types::specs::ValueJudging::judge_value))]
 #[cycle(read)]
+#[inline(always)]
 fn value_within(
     alloc: Global,
     i: &[u8],
@@ -51,6 +52,7 @@ fn value_within(
 /// Decodes the value after a tag.
 #[tactic(auto, using(amqp_types::proofs::Judged::refuses_next, amqp_laws::proofs::Filling::nested_none, amqp_laws::proofs::Filling::nested_more), unfolding(amqp_types::specs::ValueJudging::judge_behind))]
 #[cycle(read)]
+#[inline(always)]
 fn behind_tag_within(
     alloc: Global,
     tag: FieldTag,
@@ -138,6 +140,7 @@ fn behind_tag_within(
 /// Decodes an array, in whose values tables and arrays may nest `depth_left` deep.
 #[tactic(auto, using(amqp_types::proofs::Judged::refuses_next, amqp_laws::proofs::Filling::refuses_whole), unfolding(amqp_types::specs::ValueJudging::judge_array))]
 #[cycle(read)]
+#[inline(never)]
 fn array_within(
     alloc: Global,
     i: &[u8],
@@ -153,6 +156,7 @@ fn array_within(
 /// Decodes a table, in whose values tables and arrays may nest `depth_left` deep.
 #[tactic(auto, using(amqp_types::proofs::Judged::refuses_next, amqp_laws::proofs::Filling::refuses_whole), unfolding(amqp_types::specs::ValueJudging::judge_table))]
 #[cycle(read)]
+#[inline(never)]
 fn table_within(
     alloc: Global,
     i: &[u8],
@@ -245,6 +249,7 @@ fn many_entries_in(
 /// Decodes a key and, after it, a tag and its value.
 #[tactic(auto, using(amqp_types::proofs::Judged::refuses_next), unfolding(amqp_types::specs::ValueJudging::judge_entry))]
 #[cycle(read)]
+#[inline(always)]
 fn entry_within(
     alloc: Global,
     i: &[u8],

@@ -10,7 +10,7 @@ use Rattle.amqp_frame.specs.declared.frame.AMQPFrame.{AMQPFrame}
 use Rattle.amqp_frame.specs.declared.frame.AMQPFrame.TheVariants as frames
 use Rattle.amqp_frame.specs.Frames.{Frame, Meth, Beat, frame_of}
 use Rattle.amqp_frame.specs.Canonical.{canon}
-use Rattle.amqp_frame.specs.Verdicts.{verdict}
+use Rattle.amqp_frame.specs.Verdicts.{judge_frame}
 use Rattle.amqp_vectors_frames.specs.declared.answering.AnswerError.{AnswerError}
 use Rattle.amqp_vectors_frames.specs.declared.answering.AnswerError.TheVariants as errors
 
@@ -31,11 +31,11 @@ answer_bytes (Some answer) = canon answer
 -- is due to it was appended.
 pub record IsAnswered (input old new : List ℕ) (used : ℕ) : Type 0 where
   pub frame : AMQPFrame
-  pub found : verdict plain None input ≡ took (frame_of frame) used
+  pub found : judge_frame plain None input ≡ took (frame_of frame) used
   pub appended : new ≡ old ++ answer_bytes (due frame)
 
 -- Why there is no answer: what stands at the front of the input is refused, or memory ran out
 -- for the answer.
 abbrev pub IsRefused : List ℕ → AnswerError → Type 0
-IsRefused input (errors.Parse error) = Answers frame_of (Err error) (verdict plain None input)
+IsRefused input (errors.Parse error) = Answers frame_of (Err error) (judge_frame plain None input)
 IsRefused input (errors.Gen error) = error ≡ gen_errors.NoMemory

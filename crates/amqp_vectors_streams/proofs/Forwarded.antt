@@ -1,9 +1,7 @@
 -- The loop of `forward`: what was read and written so far, one more frame, and how it ends.
-use Rattle.std.proofs.Common.{◌≡◌, ℕ, ◌+◌, ◌-◌, ◌*◌, ◌<◌, ◌≤◌, List, [], ◌∷◌, ◌++◌, length, take, drop, Option, Some, None, Result, Ok, Err, IsErrAnd, inl, inr}
+use Rattle.std.proofs.Common.{◌≡◌, ℕ, ◌+◌, ◌-◌, ◌≤◌, List, [], ◌∷◌, ◌++◌, length, take, drop, Option, Some, None, Result, Ok, Err, IsErrAnd, inl, inr}
 use Rattle.std.proofs.Common.{refl, sym, ap, subst, ◌∙◌, arith, append_assoc, append-nil}
-use Rattle.std.proofs.lemmas.Bool.{cases_lt}
-use Rattle.std.proofs.lemmas.List.{length-append, length-drop, take-append-drop}
-use Rattle.std.proofs.Math.Nat.{mul-le-mul_right}
+use Rattle.std.proofs.lemmas.List.{length-append, take-append-drop}
 use Rattle.amqp_types.specs.Levels.{plain}
 use Rattle.amqp_types.specs.Judging.{IsBytes}
 use Rattle.amqp_types.proofs.Bytes.{IsBytes-take}
@@ -12,7 +10,7 @@ use Rattle.amqp_wire.specs.Canonical.{canon, canon_frames}
 use Rattle.amqp_wire.specs.Spelling.{SpellsFrames}
 use Rattle.amqp_wire.specs.Fronts.{front, place, ComesBefore}
 use Rattle.amqp_wire.specs.declared.raw_frame.AMQPRawFrame.{AMQPRawFrame}
-use Rattle.amqp_wire.proofs.OuterLook.{outer-in_bounds}
+use Rattle.amqp_wire.proofs.HeaderScan.{scan-in_bounds}
 use Rattle.amqp_wire.proofs.Cuts.{ComesBefore-none, ComesBefore-more, verdict-whole, front-none, place-none}
 use Rattle.amqp_wire.proofs.Sequences.{sequence_of_all}
 use Rattle.amqp_wire.proofs.Strictness.{canon_frames-more}
@@ -20,12 +18,14 @@ use Rattle.amqp_stream.specs.declared.errors.ReadError.{ReadError}
 use Rattle.amqp_stream.specs.declared.errors.ReadError.TheVariants as reads
 use Rattle.amqp_stream.specs.declared.errors.StreamError.{StreamError}
 use Rattle.amqp_stream.specs.declared.sink.SinkFault.{SinkFault}
+use Rattle.amqp_stream.specs.Changes.{◌⇒◌}
 use Rattle.amqp_stream.specs.Ends.{Supply, Store, Takes, Gains}
 use Rattle.amqp_stream.specs.Errors.{stream_error, Cause, faulty, write_failed, cause_of}
-use Rattle.amqp_stream.specs.Reading.{Holding, Fails, idle_reads_at, PullsTo, IsBorrowed, reading_left, HasNext}
+use Rattle.amqp_stream.specs.Reading.{Holding, Ends, idle_reads, IsBorrowed, HasNext}
 use Rattle.amqp_stream.specs.Writing.{WritesAll, Gathered, GatherFails, WritesFrame, IsUnwritten}
 use Rattle.amqp_stream.proofs.Adding.{Rises-later, Takes-then, Takes-none, Gains-none, Gains-then, IsBytes-append, IsBytes-nil}
 use Rattle.amqp_stream.proofs.Going.{frame_fits}
+use Rattle.amqp_stream.proofs.NextCalls.{next_bytes}
 use Rattle.amqp_vectors_streams.specs.Forwarding.{IsPassed, IsEndedBy, HasEnded, IsForwardedUpTo, HasForwarded, Forwards}
 
 -- ---- one frame, with nothing pending before it and after it
@@ -55,10 +55,18 @@ flush_fails {a = a} {b = b} {c = c} {bytes = bytes} none g all = record {
 
 -- ---- the loop
 
--- what a call of `next` pulled, by its result
-pub next_pulls : {m : ℕ} {b c : Supply} {budget budget' : ℕ} {old new : Holding} {read r : Result (Option AMQPRawFrame) ReadError}
-    → old.limit ≡ m → read ≡ r → HasNext b c budget budget' old new read → PullsTo (IsBorrowed m) m b c budget budget' old.held new.held r
-next_pulls limit is next = rw (limit, is) at next.pulls
+abbrev holding : ℕ → List ℕ → Holding
+holding m held = record { limit = m; held = held }
+
+-- a call of `next`, by the limit and the bytes that were held
+abbrev pub Next : ℕ → Supply → Supply → ℕ → ℕ → List ℕ → Holding → Result (Option AMQPRawFrame) ReadError → Type 0
+Next m b c budget budget' held new r = HasNext IsBorrowed (b ⇒ c) (budget ⇒ budget') (holding m held ⇒ new) r
+
+-- the same, by its result
+pub next_by : {m : ℕ} {b c : Supply} {budget budget' : ℕ} {old new : Holding} {read r : Result (Option AMQPRawFrame) ReadError}
+    → old.limit ≡ m → read ≡ r → HasNext IsBorrowed (b ⇒ c) (budget ⇒ budget') (old ⇒ new) read → Next m b c budget budget' old.held new r
+next_by {b = b} {c = c} {budget = budget} {budget' = budget'} {old = old} {new = new} {r = r} limit is next =
+    subst (λ x. HasNext IsBorrowed (b ⇒ c) (budget ⇒ budget') (holding x old.held ⇒ new) r) limit (rw is at next)
 
 -- What was read so far, and written for its frames. The rest is held, and at most `idle` reads gave nothing.
 pub record Forwarded (m : ℕ) (before : List ℕ) (budget_old budget : ℕ) (a b : Supply) (k l : Store) (rest : List ℕ) (idle : ℕ) : Type 0 where
@@ -91,26 +99,26 @@ Forwarded-none m before budget a k = record {
 }
 
 -- more was read, after the rest
-Forwarded-pulled : {X : Type 0} {P : List ℕ → List ℕ → X → Type 0} {m : ℕ} {before : List ℕ} {budget_old budget budget' : ℕ}
-    {a b c : Supply} {k l : Store} {held after : List ℕ} {r : Result (Option X) ReadError} (idle : ℕ)
-    → Forwarded m before budget_old budget a b k l held 0 → (p : PullsTo P m b c budget budget' held after r)
-    → budget ≤ budget' + length p.pulls.taken + idle → Forwarded m before budget_old budget' a c k l p.b idle
+Forwarded-pulled : {m : ℕ} {before : List ℕ} {budget_old budget budget' : ℕ} {a b c : Supply} {k l : Store}
+    {held : List ℕ} {new : Holding} {r : Result (Option AMQPRawFrame) ReadError} (idle : ℕ)
+    → Forwarded m before budget_old budget a b k l held 0 → (p : Next m b c budget budget' held new r)
+    → budget ≤ budget' + length p.taken + idle → Forwarded m before budget_old budget' a c k l p.bytes idle
 Forwarded-pulled {before = before} {budget_old = budget_old} {budget = budget} {budget' = budget'} {a = a} {b = b} {c = c} {held = held} idle f p few =
-    let piece = p.pulls.taken in
+    let piece = p.taken in
     record {
       taken = f.taken ++ piece;
-      are_bytes = IsBytes-append f.taken piece f.are_bytes p.pulls.are_bytes;
+      are_bytes = IsBytes-append f.taken piece f.are_bytes (next_bytes p);
       takes =
-          subst (Takes a c (f.taken ++ piece)) {x = (budget_old - budget) + (budget - budget')} (omega (arith, f.budget_falls, p.pulls.budget_falls))
-          (Takes-then a b c f.taken piece (budget_old - budget) (budget - budget') f.takes p.pulls.takes);
-      budget_falls = omega (arith, f.budget_falls, p.pulls.budget_falls);
+          subst (Takes a c (f.taken ++ piece)) {x = (budget_old - budget) + (budget - budget')} (omega (arith, f.budget_falls, p.budget_falls))
+          (Takes-then a b c f.taken piece (budget_old - budget) (budget - budget') f.takes p.takes);
+      budget_falls = omega (arith, f.budget_falls, p.budget_falls);
       few = omega (arith, f.few, few, length-append f.taken piece);
       frames = f.frames;
       front = f.front;
       front_fits = f.front_fits;
       all =
           sym (append_assoc before f.taken piece) ∙ ap (λ (xs : List ℕ). xs ++ piece) f.all
-          ∙ append_assoc f.front held piece ∙ ap (λ (xs : List ℕ). f.front ++ xs) (sym p.pulls.all);
+          ∙ append_assoc f.front held piece ∙ ap (λ (xs : List ℕ). f.front ++ xs) (sym p.all);
       precedes = f.precedes;
       gains = f.gains;
     }
@@ -144,29 +152,23 @@ Forwarded-frame {m = m} {k = k} {l = l} {l' = l'} {rest = rest} {raw = raw} f fi
           (Gains-then k l l' (canon_frames f.frames) g.written f.gains g.gains);
     }
 
--- what the loop has left falls with a frame
-pub next_less : {m : ℕ} {b c : Supply} {budget budget' : ℕ} {old new : Holding} {raw : AMQPRawFrame} {result : Result (Option AMQPRawFrame) ReadError}
-    → old.limit ≡ m → result ≡ Ok (Some raw) → HasNext b c budget budget' old new result → reading_left m budget' new.held < reading_left m budget old.held
-next_less {budget = budget} {budget' = budget'} {old = old} {new = new} {raw = raw} limit is h =
-    subst (λ x. reading_left x budget' new.held < reading_left x budget old.held) limit (h.falls raw is)
-
 -- a borrowed frame is passed
 passed : (m : ℕ) (b after : List ℕ) (raw : AMQPRawFrame) → IsBorrowed m b after raw → IsPassed m b after (raw_of raw)
 passed m b after raw borrowed = record { used = borrowed.0; found = borrowed.1; held = borrowed.2 }
 
 -- a borrowed frame fits a buffer for the largest frame
-pub frame_room : {m : ℕ} {b c : Supply} {budget budget' : ℕ} {held after : List ℕ} {raw : AMQPRawFrame}
-    → PullsTo (IsBorrowed m) m b c budget budget' held after (Ok (Some raw)) → frame_length (raw_of raw) ≤ m + 8
+pub frame_room : {m : ℕ} {b c : Supply} {budget budget' : ℕ} {held : List ℕ} {new : Holding} {raw : AMQPRawFrame}
+    → Next m b c budget budget' held new (Ok (Some raw)) → frame_length (raw_of raw) ≤ m + 8
 frame_room {m = m} {raw = raw} p =
-    omega (arith, frame_fits m p.b (raw_of raw) p.ends.0 p.ends.1, (outer-in_bounds (Some m) p.b (raw_of raw) p.ends.0 p.ends.1).within, p.pulls.room)
+    omega (arith, frame_fits m p.bytes (raw_of raw) p.ends.0 p.ends.1, (scan-in_bounds (Some m) p.bytes (raw_of raw) p.ends.0 p.ends.1).within, p.room)
 
 -- one more frame was read and written
 pub Forwarded-more : {m : ℕ} {before : List ℕ} {budget_old budget budget' : ℕ} {a b c : Supply}
-    {k l l' : Store} {held after : List ℕ} {raw : AMQPRawFrame} {done : Unit {0}}
-    → Forwarded m before budget_old budget a b k l held 0 → PullsTo (IsBorrowed m) m b c budget budget' held after (Ok (Some raw))
-    → WritesFrame (raw_of raw) l l' [] [] (Ok done) → Forwarded m before budget_old budget' a c k l' after 0
-Forwarded-more {m = m} {after = after} {raw = raw} f p writes =
-    Forwarded-frame (Forwarded-pulled 0 f p p.few) p.pulls.all_bytes (passed m p.b after raw p.ends) writes
+    {k l l' : Store} {held : List ℕ} {new : Holding} {raw : AMQPRawFrame} {done : Unit {0}}
+    → Forwarded m before budget_old budget a b k l held 0 → Next m b c budget budget' held new (Ok (Some raw))
+    → WritesFrame (raw_of raw) l l' [] [] (Ok done) → Forwarded m before budget_old budget' a c k l' new.held 0
+Forwarded-more {m = m} {new = new} {raw = raw} f p writes =
+    Forwarded-frame (Forwarded-pulled 0 f p p.idle) p.are_bytes (passed m p.bytes new.held raw p.ends) writes
 
 -- ---- how it ends
 
@@ -203,11 +205,11 @@ forwards {m = m} {before = before} {rest = rest} {written = written} f gains wro
 }
 
 -- the end of input
-pub forwards_all : {m : ℕ} {before : List ℕ} {budget_old budget budget' : ℕ} {a b c : Supply} {k l : Store} {held after : List ℕ}
-    → Forwarded m before budget_old budget a b k l held 0 → PullsTo (IsBorrowed m) m b c budget budget' held after (Ok None)
-    → Forwards m before budget_old budget' a c k l after (Ok tt)
+pub forwards_all : {m : ℕ} {before : List ℕ} {budget_old budget budget' : ℕ} {a b c : Supply} {k l : Store} {held : List ℕ} {new : Holding}
+    → Forwarded m before budget_old budget a b k l held 0 → Next m b c budget budget' held new (Ok None)
+    → Forwards m before budget_old budget' a c k l new.held (Ok tt)
 unfolding Forwarded-pulled
-forwards_all f p = forwards (Forwarded-pulled 1 f p p.few) f.gains refl p.ends
+forwards_all f p = forwards (Forwarded-pulled 1 f p p.idle) f.gains refl p.ends
 
 -- an error of reading
 unread_wrote : (m : ℕ) (frames : List Frame) (rest after : List ℕ) (error : ReadError)
@@ -220,8 +222,8 @@ unread_wrote m frames rest after reads.CutShort = refl
 unread_wrote m frames rest after reads.TurnsSpent = refl
 unread_wrote m frames rest after reads.ReadFault = refl
 
-unread_ended : (m budget : ℕ) (a b c : Supply) (k l : Store) (rest after : List ℕ) (error : ReadError) → a.faults ≤ b.faults
-    → b.faults ≤ c.faults → Fails m rest b c budget error → after ≡ rest → HasEnded m budget a c k l rest after (Err (stream_error error))
+unread_ended : (m budget : ℕ) (a b c : Supply) (k l : Store) (rest after : List ℕ) (error : ReadError) → a.faults ≤ b.faults → b.faults ≤ c.faults
+    → Ends IsBorrowed m rest (b ⇒ c) budget after (Err error) → after ≡ rest → HasEnded m budget a c k l rest after (Err (stream_error error))
 unread_ended m budget a b c k l rest after reads.UnknownFrameType early late fails held = inl (fails, held)
 unread_ended m budget a b c k l rest after reads.BadProtocolHeader early late fails held = inl (fails, held)
 unread_ended m budget a b c k l rest after reads.TooLarge early late fails held = inl (fails, held)
@@ -230,20 +232,21 @@ unread_ended m budget a b c k l rest after reads.CutShort early late fails held 
 unread_ended m budget a b c k l rest after reads.TurnsSpent early late fails held = ((fails.0, held), fails.1)
 unread_ended m budget a b c k l rest after reads.ReadFault early late fails held = ((fails.0, held), Rises-later a.faults b.faults c.faults early late fails.1)
 
-idle_few : (budget budget' taken : ℕ) (error : ReadError) → budget ≤ budget' + taken + idle_reads_at error → budget ≤ budget' + taken + 1
+idle_few : (budget budget' taken : ℕ) (error : ReadError)
+    → budget ≤ budget' + taken + idle_reads {X = AMQPRawFrame} (Err error) → budget ≤ budget' + taken + 1
 idle_few budget budget' taken error few = grind arith
 
 -- Where reading the next frame ends with an error, `forward` ends with it, after it wrote the frames before.
 pub forwards_unread : {m : ℕ} {before : List ℕ} {budget_old budget budget' : ℕ} {a b c : Supply}
-    {k l : Store} {held after : List ℕ} {error : ReadError} (r : Result (Unit {0}) StreamError)
-    → Forwarded m before budget_old budget a b k l held 0 → PullsTo (IsBorrowed m) m b c budget budget' held after (Err error)
-    → IsErrAnd r (λ told. told ≡ stream_error error) → Forwards m before budget_old budget' a c k l after r
+    {k l : Store} {held : List ℕ} {new : Holding} {error : ReadError} (r : Result (Unit {0}) StreamError)
+    → Forwarded m before budget_old budget a b k l held 0 → Next m b c budget budget' held new (Err error)
+    → IsErrAnd r (λ told. told ≡ stream_error error) → Forwards m before budget_old budget' a c k l new.held r
 unfolding Forwarded-pulled
 forwards_unread (Ok done) f p same = absurd same
-forwards_unread {m = m} {budget = budget} {budget' = budget'} {a = a} {b = b} {c = c} {k = k} {l = l} {after = after} {error = error} (Err told) f p same =
-    let pulled = Forwarded-pulled 1 f p (idle_few budget budget' (length p.pulls.taken) error p.few) in
-    rw same (forwards pulled f.gains (unread_wrote m f.frames p.b after error)
-    (unread_ended m budget' a b c k l p.b after error f.takes.faults p.pulls.takes.faults p.ends.0 p.ends.1))
+forwards_unread {m = m} {budget = budget} {budget' = budget'} {a = a} {b = b} {c = c} {k = k} {l = l} {new = new} {error = error} (Err told) f p same =
+    let pulled = Forwarded-pulled 1 f p (idle_few budget budget' (length p.taken) error p.idle) in
+    rw same (forwards pulled f.gains (unread_wrote m f.frames p.bytes new.held error)
+    (unread_ended m budget' a b c k l p.bytes new.held error f.takes.faults p.takes.faults p.ends p.kept))
 
 -- What was written, and why it ended, where the frame at the front of the rest was not written in full.
 record Stops (m budget : ℕ) (a b : Supply) (k l : Store) (frames : List Frame) (rest after : List ℕ) (cause : Cause) : Type 0 where
@@ -285,12 +288,12 @@ stops m budget a b k l l' frames rest after raw cause gains passed unwritten = a
 
 -- Where writing a frame ends with an error, `forward` ends with it, after it wrote the frames before.
 pub forwards_unwritten : {m : ℕ} {before : List ℕ} {budget_old budget budget' : ℕ} {a b c : Supply} {k l l' : Store}
-    {held after : List ℕ} {raw : AMQPRawFrame} (error : StreamError) (r : Result (Unit {0}) StreamError)
-    → Forwarded m before budget_old budget a b k l held 0 → PullsTo (IsBorrowed m) m b c budget budget' held after (Ok (Some raw))
-    → WritesFrame (raw_of raw) l l' [] [] (Err error) → IsErrAnd r (λ told. told ≡ error) → Forwards m before budget_old budget' a c k l' after r
+    {held : List ℕ} {new : Holding} {raw : AMQPRawFrame} (error : StreamError) (r : Result (Unit {0}) StreamError)
+    → Forwarded m before budget_old budget a b k l held 0 → Next m b c budget budget' held new (Ok (Some raw))
+    → WritesFrame (raw_of raw) l l' [] [] (Err error) → IsErrAnd r (λ told. told ≡ error) → Forwards m before budget_old budget' a c k l' new.held r
 unfolding Forwarded-pulled
 forwards_unwritten error (Ok done) f p writes same = absurd same
-forwards_unwritten {m = m} {budget' = budget'} {a = a} {c = c} {k = k} {l = l} {l' = l'} {after = after} {raw = raw} error (Err told) f p writes same =
-    let pulled = Forwarded-pulled 1 f p (omega (arith, p.few)) in
-    let at = stops m budget' a c k l l' f.frames p.b after (raw_of raw) (cause_of error) f.gains (passed m p.b after raw p.ends) writes in
+forwards_unwritten {m = m} {budget' = budget'} {a = a} {c = c} {k = k} {l = l} {l' = l'} {new = new} {raw = raw} error (Err told) f p writes same =
+    let pulled = Forwarded-pulled 1 f p (omega (arith, p.idle)) in
+    let at = stops m budget' a c k l l' f.frames p.bytes new.held (raw_of raw) (cause_of error) f.gains (passed m p.bytes new.held raw p.ends) writes in
     rw same (forwards pulled at.gains at.wrote at.ended)

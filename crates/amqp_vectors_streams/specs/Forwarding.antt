@@ -5,8 +5,8 @@ use Rattle.std.specs.Prelude.{length, drop, Some, Result, Ok, Err}
 use Rattle.amqp_types.specs.Levels.{plain}
 use Rattle.amqp_types.specs.Judging.{Fault, past, fault, took, IsBytes}
 use Rattle.amqp_wire.specs.Frames.{Frame, Raw}
-use Rattle.amqp_wire.specs.Outer.{outer}
-use Rattle.amqp_wire.specs.Verdicts.{whole}
+use Rattle.amqp_wire.specs.HeaderScan.{scan}
+use Rattle.amqp_wire.specs.Verdicts.{decode_raw}
 use Rattle.amqp_wire.specs.Canonical.{canon, canon_frames}
 use Rattle.amqp_wire.specs.Spelling.{SpellsFrames}
 use Rattle.amqp_wire.specs.Fronts.{ComesBefore}
@@ -20,21 +20,21 @@ use Rattle.amqp_stream.specs.Writing.{IsPrefix}
 -- the reader holds what comes after that.
 pub record IsPassed (limit : ℕ) (rest after : List ℕ) (raw : Raw) : Type 0 where
   pub used : ℕ
-  pub found : outer (Some limit) rest ≡ took raw used
+  pub found : scan (Some limit) rest ≡ took raw used
   pub held : after ≡ drop used rest
 
 -- no whole frame and no fault is at the front of the rest, and it is held
 abbrev pub WantsMore : ℕ → List ℕ → List ℕ → Type 0
-WantsMore limit rest after = (outer (Some limit) rest ≡ past) × (after ≡ rest)
+WantsMore limit rest after = (scan (Some limit) rest ≡ past) × (after ≡ rest)
 
 -- a fault of a frame's header or end byte is at the front of the rest, and it is held
 abbrev pub IsFaultOutside : ℕ → List ℕ → List ℕ → Fault → Type 0
-IsFaultOutside limit rest after bad = (outer (Some limit) rest ≡ fault bad) × (after ≡ rest)
+IsFaultOutside limit rest after bad = (scan (Some limit) rest ≡ fault bad) × (after ≡ rest)
 
 -- a frame whose payload has a fault was read
 abbrev pub IsFaultInside : ℕ → List ℕ → List ℕ → Fault → Type 0
 IsFaultInside limit rest after bad =
-    (raw : Raw) × IsPassed limit rest after raw × (whole raw ≡ Err bad)
+    (raw : Raw) × IsPassed limit rest after raw × (decode_raw raw ≡ Err bad)
 
 -- When a call ends early by each cause: by the rest, what the reader holds, the read budget that is
 -- left, and the two ends. Memory never runs out.
@@ -63,7 +63,7 @@ pub record IsBrokenOff (limit : ℕ) (frames : List Frame)
   pub raw : Raw
   pub passed : IsPassed limit rest after raw
   pub next : Frame
-  pub is_whole : whole raw ≡ Ok next
+  pub is_whole : decode_raw raw ≡ Ok next
   pub part : List ℕ
   pub begins : IsPrefix part (canon next)
   pub parts : written ≡ canon_frames frames ++ part

@@ -2,6 +2,8 @@
 
 ghost use Rattle.std.specs.Prelude.{◌≡◌, ◌≢◌, ◌+◌, ◌*◌, ◌<◌, ◌≤◌, Err, IfOk};
 ghost use Rattle.amqp_types.specs.Levels.{plain};
+ghost use Rattle.amqp_stream.specs.Changes.{◌⇒◌};
+ghost use Rattle.amqp_stream.specs.Calls.{call_of};
 ghost use Rattle.amqp_stream.specs.Canonicalizing.{Canonicalizes};
 
 use amqp_stream::{Codec, Sink, Source, StreamError};
@@ -53,9 +55,9 @@ impl Connection {
         budget: u64,
     ) -> Result<(), StreamError>
         ensures limits { self.new ≡ self.old }
-        ensures stream { Canonicalizes plain self.old.to_server budget
-            (S.supply client.old) (S.supply client.new)
-            (K.store server.old) (K.store server.new) result }
+        ensures stream { Canonicalizes plain (call_of self.old.to_server budget
+            (S.supply client.old ⇒ S.supply client.new)
+            (K.store server.old ⇒ K.store server.new)) result }
         ensures memory { result ≢ Err StreamError.NoMemory }
     {
         self.to_server
@@ -70,9 +72,9 @@ impl Connection {
         budget: u64,
     ) -> Result<(), StreamError>
         ensures limits { self.new ≡ self.old }
-        ensures stream { Canonicalizes plain self.old.to_client budget
-            (S.supply server.old) (S.supply server.new)
-            (K.store client.old) (K.store client.new) result }
+        ensures stream { Canonicalizes plain (call_of self.old.to_client budget
+            (S.supply server.old ⇒ S.supply server.new)
+            (K.store client.old ⇒ K.store client.new)) result }
         ensures memory { result ≢ Err StreamError.NoMemory }
     {
         self.to_client

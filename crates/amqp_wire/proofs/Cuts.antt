@@ -5,10 +5,10 @@ use Rattle.std.proofs.lemmas.List.{length-drop, drop_at, length-take-le, nil_fro
 use Rattle.amqp_types.specs.Levels.{Level}
 use Rattle.amqp_types.specs.Judging.{Fault, Judged, past, fault, took}
 use Rattle.amqp_wire.specs.Frames.{Frame, Raw}
-use Rattle.amqp_wire.specs.Outer.{outer}
-use Rattle.amqp_wire.specs.Verdicts.{verdict, judged, judged_frame, is_at, whole}
+use Rattle.amqp_wire.specs.HeaderScan.{scan}
+use Rattle.amqp_wire.specs.Verdicts.{judge_frame, judge_scanned, judge_decoded, is_at, decode_raw}
 use Rattle.amqp_wire.specs.Fronts.{cut, front, place, ComesBefore}
-use Rattle.amqp_wire.proofs.OuterLook.{outer-append, outer-exact, outer-in_bounds, outer-none}
+use Rattle.amqp_wire.proofs.HeaderScan.{scan-append, scan-exact, scan-in_bounds, scan-none}
 
 -- it is no frame
 abbrev pub IsStop : Judged Frame → Type 0
@@ -16,45 +16,46 @@ IsStop past = Unit {0}
 IsStop (fault bad) = Unit {0}
 IsStop (took f n) = ⊥
 
-judged_frame-got : (ok : Bool) (r : Result Frame Fault) (n : ℕ) (f : Frame) (k : ℕ) → judged_frame ok r n ≡ took f k → (r ≡ Ok f) × (n ≡ k)
-judged_frame-got true (Ok g) n f k e = (cc, cc)
-judged_frame-got false (Ok g) n f k e = absurd cc
-judged_frame-got true (Err bad) n f k e = absurd cc
-judged_frame-got false (Err bad) n f k e = absurd cc
+judge_decoded-got : (ok : Bool) (r : Result Frame Fault) (n : ℕ) (f : Frame) (k : ℕ) → judge_decoded ok r n ≡ took f k → (r ≡ Ok f) × (n ≡ k)
+judge_decoded-got true (Ok g) n f k e = (cc, cc)
+judge_decoded-got false (Ok g) n f k e = absurd cc
+judge_decoded-got true (Err bad) n f k e = absurd cc
+judge_decoded-got false (Err bad) n f k e = absurd cc
 
-judged-got : (level : Level) (j : Judged Raw) (f : Frame) (k : ℕ) → judged level j ≡ took f k → (raw : Raw) × (j ≡ took raw k)
-judged-got level past f k e = absurd cc
-judged-got level (fault bad) f k e = absurd cc
-judged-got level (took raw n) f k e = (raw, ap (λ i. took raw i) (judged_frame-got (is_at level raw) (whole raw) n f k e).1)
+judge_scanned-got : (level : Level) (j : Judged Raw) (f : Frame) (k : ℕ) → judge_scanned level j ≡ took f k → (raw : Raw) × (j ≡ took raw k)
+judge_scanned-got level past f k e = absurd cc
+judge_scanned-got level (fault bad) f k e = absurd cc
+judge_scanned-got level (took raw n) f k e = (raw, ap (λ i. took raw i) (judge_decoded-got (is_at level raw) (decode_raw raw) n f k e).1)
 
 -- a frame stands in at least a byte that is there
-pub verdict-got_within : (level : Level) (m : Option ℕ) (bytes : List ℕ) (f : Frame) (n : ℕ) → verdict level m bytes ≡ took f n → (8 ≤ n) × (n ≤ length bytes)
-unfolding verdict
+pub verdict-got_within : (level : Level) (m : Option ℕ) (bytes : List ℕ) (f : Frame) (n : ℕ) → judge_frame level m bytes ≡ took f n
+    → (8 ≤ n) × (n ≤ length bytes)
+unfolding judge_frame
 verdict-got_within level m bytes f n e =
-    let found = judged-got level (outer m bytes) f n e in
-    let fits = outer-in_bounds m bytes found.0 n found.1 in
+    let found = judge_scanned-got level (scan m bytes) f n e in
+    let fits = scan-in_bounds m bytes found.0 n found.1 in
     (fits.least, fits.within)
 
-judged-more : (level : Level) (j : Judged Raw) → judged level j ≢ past → j ≢ past
+judged-more : (level : Level) (j : Judged Raw) → judge_scanned level j ≢ past → j ≢ past
 judged-more level past h e = h refl
 judged-more level (fault bad) h e = absurd cc
 judged-more level (took raw n) h e = absurd cc
 
 -- what is decided stays so
 pub verdict-append : (level : Level) (m : Option ℕ) (bytes more : List ℕ)
-    → verdict level m bytes ≢ past → verdict level m (bytes ++ more) ≡ verdict level m bytes
-unfolding verdict
-verdict-append level m bytes more h = ap (judged level) (outer-append m bytes more (judged-more level (outer m bytes) h))
+    → judge_frame level m bytes ≢ past → judge_frame level m (bytes ++ more) ≡ judge_frame level m bytes
+unfolding judge_frame
+verdict-append level m bytes more h = ap (judge_scanned level) (scan-append m bytes more (judged-more level (scan m bytes) h))
 
 -- cutting more often than there are bytes changes nothing
 cut-none : (level : Level) (m : Option ℕ) (n : ℕ) → cut level m n [] ≡ ([], [])
-unfolding cut verdict
+unfolding cut judge_frame
 cut-none level m zero = refl
-cut-none level m (suc n) = rw outer-none refl
+cut-none level m (suc n) = rw scan-none refl
 
 cut-step : (level : Level) (m : Option ℕ) (n k : ℕ) (bytes : List ℕ) → length bytes ≤ suc n → length bytes ≤ suc k
     → ((rest : List ℕ) → length rest ≤ n → length rest ≤ k → cut level m n rest ≡ cut level m k rest)
-    → (j : Judged Frame) → verdict level m bytes ≡ j → cut level m (suc n) bytes ≡ cut level m (suc k) bytes
+    → (j : Judged Frame) → judge_frame level m bytes ≡ j → cut level m (suc n) bytes ≡ cut level m (suc k) bytes
 unfolding cut
 cut-step level m n k bytes h g ih past e = rw e refl
 cut-step level m n k bytes h g ih (fault bad) e = rw e refl
@@ -67,7 +68,7 @@ cut-step level m n k bytes h g ih (took f used) e =
 cut-enough : (level : Level) (m : Option ℕ) (n k : ℕ) (bytes : List ℕ) → length bytes ≤ n → length bytes ≤ k → cut level m n bytes ≡ cut level m k bytes
 cut-enough level m zero k bytes h g = rw (nil_from_length bytes (omega arith)) (cut-none level m zero ∙ sym (cut-none level m k))
 cut-enough level m (suc n) zero bytes h g = rw (nil_from_length bytes (omega arith)) (cut-none level m (suc n) ∙ sym (cut-none level m zero))
-cut-enough level m (suc n) (suc k) bytes h g = cut-step level m n k bytes h g (λ rest. cut-enough level m n k rest) (verdict level m bytes) refl
+cut-enough level m (suc n) (suc k) bytes h g = cut-step level m n k bytes h g (λ rest. cut-enough level m n k rest) (judge_frame level m bytes) refl
 
 -- after a frame at the front
 pub record GoesOn (level : Level) (m : Option ℕ) (bytes : List ℕ) (f : Frame) (rest : List ℕ) : Type 0 where
@@ -79,7 +80,8 @@ cut-more : (level : Level) (m : Option ℕ) (bytes : List ℕ) → cut level m (
 cut-more level m bytes = cut-enough level m (length bytes) (suc (length bytes)) bytes (omega arith) (omega arith)
 
 -- Where a frame is decoded, the frames at the front are that frame and those at the front of what comes after it.
-pub front-got : (level : Level) (m : Option ℕ) (bytes : List ℕ) (f : Frame) (n : ℕ) → verdict level m bytes ≡ took f n → GoesOn level m bytes f (drop n bytes)
+pub front-got : (level : Level) (m : Option ℕ) (bytes : List ℕ) (f : Frame) (n : ℕ) → judge_frame level m bytes ≡ took f n
+    → GoesOn level m bytes f (drop n bytes)
 unfolding front place cut
 front-got level m bytes f n e =
     let at = verdict-got_within level m bytes f n e in
@@ -94,37 +96,38 @@ front-got level m bytes f n e =
     }
 
 cut-stop : (level : Level) (m : Option ℕ) (n : ℕ) (bytes : List ℕ) (j : Judged Frame)
-    → verdict level m bytes ≡ j → IsStop j → cut level m (suc n) bytes ≡ ([], bytes)
+    → judge_frame level m bytes ≡ j → IsStop j → cut level m (suc n) bytes ≡ ([], bytes)
 unfolding cut
 cut-stop level m n bytes past e s = rw e refl
 cut-stop level m n bytes (fault bad) e s = rw e refl
 cut-stop level m n bytes (took f k) e s = absurd s
 
 -- where no frame is at the front
-pub front-stop : (level : Level) (m : Option ℕ) (bytes : List ℕ) → IsStop (verdict level m bytes) → (front level m bytes ≡ []) × (place level m bytes ≡ bytes)
+pub front-stop : (level : Level) (m : Option ℕ) (bytes : List ℕ) → IsStop (judge_frame level m bytes)
+    → (front level m bytes ≡ []) × (place level m bytes ≡ bytes)
 unfolding front place
 front-stop level m bytes h =
-    let all = cut-more level m bytes ∙ cut-stop level m (length bytes) bytes (verdict level m bytes) refl h in
+    let all = cut-more level m bytes ∙ cut-stop level m (length bytes) bytes (judge_frame level m bytes) refl h in
     (ap (λ (p : List Frame × List ℕ). p.0) all, ap (λ (p : List Frame × List ℕ). p.1) all)
 
 -- An empty input has no frames, whatever follows.
 pub ComesBefore-none : (level : Level) (m : Option ℕ) → ComesBefore level m [] []
 ComesBefore-none level m = record { sequence = λ rest. refl; after = λ rest. refl }
 
-decided_got : (level : Level) (m : Option ℕ) (bytes : List ℕ) (f : Frame) (n : ℕ) → verdict level m bytes ≡ took f n → verdict level m bytes ≢ past
+decided_got : (level : Level) (m : Option ℕ) (bytes : List ℕ) (f : Frame) (n : ℕ) → judge_frame level m bytes ≡ took f n → judge_frame level m bytes ≢ past
 decided_got level m bytes f n e h = absurd (cc)
 
 -- a frame that is there in full is there whatever follows it
 pub verdict-exact : (level : Level) (m : Option ℕ) (bytes rest : List ℕ) (f : Frame) (n : ℕ)
-    → verdict level m bytes ≡ took f n → verdict level m (take n bytes ++ rest) ≡ took f n
-unfolding verdict
+    → judge_frame level m bytes ≡ took f n → judge_frame level m (take n bytes ++ rest) ≡ took f n
+unfolding judge_frame
 verdict-exact level m bytes rest f n e =
-    let found = judged-got level (outer m bytes) f n e in
-    ap (judged level) (outer-exact m bytes rest found.0 n found.1 ∙ sym found.1) ∙ e
+    let found = judge_scanned-got level (scan m bytes) f n e in
+    ap (judge_scanned level) (scan-exact m bytes rest found.0 n found.1 ∙ sym found.1) ∙ e
 
 -- one more frame
 pub ComesBefore-more : (level : Level) (m : Option ℕ) (used held : List ℕ) (frames : List Frame) (f : Frame) (n : ℕ)
-    → ComesBefore level m used frames → verdict level m held ≡ took f n → ComesBefore level m (used ++ take n held) (frames ++ f ∷ [])
+    → ComesBefore level m used frames → judge_frame level m held ≡ took f n → ComesBefore level m (used ++ take n held) (frames ++ f ∷ [])
 ComesBefore-more level m used held frames f n p e =
     let at = verdict-got_within level m held f n e in
     let goes : (rest : List ℕ) → GoesOn level m (take n held ++ rest) f rest = λ rest.
@@ -138,12 +141,12 @@ ComesBefore-more level m used held frames f n p e =
     }
 
 -- In an empty input a frame is incomplete.
-pub verdict-none : (level : Level) (m : Option ℕ) → verdict level m [] ≡ past
-unfolding verdict
-verdict-none level m = ap (judged level) (outer-none m)
+pub verdict-none : (level : Level) (m : Option ℕ) → judge_frame level m [] ≡ past
+unfolding judge_frame
+verdict-none level m = ap (judge_scanned level) (scan-none m)
 
 -- no bytes are the empty sequence
-pub stop-none : (level : Level) (m : Option ℕ) → IsStop (verdict level m [])
+pub stop-none : (level : Level) (m : Option ℕ) → IsStop (judge_frame level m [])
 stop-none level m = rw (verdict-none level m) tt
 
 -- At the front of an empty input there are no frames.
@@ -155,27 +158,27 @@ pub place-none : (level : Level) (m : Option ℕ) → place level m [] ≡ []
 place-none level m = (front-stop level m [] (stop-none level m)).1
 
 -- what the parts of a decoding say of the whole of it
-pub verdict-more : (level : Level) (m : Option ℕ) (bytes : List ℕ) → outer m bytes ≡ past → verdict level m bytes ≡ past
-unfolding verdict
-verdict-more level m bytes e = ap (judged level) e
+pub verdict-more : (level : Level) (m : Option ℕ) (bytes : List ℕ) → scan m bytes ≡ past → judge_frame level m bytes ≡ past
+unfolding judge_frame
+verdict-more level m bytes e = ap (judge_scanned level) e
 
 -- A fault of the header scan is the fault of decoding.
-pub verdict-bad : (level : Level) (m : Option ℕ) (bytes : List ℕ) (bad : Fault) → outer m bytes ≡ fault bad → verdict level m bytes ≡ fault bad
-unfolding verdict
-verdict-bad level m bytes bad e = ap (judged level) e
+pub verdict-bad : (level : Level) (m : Option ℕ) (bytes : List ℕ) (bad : Fault) → scan m bytes ≡ fault bad → judge_frame level m bytes ≡ fault bad
+unfolding judge_frame
+verdict-bad level m bytes bad e = ap (judge_scanned level) e
 
 -- Where the header scan takes a frame whose payload is decoded and which has the level, the frame is decoded.
 pub verdict-whole : (level : Level) (m : Option ℕ) (bytes : List ℕ) (raw : Raw) (n : ℕ) (f : Frame)
-    → outer m bytes ≡ took raw n → is_at level raw ≡ true → whole raw ≡ Ok f → verdict level m bytes ≡ took f n
-unfolding verdict
+    → scan m bytes ≡ took raw n → is_at level raw ≡ true → decode_raw raw ≡ Ok f → judge_frame level m bytes ≡ took f n
+unfolding judge_frame
 verdict-whole level m bytes raw n f e at_level is_whole =
-    ap (judged level) e ∙ ap (λ t. judged_frame t (whole raw) n) at_level ∙ ap (λ r. judged_frame true r n) is_whole
+    ap (judge_scanned level) e ∙ ap (λ t. judge_decoded t (decode_raw raw) n) at_level ∙ ap (λ r. judge_decoded true r n) is_whole
 
-judged_frame-fault : (at_level : Bool) (read : Result Frame Fault) (n : ℕ) (bad : Fault) → read ≡ Err bad → judged_frame at_level read n ≡ fault bad
-judged_frame-fault true read n bad e = ap (λ r. judged_frame true r n) e
-judged_frame-fault false read n bad e = ap (λ r. judged_frame false r n) e
+judge_decoded-fault : (at_level : Bool) (read : Result Frame Fault) (n : ℕ) (bad : Fault) → read ≡ Err bad → judge_decoded at_level read n ≡ fault bad
+judge_decoded-fault true read n bad e = ap (λ r. judge_decoded true r n) e
+judge_decoded-fault false read n bad e = ap (λ r. judge_decoded false r n) e
 
 pub verdict-fault : (level : Level) (m : Option ℕ) (bytes : List ℕ) (raw : Raw) (n : ℕ) (bad : Fault)
-    → outer m bytes ≡ took raw n → whole raw ≡ Err bad → verdict level m bytes ≡ fault bad
-unfolding verdict
-verdict-fault level m bytes raw n bad e is_whole = ap (judged level) e ∙ judged_frame-fault (is_at level raw) (whole raw) n bad is_whole
+    → scan m bytes ≡ took raw n → decode_raw raw ≡ Err bad → judge_frame level m bytes ≡ fault bad
+unfolding judge_frame
+verdict-fault level m bytes raw n bad e is_whole = ap (judge_scanned level) e ∙ judge_decoded-fault (is_at level raw) (decode_raw raw) n bad is_whole

@@ -19,11 +19,11 @@ use Rattle.amqp_types.specs.Constants.{protocol_byte, protocol_mark}
 use Rattle.amqp_wire.specs.declared.frame_type.AMQPFrameType.{AMQPFrameType}
 use Rattle.amqp_wire.specs.declared.frame_type.AMQPFrameType.TheVariants as kinds
 use Rattle.amqp_wire.specs.Frames.{Frame, Proto, Meth, Head, Body, Beat, BadBeat, Raw, raw_as}
-use Rattle.amqp_wire.specs.Outer.{type_of, begins_as, is_above, payload_length, judge_version, version_at, ended_payload, judge_raw, behind_type, outer}
+use Rattle.amqp_wire.specs.HeaderScan.{type_of, begins_as, is_above, payload_length, judge_version, version_at, ended_payload, judge_raw, behind_type, scan}
 use Rattle.amqp_wire.specs.Canonical.{payload_of}
-use Rattle.amqp_wire.specs.Verdicts.{all_of, whole_as, is_tidy_as, is_written_for, is_at, judged, judged_frame, verdict}
+use Rattle.amqp_wire.specs.Verdicts.{all_of, decode_payload, is_tidy_as, is_written_for, is_at, judge_scanned, judge_decoded, judge_frame}
 use Rattle.amqp_wire.specs.Spelling.{head, framed, proto, byte_of, IsBeatPayload, IsFramed, IsBeat, Spells, IsWithin}
-use Rattle.amqp_wire.proofs.OuterLook.{typed, outer-typed, outer-none, behind_byte-took}
+use Rattle.amqp_wire.proofs.HeaderScan.{typed, scan-typed, scan-none, behind_byte-took}
 use Rattle.amqp_wire.proofs.Typed.{method_at, method_spells, header_at, header_spells}
 use Rattle.amqp_wire.proofs.Sizes.{framed_length}
 
@@ -175,13 +175,13 @@ version_at-made bytes raw n e = elim (cases_Bool (begins_as bytes protocol_mark)
 
 -- ---- the frame of a whole payload
 
-at_beat : (level : Level) (channel : ℕ) (payload : List ℕ) (f : Frame) → whole_as kinds.Heartbeat channel payload ≡ Ok f
+at_beat : (level : Level) (channel : ℕ) (payload : List ℕ) (f : Frame) → decode_payload kinds.Heartbeat channel payload ≡ Ok f
     → payload_of f ≡ [] → is_at level (raw_as kinds.Heartbeat channel payload) ≡ true → IsBeatPayload level payload
 unfolding is_tidy_as
 at_beat plain channel payload f w none e = tt
 at_beat tidy channel payload f w none e = nil_from_length payload (eqb-true (length payload) 0 e)
 at_beat strict channel payload f w none e =
-    let written : is_written_for (whole_as kinds.Heartbeat channel payload) payload ≡ true = e in
+    let written : is_written_for (decode_payload kinds.Heartbeat channel payload) payload ≡ true = e in
     let same : bytes_eq payload (payload_of f) ≡ true = ap (λ read. is_written_for read payload) (sym w) ∙ written in
     (bytes_eq-Decides payload (payload_of f)).0 same ∙ none
 
@@ -192,23 +192,23 @@ read_as make (Err bad) f h = absurd cc
 
 at_method : (level : Level) (channel : ℕ) (payload : List ℕ) (m : Method) → all_of judge_payload payload ≡ Ok m
     → is_at level (raw_as kinds.Method channel payload) ≡ true → method_at level payload m ≡ true
-unfolding is_tidy_as whole_as
+unfolding is_tidy_as decode_payload
 at_method plain channel payload m w e = refl
 at_method tidy channel payload m w e = e
 at_method strict channel payload m w e = ap (λ read. is_written_for (read_map (λ x. Meth channel x) read) payload) (sym w) ∙ e
 
 at_header : (level : Level) (channel : ℕ) (payload : List ℕ) (header : ContentHeader) → all_of judge_content_header payload ≡ Ok header
     → is_at level (raw_as kinds.Header channel payload) ≡ true → header_at level payload header ≡ true
-unfolding is_tidy_as whole_as
+unfolding is_tidy_as decode_payload
 at_header plain channel payload header w e = refl
 at_header tidy channel payload header w e = e
 at_header strict channel payload header w e = ap (λ read. is_written_for (read_map (λ x. Head channel x) read) payload) (sym w) ∙ e
 
 -- what encodes a frame, by its type
 pub spells_as : (level : Level) (bytes : List ℕ) (kind : AMQPFrameType) (channel : ℕ) (payload : List ℕ) (f : Frame)
-    → IsBytes payload → IsFramed bytes (byte_of kind) channel payload → whole_as kind channel payload ≡ Ok f
+    → IsBytes payload → IsFramed bytes (byte_of kind) channel payload → decode_payload kind channel payload ≡ Ok f
     → is_at level (raw_as kind channel payload) ≡ true → kind ≢ kinds.ProtocolHeader → Spells level bytes f
-unfolding whole_as
+unfolding decode_payload
 spells_as level bytes kinds.ProtocolHeader channel payload f fits is_framed is_whole at_level other = absurd (other refl)
 spells_as level bytes kinds.Method channel payload f fits is_framed is_whole at_level other =
     let read = read_as (λ x. Meth channel x) (all_of judge_payload payload) f is_whole in
@@ -246,25 +246,25 @@ spells_as level bytes kinds.Heartbeat channel payload f fits is_framed is_whole 
 -- ---- the verdict
 
 -- A frame that is decoded has the level, is what its payload was decoded to, and uses what the header scan used.
-pub judged_frame-is : (at_level : Bool) (r : Result Frame Fault) (n : ℕ) (f : Frame) (k : ℕ)
-    → judged_frame at_level r n ≡ took f k → (at_level ≡ true) × (r ≡ Ok f) × (n ≡ k)
-judged_frame-is true (Ok g) n f k e = (refl, cc, cc)
-judged_frame-is false (Ok g) n f k e = absurd cc
-judged_frame-is true (Err bad) n f k e = absurd cc
-judged_frame-is false (Err bad) n f k e = absurd cc
+pub judge_decoded-is : (at_level : Bool) (r : Result Frame Fault) (n : ℕ) (f : Frame) (k : ℕ)
+    → judge_decoded at_level r n ≡ took f k → (at_level ≡ true) × (r ≡ Ok f) × (n ≡ k)
+judge_decoded-is true (Ok g) n f k e = (refl, cc, cc)
+judge_decoded-is false (Ok g) n f k e = absurd cc
+judge_decoded-is true (Err bad) n f k e = absurd cc
+judge_decoded-is false (Err bad) n f k e = absurd cc
 
 -- the frame of a raw frame that stands at the front
 record IsFrameOf (level : Level) (j : Judged Raw) (f : Frame) (n : ℕ) : Type 0 where
   raw : Raw
   found : j ≡ took raw n
   at_level : is_at level raw ≡ true
-  is_whole : whole_as raw.kind raw.channel raw.payload ≡ Ok f
+  is_whole : decode_payload raw.kind raw.channel raw.payload ≡ Ok f
 
-judged-is : (level : Level) (j : Judged Raw) (f : Frame) (n : ℕ) → judged level j ≡ took f n → IsFrameOf level j f n
+judged-is : (level : Level) (j : Judged Raw) (f : Frame) (n : ℕ) → judge_scanned level j ≡ took f n → IsFrameOf level j f n
 judged-is level past f n e = absurd cc
 judged-is level (fault bad) f n e = absurd cc
 judged-is level (took raw k) f n e =
-    let h = judged_frame-is (is_at level raw) (whole_as raw.kind raw.channel raw.payload) k f n e in
+    let h = judge_decoded-is (is_at level raw) (decode_payload raw.kind raw.channel raw.payload) k f n e in
     record { raw = raw; found = ap (λ i. took raw i) h.2; at_level = h.0; is_whole = h.1 }
 
 abbrev ok_frame : Frame → Result Frame Fault
@@ -275,16 +275,16 @@ within_eight None bytes e = tt
 within_eight (Some m) bytes e = omega arith
 
 version_spells : (level : Level) (m : Option ℕ) (bytes : List ℕ) (raw : Raw) (n : ℕ) (f : Frame) → IsHeader bytes raw n
-    → whole_as raw.kind raw.channel raw.payload ≡ Ok f → Spells level (65 ∷ take n bytes) f × IsWithin m (65 ∷ take n bytes)
-unfolding whole_as
+    → decode_payload raw.kind raw.channel raw.payload ≡ Ok f → Spells level (65 ∷ take n bytes) f × IsWithin m (65 ∷ take n bytes)
+unfolding decode_payload
 version_spells level m bytes raw n f h is_whole =
     let x : Ok (Proto (get_or bytes 4 0) (get_or bytes 5 0) (get_or bytes 6 0)) ≡ ok_frame f =
-    subst (λ r. whole_as r.kind r.channel r.payload ≡ Ok f) h.raw_is is_whole in
+    subst (λ r. decode_payload r.kind r.channel r.payload ≡ Ok f) h.raw_is is_whole in
     let e : Proto (get_or bytes 4 0) (get_or bytes 5 0) (get_or bytes 6 0) ≡ f = cc in
     (subst (Spells level (65 ∷ take n bytes)) e h.spelled, within_eight m (65 ∷ take n bytes) (ap length h.spelled))
 
 framed_spells : (level : Level) (m : Option ℕ) (kind : AMQPFrameType) (bytes : List ℕ) (raw : Raw) (n : ℕ) (f : Frame)
-    → IsBytes bytes → IsMadeOf m kind bytes raw n → is_at level raw ≡ true → whole_as raw.kind raw.channel raw.payload ≡ Ok f
+    → IsBytes bytes → IsMadeOf m kind bytes raw n → is_at level raw ≡ true → decode_payload raw.kind raw.channel raw.payload ≡ Ok f
     → kind ≢ kinds.ProtocolHeader → Spells level (byte_of kind ∷ take n bytes) f × IsWithin m (byte_of kind ∷ take n bytes)
 framed_spells level m kind bytes raw n f fits h at_level is_whole other =
     let made = framed-made m kind (byte_of kind) bytes raw n fits h in
@@ -298,7 +298,7 @@ framed_spells level m kind bytes raw n f fits h at_level is_whole other =
     )
 
 behind_type-spells : (level : Level) (m : Option ℕ) (kind : AMQPFrameType) (bytes : List ℕ) (raw : Raw) (n : ℕ) (f : Frame)
-    → IsBytes bytes → behind_type m kind bytes ≡ took raw n → is_at level raw ≡ true → whole_as raw.kind raw.channel raw.payload ≡ Ok f
+    → IsBytes bytes → behind_type m kind bytes ≡ took raw n → is_at level raw ≡ true → decode_payload raw.kind raw.channel raw.payload ≡ Ok f
     → Spells level (byte_of kind ∷ take n bytes) f × IsWithin m (byte_of kind ∷ take n bytes)
 unfolding behind_type
 behind_type-spells level m kinds.ProtocolHeader bytes raw n f fits e at_level is_whole =
@@ -315,7 +315,7 @@ behind_type-spells level m kinds.Heartbeat bytes raw n f fits e at_level is_whol
 -- a frame by its type byte and what follows it
 typed-spells : (level : Level) (m : Option ℕ) (o : Option AMQPFrameType) (b : ℕ) (bytes : List ℕ) (raw : Raw) (n : ℕ) (f : Frame)
     → IsBytes bytes → type_of b ≡ o → typed m o bytes ≡ took raw n → is_at level raw ≡ true
-    → whole_as raw.kind raw.channel raw.payload ≡ Ok f → Spells level (take n (b ∷ bytes)) f × IsWithin m (take n (b ∷ bytes))
+    → decode_payload raw.kind raw.channel raw.payload ≡ Ok f → Spells level (take n (b ∷ bytes)) f × IsWithin m (take n (b ∷ bytes))
 typed-spells level m None b bytes raw n f fits t e at_level is_whole = absurd cc
 typed-spells level m (Some kind) b bytes raw n f fits t e at_level is_whole =
     let one = behind_byte-took (behind_type m kind bytes) raw n e in
@@ -326,12 +326,12 @@ typed-spells level m (Some kind) b bytes raw n f fits t e at_level is_whole =
 
 -- The bytes that decoding a frame uses encode that frame at its level, and within the limit.
 pub verdict-spells : (level : Level) (m : Option ℕ) (bytes : List ℕ) (f : Frame) (n : ℕ) → IsBytes bytes
-    → verdict level m bytes ≡ took f n → Spells level (take n bytes) f × IsWithin m (take n bytes)
-unfolding verdict
-verdict-spells level m [] f n fits e = absurd (let none = outer-none m in cc)
+    → judge_frame level m bytes ≡ took f n → Spells level (take n bytes) f × IsWithin m (take n bytes)
+unfolding judge_frame
+verdict-spells level m [] f n fits e = absurd (let none = scan-none m in cc)
 verdict-spells level m (b ∷ bytes) f n fits e =
-    let h = judged-is level (outer m (b ∷ bytes)) f n e in
-    typed-spells level m (type_of b) b bytes h.raw n f (IsBytes-drop 1 (b ∷ bytes) fits) refl (sym (outer-typed m b bytes) ∙ h.found) h.at_level h.is_whole
+    let h = judged-is level (scan m (b ∷ bytes)) f n e in
+    typed-spells level m (type_of b) b bytes h.raw n f (IsBytes-drop 1 (b ∷ bytes) fits) refl (sym (scan-typed m b bytes) ∙ h.found) h.at_level h.is_whole
 
 -- ---- a frame that is no protocol header has eight bytes beside its payload
 
@@ -358,7 +358,7 @@ typed-beside m (Some kind) bytes raw n e other =
     omega (arith, behind_type-beside m kind bytes raw one.used one.found other, one.count)
 
 -- A frame other than a protocol header uses at least eight bytes more than its payload has.
-pub outer-beside : (m : Option ℕ) (bytes : List ℕ) (raw : Raw) (n : ℕ)
-    → outer m bytes ≡ took raw n → raw.kind ≢ kinds.ProtocolHeader → length raw.payload + 8 ≤ n
-outer-beside m [] raw n e other = absurd (let none = outer-none m in cc)
-outer-beside m (b ∷ bytes) raw n e other = typed-beside m (type_of b) bytes raw n (sym (outer-typed m b bytes) ∙ e) other
+pub scan-beside : (m : Option ℕ) (bytes : List ℕ) (raw : Raw) (n : ℕ)
+    → scan m bytes ≡ took raw n → raw.kind ≢ kinds.ProtocolHeader → length raw.payload + 8 ≤ n
+scan-beside m [] raw n e other = absurd (let none = scan-none m in cc)
+scan-beside m (b ∷ bytes) raw n e other = typed-beside m (type_of b) bytes raw n (sym (scan-typed m b bytes) ∙ e) other

@@ -35,7 +35,7 @@ use Rattle.amqp_wire.specs.Canonical.{payload_of}
 use Rattle.amqp_wire.specs.Spelling.{Spells, bytes_as}
 use Rattle.amqp_wire.proofs.Tidied.{frame_decided}
 use Rattle.amqp_wire.specs.Judgements.{IsAll, JudgesAll, IsJudged, JudgesFrame}
-use Rattle.amqp_wire.specs.Verdicts.{all_of, whole_as, is_tidy_as}
+use Rattle.amqp_wire.specs.Verdicts.{all_of, decode_payload, is_tidy_as}
 use Rattle.amqp_wire.proofs.Payloads as payloads
 use Rattle.amqp_wire.proofs.Within.{filling_fails, error_whole}
 
@@ -143,7 +143,7 @@ header_trailing =
 -- What is found of the payload of a method is found of its frame.
 pub method_frame : (channel : ℕ) (payload : List ℕ) (r : Result FrameJudgement ParserError)
     → JudgesAll judge_payload payload_bytes is_tidy_payload payload r → JudgesFrame (raw_as kinds.Method channel payload) r
-unfolding whole_as is_tidy_as
+unfolding decode_payload is_tidy_as
 method_frame channel payload (Ok found) h = record {
   frame = Meth channel h.thing;
   is = ap (read_map (λ m. Meth channel m)) h.is;
@@ -155,7 +155,7 @@ method_frame channel payload (Err error) h = (h.0, payloads.refused_map error (�
 -- What is found of the payload of a content header is found of its frame.
 pub header_frame : (channel : ℕ) (payload : List ℕ) (r : Result FrameJudgement ParserError)
     → JudgesAll judge_content_header content_header_bytes is_tidy_content_header payload r → JudgesFrame (raw_as kinds.Header channel payload) r
-unfolding whole_as is_tidy_as
+unfolding decode_payload is_tidy_as
 header_frame channel payload (Ok found) h = record {
   frame = Head channel h.thing;
   is = ap (read_map (λ header. Head channel header)) h.is;
@@ -169,7 +169,7 @@ same_bytes bytes = sym ((bytes_eq-Decides bytes bytes).1 refl)
 
 -- A body frame is canonical and tidy.
 pub body_frame : (channel : ℕ) (payload : List ℕ) → JudgesFrame (raw_as kinds.Body channel payload) (Ok (record { canonical = true; tidy = true }))
-unfolding whole_as is_tidy_as
+unfolding decode_payload is_tidy_as
 body_frame channel payload = record { frame = Body channel payload; is = refl; canonical = same_bytes payload; tidy = refl }
 
 empty_decided : (payload : List ℕ) → bytes_eq payload [] ≡ eqb (length payload) 0
@@ -185,7 +185,7 @@ payload_of-beat channel = elim (cases_eq channel 0) [
 -- A heartbeat is canonical and tidy exactly where it has no payload.
 pub beat_frame : (channel : ℕ) (payload : List ℕ) (empty : Bool) → empty ≡ eqb (length payload) 0
     → JudgesFrame (raw_as kinds.Heartbeat channel payload) (Ok (record { canonical = empty; tidy = empty }))
-unfolding whole_as is_tidy_as
+unfolding decode_payload is_tidy_as
 beat_frame channel payload empty e = record {
   frame = beat_on channel;
   is = refl;
@@ -194,9 +194,10 @@ beat_frame channel payload empty e = record {
 }
 
 -- A protocol header whose version is decoded is canonical and tidy.
-pub proto_frame : (channel : ℕ) (payload : List ℕ) (v : ProtocolVersion) → whole_as kinds.ProtocolHeader channel payload ≡ Ok (Proto v.major v.minor v.revision)
+pub proto_frame : (channel : ℕ) (payload : List ℕ) (v : ProtocolVersion)
+    → decode_payload kinds.ProtocolHeader channel payload ≡ Ok (Proto v.major v.minor v.revision)
     → JudgesFrame (raw_as kinds.ProtocolHeader channel payload) (Ok (record { canonical = true; tidy = true }))
-unfolding whole_as is_tidy_as
+unfolding decode_payload is_tidy_as
 proto_frame channel [] v is = absurd cc
 proto_frame channel (a ∷ []) v is = absurd cc
 proto_frame channel (a ∷ b ∷ []) v is = absurd cc
@@ -210,7 +211,7 @@ judged_as kind other channel payload r is h = let P : AMQPFrameType → Type 0 =
 
 -- a test says exactly what is tidy, as it was decoded
 pub tidy_decided : (kind : AMQPFrameType) (channel : ℕ) (payload : List ℕ) (frame : Frame) (found : FrameJudgement) → IsBytes payload
-    → channel < 2 ^ 16 → length payload < 2 ^ 32 → whole_as kind channel payload ≡ Ok frame → IsJudged (raw_as kind channel payload) found
+    → channel < 2 ^ 16 → length payload < 2 ^ 32 → decode_payload kind channel payload ≡ Ok frame → IsJudged (raw_as kind channel payload) found
     → IsTrue found.tidy ↔ Spells tidy (bytes_as kind channel payload) frame
 tidy_decided kind channel payload frame found fits on few is h =
     let decides = frame_decided kind channel payload frame fits on few is in

@@ -1,5 +1,5 @@
 -- The lemmas of amqp_wire.
-pub mod OuterLook
+pub mod HeaderScan
 pub mod Looked
 pub mod Cuts
 pub mod Payloads

@@ -6,7 +6,7 @@ use Rattle.amqp_wire.specs.declared.looking.Look.TheVariants as looks
 use Rattle.amqp_wire.specs.declared.looking.FrameLayout.{FrameLayout}
 use Rattle.amqp_wire.specs.Frames.{Raw}
 use Rattle.amqp_wire.specs.Looks.{looked, looked_behind, laid_out_behind, IsBehind}
-use Rattle.amqp_wire.proofs.OuterLook.{behind_byte}
+use Rattle.amqp_wire.proofs.HeaderScan.{behind_byte}
 
 -- a frame with this payload whose type and channel are those of a layout
 abbrev pub raw_with : FrameLayout → List ℕ → Raw

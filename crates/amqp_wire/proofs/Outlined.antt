@@ -16,7 +16,7 @@ use Rattle.amqp_wire.specs.declared.frame_type.AMQPFrameType.TheVariants as kind
 use Rattle.amqp_wire.specs.declared.outline.FrameOutline.TheVariants as outlines
 use Rattle.amqp_wire.specs.Frames.{Frame, Proto, Meth, Head, Body, Beat, BadBeat, channel_id_of, beat_on}
 use Rattle.amqp_wire.specs.Outlines.{outline_of, outline_channel, long_long_at, outline_at, IsEnough}
-use Rattle.amqp_wire.specs.Verdicts.{all_of, whole_as}
+use Rattle.amqp_wire.specs.Verdicts.{all_of, decode_payload}
 use Rattle.amqp_wire.proofs.Encoded.{read_as}
 use Rattle.amqp_wire.proofs.Typed.{method_spells, header_spells}
 
@@ -100,8 +100,8 @@ pub record IsOutlined (kind : AMQPFrameType) (channel : ℕ) (payload : List ℕ
   pub outline_is : outline_at kind channel payload ≡ outline_of frame
 
 proto_outlined : (channel : ℕ) (payload : List ℕ) (frame : Frame)
-    → whole_as kinds.ProtocolHeader channel payload ≡ Ok frame → IsOutlined kinds.ProtocolHeader channel payload frame
-unfolding whole_as
+    → decode_payload kinds.ProtocolHeader channel payload ≡ Ok frame → IsOutlined kinds.ProtocolHeader channel payload frame
+unfolding decode_payload
 proto_outlined channel [] frame h = absurd cc
 proto_outlined channel (a ∷ []) frame h = absurd cc
 proto_outlined channel (a ∷ b ∷ []) frame h = absurd cc
@@ -111,16 +111,16 @@ proto_outlined channel (a ∷ b ∷ c ∷ []) frame h =
 proto_outlined channel (a ∷ b ∷ c ∷ d ∷ more) frame h = absurd cc
 
 method_outlined : (channel : ℕ) (payload : List ℕ) (frame : Frame) → IsBytes payload
-    → whole_as kinds.Method channel payload ≡ Ok frame → IsOutlined kinds.Method channel payload frame
-unfolding whole_as
+    → decode_payload kinds.Method channel payload ≡ Ok frame → IsOutlined kinds.Method channel payload frame
+unfolding decode_payload
 method_outlined channel payload frame fits h =
     let read = read_as (λ x. Meth channel x) (all_of judge_payload payload) frame h in
     let ids = ids_spelled payload read.0 (method_spells plain payload read.0 fits read.1 refl) in
     record { enough = ids.enough; outline_is = ap₂ (λ class id. outlines.Method channel class id) ids.class_is ids.id_is ∙ ap outline_of read.2 }
 
 header_outlined : (channel : ℕ) (payload : List ℕ) (frame : Frame) → IsBytes payload
-    → whole_as kinds.Header channel payload ≡ Ok frame → IsOutlined kinds.Header channel payload frame
-unfolding whole_as
+    → decode_payload kinds.Header channel payload ≡ Ok frame → IsOutlined kinds.Header channel payload frame
+unfolding decode_payload
 header_outlined channel payload frame fits h =
     let read = read_as (λ x. Head channel x) (all_of judge_content_header payload) frame h in
     let front = header_front (header_spells plain payload read.0 fits read.1 refl) in
@@ -139,8 +139,8 @@ beat_outline channel = elim (cases_eq channel 0) [
 
 -- The ids and sizes of a frame that is decoded can be read at the front of its payload.
 pub outlined : (kind : AMQPFrameType) (channel : ℕ) (payload : List ℕ) (frame : Frame)
-    → IsBytes payload → whole_as kind channel payload ≡ Ok frame → IsOutlined kind channel payload frame
-unfolding whole_as
+    → IsBytes payload → decode_payload kind channel payload ≡ Ok frame → IsOutlined kind channel payload frame
+unfolding decode_payload
 outlined kinds.ProtocolHeader channel payload frame fits h = proto_outlined channel payload frame h
 outlined kinds.Method channel payload frame fits h = method_outlined channel payload frame fits h
 outlined kinds.Header channel payload frame fits h = header_outlined channel payload frame fits h
@@ -153,6 +153,6 @@ outlined kinds.Heartbeat channel payload frame fits h =
 
 -- ids and sizes stand in each payload that is a frame
 pub enough_whole : (kind : AMQPFrameType) (channel : ℕ) (payload : List ℕ) (read : Result Frame Fault)
-    → IsBytes payload → whole_as kind channel payload ≡ read → IsOk read → IsEnough kind payload
+    → IsBytes payload → decode_payload kind channel payload ≡ read → IsOk read → IsEnough kind payload
 enough_whole kind channel payload (Ok frame) fits is h = (outlined kind channel payload frame fits is).enough
 enough_whole kind channel payload (Err bad) fits is h = absurd (cc)

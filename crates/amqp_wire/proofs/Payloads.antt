@@ -15,23 +15,23 @@ use Rattle.amqp_types.specs.declared.errors.ParserError.TheVariants as errors
 use Rattle.amqp_types.proofs.FormLaws.{is_plain}
 use Rattle.amqp_laws.proofs.Filling.{RefusesWhole-map}
 use Rattle.amqp_wire.specs.Frames.{Frame}
-use Rattle.amqp_wire.specs.Verdicts.{filling, all_of, judged_frame}
+use Rattle.amqp_wire.specs.Verdicts.{filling, all_of, judge_decoded}
 
 -- ---- refusals
 
 -- a fault of a whole payload is one of its frame
-pub refused_frame : (error : ParserError) (read : Result Frame Fault) (n : ℕ) → RefusesWhole error read → Refuses error (judged_frame true read n)
+pub refused_frame : (error : ParserError) (read : Result Frame Fault) (n : ℕ) → RefusesWhole error read → Refuses error (judge_decoded true read n)
 refused_frame errors.Incomplete read n h = absurd h
-refused_frame errors.UnknownFrameType read n h = ap (λ r. judged_frame true r n) h
-refused_frame errors.BadProtocolHeader read n h = ap (λ r. judged_frame true r n) h
-refused_frame errors.BadFrameEnd read n h = ap (λ r. judged_frame true r n) h
-refused_frame errors.UnknownClass read n h = ap (λ r. judged_frame true r n) h
-refused_frame errors.UnknownMethod read n h = ap (λ r. judged_frame true r n) h
-refused_frame errors.ShortPayload read n h = ap (λ r. judged_frame true r n) h
-refused_frame errors.TrailingBytes read n h = ap (λ r. judged_frame true r n) h
-refused_frame errors.NotUtf8 read n h = ap (λ r. judged_frame true r n) h
-refused_frame errors.UnknownTag read n h = ap (λ r. judged_frame true r n) h
-refused_frame errors.TooDeep read n h = ap (λ r. judged_frame true r n) h
+refused_frame errors.UnknownFrameType read n h = ap (λ r. judge_decoded true r n) h
+refused_frame errors.BadProtocolHeader read n h = ap (λ r. judge_decoded true r n) h
+refused_frame errors.BadFrameEnd read n h = ap (λ r. judge_decoded true r n) h
+refused_frame errors.UnknownClass read n h = ap (λ r. judge_decoded true r n) h
+refused_frame errors.UnknownMethod read n h = ap (λ r. judge_decoded true r n) h
+refused_frame errors.ShortPayload read n h = ap (λ r. judge_decoded true r n) h
+refused_frame errors.TrailingBytes read n h = ap (λ r. judge_decoded true r n) h
+refused_frame errors.NotUtf8 read n h = ap (λ r. judge_decoded true r n) h
+refused_frame errors.UnknownTag read n h = ap (λ r. judge_decoded true r n) h
+refused_frame errors.TooDeep read n h = ap (λ r. judge_decoded true r n) h
 refused_frame errors.NoMemory read n h = tt
 
 -- a refusal of what is decoded is one of the whole payload

@@ -15,7 +15,7 @@ use Rattle.amqp_laws.proofs.ValueLaws.{sized}
 use Rattle.amqp_laws.proofs.MethodLaws.{payload_held}
 use Rattle.amqp_laws.proofs.HeaderLaws.{header_held}
 use Rattle.amqp_wire.specs.Frames.{Frame, Proto, Meth, Head, Body, Beat, BadBeat}
-use Rattle.amqp_wire.specs.Verdicts.{verdict}
+use Rattle.amqp_wire.specs.Verdicts.{judge_frame}
 use Rattle.amqp_wire.specs.Spelling.{framed, Spells}
 use Rattle.amqp_wire.specs.Canonical.{canon, is_deep, is_long, is_long_for, size_of, read_back}
 use Rattle.amqp_wire.specs.Laws.{IsFrameHeld, ReadsBack}
@@ -51,13 +51,13 @@ canon_spells (BadBeat channel) held deep long = elim (cases_eq channel 0) [
 ]
 
 -- a front that is decoded is not shorter than what all the bytes are decoded to be
-judged_front : (level : Level) (first rest : List ℕ) (f : Frame) (j : Judged Frame) → verdict level None first ≡ j
-    → verdict level None (first ++ rest) ≡ took f (length (first ++ rest)) → rest ≢ [] → j ≡ past
+judged_front : (level : Level) (first rest : List ℕ) (f : Frame) (j : Judged Frame) → judge_frame level None first ≡ j
+    → judge_frame level None (first ++ rest) ≡ took f (length (first ++ rest)) → rest ≢ [] → j ≡ past
 judged_front level first rest f past e whole some = refl
 judged_front level first rest f (fault bad) e whole some = absurd (let same = verdict-append level None first rest (λ h. absurd cc) in cc)
 judged_front level first rest f (took g n) e whole some =
     let same = verdict-append level None first rest (λ h. absurd cc) in
-    let count : n ≡ length (first ++ rest) = took_count (verdict level None (first ++ rest)) g f n (length (first ++ rest)) (same ∙ e) whole in
+    let count : n ≡ length (first ++ rest) = took_count (judge_frame level None (first ++ rest)) g f n (length (first ++ rest)) (same ∙ e) whole in
     let within = (verdict-got_within level None first g n e).1 in
     absurd (some (nil_from_length rest (omega (arith, length-append first rest, count, within))))
 
@@ -67,15 +67,15 @@ unfolding size_of
 reads_back level f held size =
     let ok = sized (is_deep f) (is_long f) (canon f) size in
     let spelled = canon_spells f held ok.0 ok.1 in
-    let whole : (rest : List ℕ) → verdict level None (canon f ++ rest) ≡ took (read_back f) (length (canon f)) =
+    let whole : (rest : List ℕ) → judge_frame level None (canon f ++ rest) ≡ took (read_back f) (length (canon f)) =
     λ rest. verdict-spelled_before level None (canon f) rest (read_back f) (frame_from_strict level (canon f) (read_back f) spelled) tt in
     record {
       whole = whole;
       fewer = λ first rest parts some.
-          let all : verdict level None (first ++ rest) ≡ took (read_back f) (length (first ++ rest)) =
-          subst (λ (xs : List ℕ). verdict level None xs ≡ took (read_back f) (length xs)) parts
-          (subst (λ (xs : List ℕ). verdict level None xs ≡ took (read_back f) (length (canon f))) (append-nil (canon f)) (whole [])) in
-          judged_front level first rest (read_back f) (verdict level None first) refl all some;
+          let all : judge_frame level None (first ++ rest) ≡ took (read_back f) (length (first ++ rest)) =
+          subst (λ (xs : List ℕ). judge_frame level None xs ≡ took (read_back f) (length xs)) parts
+          (subst (λ (xs : List ℕ). judge_frame level None xs ≡ took (read_back f) (length (canon f))) (append-nil (canon f)) (whole [])) in
+          judged_front level first rest (read_back f) (judge_frame level None first) refl all some;
     }
 
 sized_ok : (size : Result ℕ GenError) (bytes : List ℕ) → SizeIs size bytes → IsOk size → size ≡ Ok (length bytes)

@@ -23,7 +23,7 @@ use Rattle.amqp_wire.specs.Spelling.{framed}
 use Rattle.amqp_wire.specs.Canonical.{canon, payload_of}
 use Rattle.amqp_wire.specs.Judgements.{IsJudged}
 use Rattle.amqp_wire.specs.Rewrites.{Rewrites}
-use Rattle.amqp_wire.specs.Verdicts.{all_of, is_written_for, whole, whole_as}
+use Rattle.amqp_wire.specs.Verdicts.{all_of, is_written_for, decode_raw, decode_payload}
 use Rattle.amqp_wire.proofs.Payloads.{filled_took}
 use Rattle.amqp_types.specs.Tidiness.{used_by}
 
@@ -71,14 +71,14 @@ payload_of_all make bytes judge payload frame no_longer fits h =
 
 -- A payload that is decoded to be a method frame is decoded to be its method, whose canonical bytes are no longer than the payload.
 pub method_payload : (channel : ℕ) (payload : List ℕ) (frame : Frame) → IsBytes payload
-    → whole_as kinds.Method channel payload ≡ Ok frame → Payload (λ m. Meth channel m) payload_bytes (judge_payload payload) payload frame
-unfolding whole_as
+    → decode_payload kinds.Method channel payload ≡ Ok frame → Payload (λ m. Meth channel m) payload_bytes (judge_payload payload) payload frame
+unfolding decode_payload
 method_payload channel payload frame fits h = payload_of_all (λ m. Meth channel m) payload_bytes judge_payload payload frame payloads_no_longer fits h
 
 -- A payload that is decoded to be a header frame is decoded to be its content header, whose canonical bytes are no longer than the payload.
-pub header_payload : (channel : ℕ) (payload : List ℕ) (frame : Frame) → IsBytes payload → whole_as kinds.Header channel payload ≡ Ok frame
+pub header_payload : (channel : ℕ) (payload : List ℕ) (frame : Frame) → IsBytes payload → decode_payload kinds.Header channel payload ≡ Ok frame
     → Payload (λ header. Head channel header) content_header_bytes (judge_content_header payload) payload frame
-unfolding whole_as
+unfolding decode_payload
 header_payload channel payload frame fits h =
     payload_of_all (λ header. Head channel header) content_header_bytes judge_content_header payload frame content_headers_no_longer fits h
 
@@ -103,13 +103,13 @@ written_of raw found h canonical =
     (bytes_eq-Decides raw.payload (payload_of h.frame)).0 (sym (ap (λ r. is_written_for r raw.payload) h.is) ∙ sym h.canonical ∙ canonical)
 
 -- what is put is the canonical bytes of the frame
-rewrites : (old new : List ℕ) (at end : ℕ) (raw : Raw) (f : Frame) (bytes : List ℕ) → whole raw ≡ Ok f
-    → bytes ≡ canon f → Puts old new at bytes end → Rewrites old new at (whole raw) (Ok end)
+rewrites : (old new : List ℕ) (at end : ℕ) (raw : Raw) (f : Frame) (bytes : List ℕ) → decode_raw raw ≡ Ok f
+    → bytes ≡ canon f → Puts old new at bytes end → Rewrites old new at (decode_raw raw) (Ok end)
 rewrites old new at end raw f bytes w is h = let P : List ℕ → Type 0 = λ bs. Puts old new at bs end in (f, w, subst P is h)
 
 -- the frame is one of this type
-whole_at : (raw : Raw) (kind : AMQPFrameType) (f : Frame) → raw.kind ≡ kind → whole raw ≡ Ok f → whole_as kind raw.channel raw.payload ≡ Ok f
-whole_at raw kind f is w = ap (λ k. whole_as k raw.channel raw.payload) (sym is) ∙ w
+whole_at : (raw : Raw) (kind : AMQPFrameType) (f : Frame) → raw.kind ≡ kind → decode_raw raw ≡ Ok f → decode_payload kind raw.channel raw.payload ≡ Ok f
+whole_at raw kind f is w = ap (λ k. decode_payload k raw.channel raw.payload) (sym is) ∙ w
 
 -- The payload of a method that was decoded is decoded whole, to the method of its frame.
 pub method_judged : (raw : Raw) (found : FrameJudgement) → raw.kind ≡ kinds.Method → IsBytes raw.payload
@@ -123,7 +123,7 @@ header_judged raw found kind fits h = header_payload raw.channel raw.payload h.f
 
 -- a payload that stands in its canonical bytes
 pub method_stands : (old new : List ℕ) (at end : ℕ) (raw : Raw) (found : FrameJudgement) → raw.kind ≡ kinds.Method → IsBytes raw.payload
-    → found.canonical ≡ true → IsJudged raw found → Puts old new at (framed 1 raw.channel raw.payload) end → Rewrites old new at (whole raw) (Ok end)
+    → found.canonical ≡ true → IsJudged raw found → Puts old new at (framed 1 raw.channel raw.payload) end → Rewrites old new at (decode_raw raw) (Ok end)
 unfolding canon
 method_stands old new at end raw found kind fits canonical h p =
     let q = method_judged raw found kind fits h in
@@ -132,7 +132,7 @@ method_stands old new at end raw found kind fits canonical h p =
 
 -- A content header that is canonical is rewritten by putting its payload as it stands.
 pub header_stands : (old new : List ℕ) (at end : ℕ) (raw : Raw) (found : FrameJudgement) → raw.kind ≡ kinds.Header → IsBytes raw.payload
-    → found.canonical ≡ true → IsJudged raw found → Puts old new at (framed 2 raw.channel raw.payload) end → Rewrites old new at (whole raw) (Ok end)
+    → found.canonical ≡ true → IsJudged raw found → Puts old new at (framed 2 raw.channel raw.payload) end → Rewrites old new at (decode_raw raw) (Ok end)
 unfolding canon
 header_stands old new at end raw found kind fits canonical h p =
     let q = header_judged raw found kind fits h in
@@ -141,7 +141,7 @@ header_stands old new at end raw found kind fits canonical h p =
 
 -- one that is written anew
 pub method_rewritten : (old new : List ℕ) (at end : ℕ) (raw : Raw) (found : FrameJudgement) → raw.kind ≡ kinds.Method → IsBytes raw.payload → IsJudged raw found
-    → Puts old new at (framed 1 raw.channel (canonical_of payload_bytes (judge_payload raw.payload))) end → Rewrites old new at (whole raw) (Ok end)
+    → Puts old new at (framed 1 raw.channel (canonical_of payload_bytes (judge_payload raw.payload))) end → Rewrites old new at (decode_raw raw) (Ok end)
 unfolding canon
 method_rewritten old new at end raw found kind fits h p =
     let q = method_judged raw found kind fits h in
@@ -150,7 +150,7 @@ method_rewritten old new at end raw found kind fits h p =
 -- A content header is rewritten by putting a frame with its canonical payload.
 pub header_rewritten : (old new : List ℕ) (at end : ℕ) (raw : Raw) (found : FrameJudgement) → raw.kind ≡ kinds.Header → IsBytes raw.payload
     → IsJudged raw found → Puts old new at (framed 2 raw.channel (canonical_of content_header_bytes (judge_content_header raw.payload))) end
-    → Rewrites old new at (whole raw) (Ok end)
+    → Rewrites old new at (decode_raw raw) (Ok end)
 unfolding canon
 header_rewritten old new at end raw found kind fits h p =
     let q = header_judged raw found kind fits h in
@@ -158,8 +158,8 @@ header_rewritten old new at end raw found kind fits h p =
 
 -- A body is rewritten by putting a frame with its payload as it stands.
 pub body_put : (old new : List ℕ) (at end : ℕ) (raw : Raw) → raw.kind ≡ kinds.Body
-    → Puts old new at (framed 3 raw.channel raw.payload) end → Rewrites old new at (whole raw) (Ok end)
-unfolding whole_as canon
+    → Puts old new at (framed 3 raw.channel raw.payload) end → Rewrites old new at (decode_raw raw) (Ok end)
+unfolding decode_payload canon
 body_put old new at end raw kind p = (Body raw.channel raw.payload, rw kind refl, p)
 
 -- The canonical bytes of a heartbeat are a frame with no payload.
@@ -172,8 +172,8 @@ canon_beat channel = elim (cases_eq channel 0) [
 
 -- A heartbeat is rewritten by putting a frame of type 8 with no payload.
 pub beat_put : (old new : List ℕ) (at end : ℕ) (raw : Raw) (bytes : List ℕ) → raw.kind ≡ kinds.Heartbeat
-    → bytes ≡ framed 8 raw.channel [] → Puts old new at bytes end → Rewrites old new at (whole raw) (Ok end)
-unfolding whole_as
+    → bytes ≡ framed 8 raw.channel [] → Puts old new at bytes end → Rewrites old new at (decode_raw raw) (Ok end)
+unfolding decode_payload
 beat_put old new at end raw bytes kind is p = rewrites old new at end raw (beat_on raw.channel) bytes (rw kind refl) (is ∙ canon_beat raw.channel) p
 
 -- a frame has eight bytes around its payload at most, or eight in all
@@ -187,9 +187,9 @@ around_most kinds.Heartbeat n = omega arith
 -- ---- a protocol header
 
 -- the payload has three bytes, which follow the mark in the canonical bytes
-version_as : (channel : ℕ) (payload : List ℕ) (frame : Frame) → whole_as kinds.ProtocolHeader channel payload ≡ Ok frame
+version_as : (channel : ℕ) (payload : List ℕ) (frame : Frame) → decode_payload kinds.ProtocolHeader channel payload ≡ Ok frame
     → (length payload ≡ 3) × (65 ∷ 77 ∷ 81 ∷ 80 ∷ 0 ∷ payload ≡ canon frame)
-unfolding whole_as canon
+unfolding decode_payload canon
 version_as channel [] frame is = absurd cc
 version_as channel (a ∷ []) frame is = absurd cc
 version_as channel (a ∷ b ∷ []) frame is = absurd cc
@@ -212,7 +212,7 @@ module _ (old mid : List ℕ) (at place : ℕ) (raw : Raw) (found : FrameJudgeme
       omega (arith, version_is.0, first.behind, size, room, version_length)
 
   -- A protocol header is rewritten by putting its version after the protocol name.
-  pub version_put : (new : List ℕ) (end : ℕ) → Puts mid new place raw.payload end → Rewrites old new at (whole raw) (Ok end)
+  pub version_put : (new : List ℕ) (end : ℕ) → Puts mid new place raw.payload end → Rewrites old new at (decode_raw raw) (Ok end)
   version_put new end second =
       rewrites old new at end raw h.frame _ h.is version_is.1
       (puts_then old mid new at place end (65 ∷ 77 ∷ 81 ∷ 80 ∷ 0 ∷ []) raw.payload (omega (arith, room, version_length, version_is.0)) first second)

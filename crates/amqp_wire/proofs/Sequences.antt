@@ -7,7 +7,7 @@ use Rattle.amqp_types.specs.Judging.{Fault, Judged, past, fault, took, IsBytes, 
 use Rattle.amqp_types.proofs.Bytes.{IsBytes-drop}
 use Rattle.amqp_types.proofs.Exact.{none_begins}
 use Rattle.amqp_wire.specs.Frames.{Frame}
-use Rattle.amqp_wire.specs.Verdicts.{verdict}
+use Rattle.amqp_wire.specs.Verdicts.{judge_frame}
 use Rattle.amqp_wire.specs.Spelling.{Spells, SpellsFrames}
 use Rattle.amqp_wire.specs.Fronts.{front, place, ComesBefore}
 use Rattle.amqp_wire.specs.Laws.{SpellsWithin, IsLongestSequence}
@@ -19,7 +19,7 @@ use Rattle.amqp_wire.proofs.Encoded.{verdict-spells}
 -- ---- frames
 
 -- Decoding a frame takes exactly what encodes it within the limit.
-pub verdict_exact : (level : Level) (m : Option ℕ) → IsExact (verdict level m) (SpellsWithin level m)
+pub verdict_exact : (level : Level) (m : Option ℕ) → IsExact (judge_frame level m) (SpellsWithin level m)
 verdict_exact level m = record {
   spelled = λ bytes f n fits e. (verdict-spells level m bytes f n fits e, (verdict-got_within level m bytes f n e).1);
   taken = λ bytes rest f s. verdict-spelled_before level m bytes rest f s.0 s.1;
@@ -27,15 +27,16 @@ verdict_exact level m = record {
 
 -- No encoding of a frame begins a longer encoding of a frame.
 pub no_frame_begins : (level : Level) (bytes rest : List ℕ) (f g : Frame) → Spells level bytes f → Spells level (bytes ++ rest) g → rest ≡ []
-no_frame_begins level bytes rest f g s t = none_begins (verdict level None) (SpellsWithin level None) (verdict_exact level None) bytes rest f g (s, tt) (t, tt)
+no_frame_begins level bytes rest f g s t =
+    none_begins (judge_frame level None) (SpellsWithin level None) (verdict_exact level None) bytes rest f g (s, tt) (t, tt)
 
 -- ---- a sequence is what is cut from the front, whatever follows it
 
 ComesBefore-first : (level : Level) (m : Option ℕ) (first rest : List ℕ) (f : Frame) (frames : List Frame)
-    → verdict level m first ≡ took f (length first) → ComesBefore level m rest frames → ComesBefore level m (first ++ rest) (f ∷ frames)
+    → judge_frame level m first ≡ took f (length first) → ComesBefore level m rest frames → ComesBefore level m (first ++ rest) (f ∷ frames)
 ComesBefore-first level m first rest f frames e p =
-    let found : (more : List ℕ) → verdict level m (first ++ more) ≡ took f (length first) = λ more.
-    subst (λ (xs : List ℕ). verdict level m (xs ++ more) ≡ took f (length first))
+    let found : (more : List ℕ) → judge_frame level m (first ++ more) ≡ took f (length first) = λ more.
+    subst (λ (xs : List ℕ). judge_frame level m (xs ++ more) ≡ took f (length first))
     (take_all (length first) first (omega arith)) (verdict-exact level m first more f (length first) e) in
     let goes : (more : List ℕ) → GoesOn level m (first ++ more) f more = λ more.
     subst (λ (xs : List ℕ). GoesOn level m (first ++ more) f xs) (drop_at first more (length first) refl)
@@ -78,16 +79,16 @@ pub record Splits (level : Level) (m : Option ℕ) (bytes : List ℕ) : Type 0 w
   pub used : List ℕ
   pub parts : bytes ≡ used ++ place level m bytes
   pub sequence : ComesBefore level m used (front level m bytes)
-  pub stop : IsStop (verdict level m (place level m bytes))
+  pub stop : IsStop (judge_frame level m (place level m bytes))
 
-splits_stop : (level : Level) (m : Option ℕ) (bytes : List ℕ) → IsStop (verdict level m bytes) → Splits level m bytes
+splits_stop : (level : Level) (m : Option ℕ) (bytes : List ℕ) → IsStop (judge_frame level m bytes) → Splits level m bytes
 splits_stop level m bytes s =
     let at = front-stop level m bytes s in
     record {
       used = [];
       parts = sym at.1;
       sequence = subst (λ (fs : List Frame). ComesBefore level m [] fs) (sym at.0) (ComesBefore-none level m);
-      stop = subst (λ (xs : List ℕ). IsStop (verdict level m xs)) (sym at.1) s;
+      stop = subst (λ (xs : List ℕ). IsStop (judge_frame level m xs)) (sym at.1) s;
     }
 
 -- the front and what was used after a first frame
@@ -98,15 +99,15 @@ parts_behind level m bytes used f k goes parts =
     ∙ sym (append_assoc (take k bytes) used (place level m (drop k bytes))) ∙ ap (λ (xs : List ℕ). (take k bytes ++ used) ++ xs) (sym goes.after)
 
 splits_step : (level : Level) (m : Option ℕ) (n : ℕ) (bytes : List ℕ) → length bytes ≤ suc n
-    → ((rest : List ℕ) → length rest ≤ n → Splits level m rest) → (j : Judged Frame) → verdict level m bytes ≡ j → Splits level m bytes
+    → ((rest : List ℕ) → length rest ≤ n → Splits level m rest) → (j : Judged Frame) → judge_frame level m bytes ≡ j → Splits level m bytes
 splits_step level m n bytes few ih past e = splits_stop level m bytes (rw e tt)
 splits_step level m n bytes few ih (fault bad) e = splits_stop level m bytes (rw e tt)
 splits_step level m n bytes few ih (took f k) e =
     let at = verdict-got_within level m bytes f k e in
     let rest = ih (drop k bytes) (omega (arith, length-drop k bytes)) in
     let goes = front-got level m bytes f k e in
-    let first : verdict level m (take k bytes) ≡ took f (length (take k bytes)) =
-    subst (λ (xs : List ℕ). verdict level m xs ≡ took f k) (append-nil (take k bytes)) (verdict-exact level m bytes [] f k e)
+    let first : judge_frame level m (take k bytes) ≡ took f (length (take k bytes)) =
+    subst (λ (xs : List ℕ). judge_frame level m xs ≡ took f k) (append-nil (take k bytes)) (verdict-exact level m bytes [] f k e)
     ∙ ap (λ i. took f i) (sym (length-take-le k bytes at.1)) in
     record {
       used = take k bytes ++ rest.used;
@@ -114,13 +115,13 @@ splits_step level m n bytes few ih (took f k) e =
       sequence =
           subst (λ (fs : List Frame). ComesBefore level m (take k bytes ++ rest.used) fs) (sym goes.sequence)
           (ComesBefore-first level m (take k bytes) rest.used f (front level m (drop k bytes)) first rest.sequence);
-      stop = subst (λ (xs : List ℕ). IsStop (verdict level m xs)) (sym goes.after) rest.stop;
+      stop = subst (λ (xs : List ℕ). IsStop (judge_frame level m xs)) (sym goes.after) rest.stop;
     }
 
 splits_by : (level : Level) (m : Option ℕ) (n : ℕ) (bytes : List ℕ) → length bytes ≤ n → Splits level m bytes
 splits_by level m zero bytes few =
-    splits_stop level m bytes (subst (λ (xs : List ℕ). IsStop (verdict level m xs)) (sym (nil_from_length bytes (omega arith))) (stop-none level m))
-splits_by level m (suc n) bytes few = splits_step level m n bytes few (λ rest. splits_by level m n rest) (verdict level m bytes) refl
+    splits_stop level m bytes (subst (λ (xs : List ℕ). IsStop (judge_frame level m xs)) (sym (nil_from_length bytes (omega arith))) (stop-none level m))
+splits_by level m (suc n) bytes few = splits_step level m n bytes few (λ rest. splits_by level m n rest) (judge_frame level m bytes) refl
 
 -- Bytes are those of the frames at their front and what comes after them, which is no whole frame.
 pub splits_of : (level : Level) (m : Option ℕ) (bytes : List ℕ) → Splits level m bytes
@@ -136,14 +137,14 @@ pub record FrontIsSequence (level : Level) (m : Option ℕ) (bytes : List ℕ) :
   pub parts : bytes ≡ used ++ place level m bytes
   pub sequence : SpellsFrames level m used (front level m bytes)
 
-sequence_stop : (level : Level) (m : Option ℕ) (bytes : List ℕ) → IsStop (verdict level m bytes) → FrontIsSequence level m bytes
+sequence_stop : (level : Level) (m : Option ℕ) (bytes : List ℕ) → IsStop (judge_frame level m bytes) → FrontIsSequence level m bytes
 sequence_stop level m bytes s =
     let at = front-stop level m bytes s in
     record { used = []; parts = sym at.1; sequence = subst (λ (fs : List Frame). SpellsFrames level m [] fs) (sym at.0) refl }
 
 sequence_step : (level : Level) (m : Option ℕ) (n : ℕ) (bytes : List ℕ) → IsBytes bytes
     → length bytes ≤ suc n → ((rest : List ℕ) → IsBytes rest → length rest ≤ n → FrontIsSequence level m rest)
-    → (j : Judged Frame) → verdict level m bytes ≡ j → FrontIsSequence level m bytes
+    → (j : Judged Frame) → judge_frame level m bytes ≡ j → FrontIsSequence level m bytes
 sequence_step level m n bytes fits few ih past e = sequence_stop level m bytes (rw e tt)
 sequence_step level m n bytes fits few ih (fault bad) e = sequence_stop level m bytes (rw e tt)
 sequence_step level m n bytes fits few ih (took f k) e =
@@ -161,8 +162,8 @@ sequence_step level m n bytes fits few ih (took f k) e =
 
 sequence_by : (level : Level) (m : Option ℕ) (n : ℕ) (bytes : List ℕ) → IsBytes bytes → length bytes ≤ n → FrontIsSequence level m bytes
 sequence_by level m zero bytes fits few =
-    sequence_stop level m bytes (subst (λ (xs : List ℕ). IsStop (verdict level m xs)) (sym (nil_from_length bytes (omega arith))) (stop-none level m))
-sequence_by level m (suc n) bytes fits few = sequence_step level m n bytes fits few (λ rest. sequence_by level m n rest) (verdict level m bytes) refl
+    sequence_stop level m bytes (subst (λ (xs : List ℕ). IsStop (judge_frame level m xs)) (sym (nil_from_length bytes (omega arith))) (stop-none level m))
+sequence_by level m (suc n) bytes fits few = sequence_step level m n bytes fits few (λ rest. sequence_by level m n rest) (judge_frame level m bytes) refl
 
 -- Bytes begin with an encoding of the frames at their front.
 pub front-is_sequence : (level : Level) (m : Option ℕ) (bytes : List ℕ) → IsBytes bytes → FrontIsSequence level m bytes
@@ -202,12 +203,12 @@ longest_sequence level m bytes fits =
 -- ---- a fault at the place stays there, whatever follows, and no more frames are in front of it
 
 stops_before : (level : Level) (m : Option ℕ) (bytes rest : List ℕ) (bad : Fault)
-    → verdict level m (place level m bytes) ≡ fault bad → verdict level m (place level m bytes ++ rest) ≡ fault bad
+    → judge_frame level m (place level m bytes) ≡ fault bad → judge_frame level m (place level m bytes ++ rest) ≡ fault bad
 stops_before level m bytes rest bad e = verdict-append level m (place level m bytes) rest (λ h. absurd cc) ∙ e
 
 -- A fault after the frames at the front stays where more bytes come.
 pub place_fault : (level : Level) (m : Option ℕ) (bytes rest : List ℕ) (bad : Fault)
-    → verdict level m (place level m bytes) ≡ fault bad → verdict level m (place level m (bytes ++ rest)) ≡ fault bad
+    → judge_frame level m (place level m bytes) ≡ fault bad → judge_frame level m (place level m (bytes ++ rest)) ≡ fault bad
 place_fault level m bytes rest bad e =
     let s = splits_of level m bytes in
     let p = place level m bytes in
@@ -215,11 +216,11 @@ place_fault level m bytes rest bad e =
     let stop : place level m (p ++ rest) ≡ p ++ rest = (front-stop level m (p ++ rest) (rw more tt)).1 in
     let same : place level m (bytes ++ rest) ≡ p ++ rest =
     ap (λ (xs : List ℕ). place level m (xs ++ rest)) s.parts ∙ ap (place level m) (append_assoc s.used p rest) ∙ s.sequence.after (p ++ rest) ∙ stop in
-    ap (verdict level m) same ∙ more
+    ap (judge_frame level m) same ∙ more
 
 -- Where a fault comes after the frames at the front, more bytes change nothing of these frames.
 pub front_fault : (level : Level) (m : Option ℕ) (bytes rest : List ℕ) (bad : Fault)
-    → verdict level m (place level m bytes) ≡ fault bad → front level m (bytes ++ rest) ≡ front level m bytes
+    → judge_frame level m (place level m bytes) ≡ fault bad → front level m (bytes ++ rest) ≡ front level m bytes
 front_fault level m bytes rest bad e =
     let s = splits_of level m bytes in
     let p = place level m bytes in

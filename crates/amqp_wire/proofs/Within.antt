@@ -20,7 +20,7 @@ use Rattle.amqp_wire.specs.declared.frame_type.AMQPFrameType.TheVariants as kind
 use Rattle.amqp_wire.specs.Frames.{Frame, Proto, Meth, Head}
 use Rattle.amqp_wire.specs.Spelling.{framed, proto, byte_of}
 use Rattle.amqp_wire.specs.Canonical.{canon, size_of}
-use Rattle.amqp_wire.specs.Verdicts.{IsPayloadError, filling, all_of, whole_as, verdict}
+use Rattle.amqp_wire.specs.Verdicts.{IsPayloadError, filling, all_of, decode_payload, judge_frame}
 use Rattle.amqp_wire.proofs.Cuts.{verdict-got_within}
 use Rattle.amqp_wire.proofs.Encoded.{spells_as, verdict-spells}
 use Rattle.amqp_wire.proofs.Strictness.{spelled_sized}
@@ -30,7 +30,7 @@ use Rattle.amqp_wire.proofs.Sizes.{framed_length}
 
 -- a frame around the payload is encoded by eight bytes more
 around : (kind : AMQPFrameType) (channel : ℕ) (payload : List ℕ) (f : Frame) → (kind ≡ kinds.ProtocolHeader → ⊥) → channel < 2 ^ 16
-    → IsBytes payload → length payload < 2 ^ 32 → whole_as kind channel payload ≡ Ok f → IsSizedWithin (size_of f) (canon f) (length payload + 8)
+    → IsBytes payload → length payload < 2 ^ 32 → decode_payload kind channel payload ≡ Ok f → IsSizedWithin (size_of f) (canon f) (length payload + 8)
 around kind channel payload f other on fits few e =
     let bytes = framed (byte_of kind) channel payload in
     let spelled = spells_as plain bytes kind channel payload f fits (record { channel_fits = on; length_fits = few; bytes_are = refl }) e refl other in
@@ -43,8 +43,8 @@ header_sized a b c f same =
 
 -- A frame that was decoded from a whole payload has a size, which is at most that of the payload and eight bytes.
 pub whole_sized : (kind : AMQPFrameType) (channel : ℕ) (payload : List ℕ) (f : Frame) → channel < 2 ^ 16 → IsBytes payload
-    → length payload < 2 ^ 32 → whole_as kind channel payload ≡ Ok f → IsSizedWithin (size_of f) (canon f) (length payload + 8)
-unfolding whole_as
+    → length payload < 2 ^ 32 → decode_payload kind channel payload ≡ Ok f → IsSizedWithin (size_of f) (canon f) (length payload + 8)
+unfolding decode_payload
 whole_sized kinds.ProtocolHeader channel [] f on fits few e = absurd cc
 whole_sized kinds.ProtocolHeader channel (a ∷ []) f on fits few e = absurd cc
 whole_sized kinds.ProtocolHeader channel (a ∷ b ∷ []) f on fits few e = absurd cc
@@ -56,7 +56,7 @@ whole_sized kinds.Body channel payload f on fits few e = around kinds.Body chann
 whole_sized kinds.Heartbeat channel payload f on fits few e = around kinds.Heartbeat channel payload f (λ h. absurd cc) on fits few e
 
 -- A frame that was decoded at level plain has a size, which is no more than the bytes that it used.
-pub verdict_sized : (bytes : List ℕ) (f : Frame) (n : ℕ) → IsBytes bytes → verdict plain None bytes ≡ took f n → IsSizedWithin (size_of f) (canon f) n
+pub verdict_sized : (bytes : List ℕ) (f : Frame) (n : ℕ) → IsBytes bytes → judge_frame plain None bytes ≡ took f n → IsSizedWithin (size_of f) (canon f) n
 verdict_sized bytes f n fits e =
     let spelled = verdict-spells plain None bytes f n fits e in
     subst (IsSizedWithin (size_of f) (canon f))
@@ -87,8 +87,8 @@ map_fails make (Ok x) bad h = absurd cc
 map_fails make (Err one) bad h = let same : one ≡ bad = cc in ap Err same
 
 -- A whole payload is refused for what stands inside it, or for trailing bytes.
-pub whole_fails : (kind : AMQPFrameType) (channel : ℕ) (payload : List ℕ) (bad : Fault) → whole_as kind channel payload ≡ Err bad → IsWhole bad
-unfolding whole_as
+pub whole_fails : (kind : AMQPFrameType) (channel : ℕ) (payload : List ℕ) (bad : Fault) → decode_payload kind channel payload ≡ Err bad → IsWhole bad
+unfolding decode_payload
 whole_fails kinds.ProtocolHeader channel [] bad h = let same : short_payload ≡ bad = cc in subst IsWhole same tt
 whole_fails kinds.ProtocolHeader channel (a ∷ []) bad h = let same : short_payload ≡ bad = cc in subst IsWhole same tt
 whole_fails kinds.ProtocolHeader channel (a ∷ b ∷ []) bad h = let same : short_payload ≡ bad = cc in subst IsWhole same tt

@@ -3,7 +3,7 @@ use Rattle.std.specs.Prelude.{◌≡◌, ◌≢◌, ℕ, zero, suc, List, [], �
 use Rattle.amqp_types.specs.Levels.{Level}
 use Rattle.amqp_types.specs.Judging.{Judged, past, fault, took}
 use Rattle.amqp_wire.specs.Frames.{Frame}
-use Rattle.amqp_wire.specs.Verdicts.{verdict}
+use Rattle.amqp_wire.specs.Verdicts.{judge_frame}
 
 -- one cut: the frame that a verdict is, and then what `next` cuts from the rest
 abbrev pub cut_at : Judged Frame → List ℕ → (List ℕ → List Frame × List ℕ) → List Frame × List ℕ
@@ -15,7 +15,7 @@ cut_at (took frame used) bytes next =
 -- the frames that are cut from the front, so many at most, and what is left
 unfoldable pub cut : Level → Option ℕ → ℕ → List ℕ → List Frame × List ℕ
 cut level m zero bytes = ([], bytes)
-cut level m (suc n) bytes = cut_at (verdict level m bytes) bytes (cut level m n)
+cut level m (suc n) bytes = cut_at (judge_frame level m bytes) bytes (cut level m n)
 
 -- The frames at the front. Each frame has a byte at least, so as many cuts as there are
 -- bytes are enough.
@@ -28,7 +28,7 @@ place level m bytes = (cut level m (length bytes) bytes).1
 
 -- some bytes are there, and they end inside a frame
 abbrev pub IsUndecided : Level → Option ℕ → List ℕ → Type 0
-IsUndecided level m bytes = (bytes ≢ []) × (verdict level m bytes ≡ past)
+IsUndecided level m bytes = (bytes ≢ []) × (judge_frame level m bytes ≡ past)
 
 -- Whatever follows, the bytes are these frames, and then come those at the front of the rest.
 pub record ComesBefore (level : Level) (m : Option ℕ)

@@ -8,7 +8,7 @@ use Rattle.amqp_types.specs.declared.errors.ParserError.{ParserError}
 use Rattle.amqp_types.specs.declared.errors.ParserError.TheVariants as errors
 use Rattle.amqp_wire.specs.declared.judging.FrameJudgement.{FrameJudgement}
 use Rattle.amqp_wire.specs.Frames.{Frame, Raw}
-use Rattle.amqp_wire.specs.Verdicts.{IsPayloadError, all_of, is_at, whole}
+use Rattle.amqp_wire.specs.Verdicts.{IsPayloadError, all_of, is_at, decode_raw}
 
 -- the faults of a whole payload: none is of the frame around it or incomplete, and
 -- memory never runs out
@@ -35,11 +35,11 @@ JudgesAll judge canonical is_tidy payload (Err error) =
 -- The payload encodes a frame, and it is said exactly at which levels.
 pub record IsJudged (raw : Raw) (judgement : FrameJudgement) : Type 0 where
   pub frame : Frame
-  pub is : whole raw ≡ Ok frame
+  pub is : decode_raw raw ≡ Ok frame
   pub canonical : judgement.canonical ≡ is_at strict raw
   pub tidy : judgement.tidy ≡ is_at tidy raw
 
 -- a whole frame decoded, or the fault of its payload
 abbrev pub JudgesFrame : Raw → Result FrameJudgement ParserError → Type 0
 JudgesFrame raw (Ok judgement) = IsJudged raw judgement
-JudgesFrame raw (Err error) = IsPayloadFault error × RefusesWhole error (whole raw)
+JudgesFrame raw (Err error) = IsPayloadFault error × RefusesWhole error (decode_raw raw)

@@ -9,10 +9,11 @@ use Rattle.amqp_laws.specs.HeldMethods.{IsHeldMethod}
 use Rattle.amqp_wire.specs.declared.frame_type.AMQPFrameType.{AMQPFrameType}
 use Rattle.amqp_wire.specs.declared.frame_type.AMQPFrameType.TheVariants as kinds
 use Rattle.amqp_wire.specs.Frames.{Frame, Proto, Meth, Head, Body, Beat, BadBeat, Raw}
-use Rattle.amqp_wire.specs.Outer.{judge_frame_type, judge_version, judge_raw, version_raw, outer}
+use Rattle.amqp_wire.specs.HeaderScan.{judge_frame_type, judge_version}
+use Rattle.amqp_wire.specs.HeaderScan.{judge_raw, version_raw, scan}
 use Rattle.amqp_wire.specs.Spelling.{Spells, IsWithin, SpellsFrames}
 use Rattle.amqp_wire.specs.Canonical.{canon, canon_frames, is_deep, is_long, size_of, read_back}
-use Rattle.amqp_wire.specs.Verdicts.{verdict}
+use Rattle.amqp_wire.specs.Verdicts.{judge_frame}
 use Rattle.amqp_wire.specs.Fronts.{front, place}
 
 -- no bytes encode two sequences at one level
@@ -34,13 +35,13 @@ SpellsWithin level m bytes frame = Spells level bytes frame × IsWithin m bytes
 -- a verdict is a frame exactly where the first bytes encode it within the limit
 abbrev pub VerdictsAreSpellings : Type 0
 VerdictsAreSpellings =
-    (level : Level) (m : Option ℕ) → IsExact (verdict level m) (SpellsWithin level m)
+    (level : Level) (m : Option ℕ) → IsExact (judge_frame level m) (SpellsWithin level m)
 
 -- a verdict other than incomplete stays, whatever follows
 abbrev pub VerdictsAreStable : Type 0
 VerdictsAreStable =
-    (level : Level) (m : Option ℕ) (bytes rest : List ℕ) → verdict level m bytes ≢ past
-    → verdict level m (bytes ++ rest) ≡ verdict level m bytes
+    (level : Level) (m : Option ℕ) (bytes rest : List ℕ) → judge_frame level m bytes ≢ past
+    → judge_frame level m (bytes ++ rest) ≡ judge_frame level m bytes
 
 -- what is strict is tidy, and what is tidy is plain
 pub record LevelsNest : Type 0 where
@@ -81,9 +82,9 @@ EqualBytesAreEqualFrames =
 -- whatever follows; fewer are incomplete
 pub record ReadsBack (level : Level) (frame : Frame) : Type 0 where
   pub whole : (rest : List ℕ)
-      → verdict level None (canon frame ++ rest) ≡ took (read_back frame) (length (canon frame))
+      → judge_frame level None (canon frame ++ rest) ≡ took (read_back frame) (length (canon frame))
   pub fewer : (first rest : List ℕ) → canon frame ≡ first ++ rest
-      → rest ≢ [] → verdict level None first ≡ past
+      → rest ≢ [] → judge_frame level None first ≡ past
 
 -- each frame that programs hold, and that is neither too deep nor long, is read back from its
 -- canonical bytes
@@ -136,14 +137,14 @@ behind_first judged = judged >>= λ raw. took raw.0 (1 + raw.1)
 
 -- The header scan without a limit is put together of its parts: the type byte, and after it a
 -- version or a raw frame.
-pub record OuterLookIsItsParts : Type 0 where
-  pub none : outer None [] ≡ past
+pub record HeaderScanIsItsParts : Type 0 where
+  pub none : scan None [] ≡ past
   pub unknown : (bytes : List ℕ) (bad : Fault)
-      → judge_frame_type bytes ≡ fault bad → outer None bytes ≡ fault bad
+      → judge_frame_type bytes ≡ fault bad → scan None bytes ≡ fault bad
   pub version : (byte : ℕ) (bytes : List ℕ)
       → judge_frame_type (byte ∷ bytes) ≡ took kinds.ProtocolHeader 1
-      → outer None (byte ∷ bytes)
+      → scan None (byte ∷ bytes)
       ≡ behind_first (judge_version bytes >>= λ v. took (version_raw v.0) v.1)
   pub framed : (byte : ℕ) (bytes : List ℕ) (kind : AMQPFrameType)
       → kind ≢ kinds.ProtocolHeader → judge_frame_type (byte ∷ bytes) ≡ took kind 1
-      → outer None (byte ∷ bytes) ≡ behind_first (judge_raw None kind bytes)
+      → scan None (byte ∷ bytes) ≡ behind_first (judge_raw None kind bytes)

@@ -2,7 +2,7 @@
 pub mod Frames
 pub mod Channels
 pub mod Display
-pub mod Outer
+pub mod HeaderScan
 pub mod Looks
 pub mod Verdicts
 pub mod Spelling

@@ -16,7 +16,7 @@ use Rattle.amqp_wire.specs.declared.frame_type.AMQPFrameType.{AMQPFrameType}
 use Rattle.amqp_wire.specs.declared.frame_type.AMQPFrameType.TheVariants as kinds
 use Rattle.amqp_wire.specs.Frames.{Frame, Proto, Meth, Head, Body, Raw, beat_on}
 use Rattle.amqp_wire.specs.Canonical.{payload_of}
-use Rattle.amqp_wire.specs.Outer.{outer}
+use Rattle.amqp_wire.specs.HeaderScan.{scan}
 
 -- What a payload of n bytes encodes, all of which are there: what is incomplete is short, and bytes
 -- after what was taken trail.
@@ -30,22 +30,22 @@ abbrev pub all_of : {A : Type 0} → Judge A → List ℕ → Result A Fault
 all_of judge payload = filling (length payload) (judge payload)
 
 -- the frame that a payload of this type encodes, or its fault
-unfoldable pub whole_as : AMQPFrameType → ℕ → List ℕ → Result Frame Fault
-whole_as kinds.ProtocolHeader channel [] = Err short_payload
-whole_as kinds.ProtocolHeader channel (a ∷ []) = Err short_payload
-whole_as kinds.ProtocolHeader channel (a ∷ b ∷ []) = Err short_payload
-whole_as kinds.ProtocolHeader channel (a ∷ b ∷ c ∷ []) = Ok (Proto a b c)
-whole_as kinds.ProtocolHeader channel (a ∷ b ∷ c ∷ d ∷ more) = Err trailing_bytes
-whole_as kinds.Method channel payload =
+unfoldable pub decode_payload : AMQPFrameType → ℕ → List ℕ → Result Frame Fault
+decode_payload kinds.ProtocolHeader channel [] = Err short_payload
+decode_payload kinds.ProtocolHeader channel (a ∷ []) = Err short_payload
+decode_payload kinds.ProtocolHeader channel (a ∷ b ∷ []) = Err short_payload
+decode_payload kinds.ProtocolHeader channel (a ∷ b ∷ c ∷ []) = Ok (Proto a b c)
+decode_payload kinds.ProtocolHeader channel (a ∷ b ∷ c ∷ d ∷ more) = Err trailing_bytes
+decode_payload kinds.Method channel payload =
     read_map (λ m. Meth channel m) (all_of judge_payload payload)
-whole_as kinds.Header channel payload =
+decode_payload kinds.Header channel payload =
     read_map (λ header. Head channel header) (all_of judge_content_header payload)
-whole_as kinds.Body channel payload = Ok (Body channel payload)
-whole_as kinds.Heartbeat channel payload = Ok (beat_on channel)
+decode_payload kinds.Body channel payload = Ok (Body channel payload)
+decode_payload kinds.Heartbeat channel payload = Ok (beat_on channel)
 
 -- the frame that a whole payload encodes, or its fault
-abbrev pub whole : Raw → Result Frame Fault
-whole raw = whole_as raw.kind raw.channel raw.payload
+abbrev pub decode_raw : Raw → Result Frame Fault
+decode_raw raw = decode_payload raw.kind raw.channel raw.payload
 
 -- the errors of a whole payload: none is of the frame around it, or incomplete
 abbrev pub IsPayloadError : ParserError → Type 0
@@ -73,20 +73,20 @@ is_written_for (Err bad) payload = true
 abbrev pub is_at : Level → Raw → Bool
 is_at plain raw = true
 is_at tidy raw = is_tidy_as raw.kind raw.payload
-is_at strict raw = is_written_for (whole raw) raw.payload
+is_at strict raw = is_written_for (decode_raw raw) raw.payload
 
 -- the verdict on a whole frame: a fault of the payload comes before that of not being tidy
-abbrev pub judged_frame : Bool → Result Frame Fault → ℕ → Judged Frame
-judged_frame true (Ok frame) used = took frame used
-judged_frame false (Ok frame) used = fault not_tidy
-judged_frame at_level (Err bad) used = fault bad
+abbrev pub judge_decoded : Bool → Result Frame Fault → ℕ → Judged Frame
+judge_decoded true (Ok frame) used = took frame used
+judge_decoded false (Ok frame) used = fault not_tidy
+judge_decoded at_level (Err bad) used = fault bad
 
 -- the verdict, by the header scan
-abbrev pub judged : Level → Judged Raw → Judged Frame
-judged level past = past
-judged level (fault bad) = fault bad
-judged level (took raw used) = judged_frame (is_at level raw) (whole raw) used
+abbrev pub judge_scanned : Level → Judged Raw → Judged Frame
+judge_scanned level past = past
+judge_scanned level (fault bad) = fault bad
+judge_scanned level (took raw used) = judge_decoded (is_at level raw) (decode_raw raw) used
 
 -- the frame at the front at this level, with payloads of at most m bytes
-unfoldable pub verdict : Level → Option ℕ → Judge Frame
-verdict level m bytes = judged level (outer m bytes)
+unfoldable pub judge_frame : Level → Option ℕ → Judge Frame
+judge_frame level m bytes = judge_scanned level (scan m bytes)

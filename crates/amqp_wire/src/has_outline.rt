@@ -24,11 +24,11 @@ impl<'a> HasOutline for AMQPRawFrame<'a> {
     ghost use Rattle.std.specs.Prelude.{IsOk};
     ghost use Rattle.amqp_wire.specs.Frames.{raw_of};
     ghost use Rattle.amqp_wire.specs.Outlines.{outline_front};
-    ghost use Rattle.amqp_wire.specs.Verdicts.{whole};
+    ghost use Rattle.amqp_wire.specs.Verdicts.{decode_raw};
 
     ghost meaning = { λ raw. outline_front (raw_of raw) };
 
-    ghost is_whole = { λ raw. IsOk (whole (raw_of raw)) };
+    ghost is_whole = { λ raw. IsOk (decode_raw (raw_of raw)) };
 
     fn to_outline(&self) -> FrameOutline {
         outline_raw(*self)

@@ -4,7 +4,7 @@ ghost use Rattle.amqp_wire.specs.Laws.{OneMeaning, NoFrameBeginsAnother, Verdict
 ghost use Rattle.amqp_wire.specs.Laws.{VerdictsAreStable, LevelsNest, OneCanonicalSpelling};
 ghost use Rattle.amqp_wire.specs.Laws.{EqualBytesAreEqualFrames, CanonicalBytesReadBack};
 ghost use Rattle.amqp_wire.specs.Laws.{CanonicalBytesAreShortest, FrontIsLongest};
-ghost use Rattle.amqp_wire.specs.Laws.{WrittenAgain, OuterLookIsItsParts};
+ghost use Rattle.amqp_wire.specs.Laws.{WrittenAgain, HeaderScanIsItsParts};
 
 /// No bytes encode two sequences of frames.
 pub fn one_meaning()
@@ -63,6 +63,6 @@ pub fn written_again()
 {}
 
 /// The header scan without a limit is a type byte, and after it a version or a raw frame.
-pub fn outer_look_is_its_parts()
-    ensures { OuterLookIsItsParts }
+pub fn header_scan_is_its_parts()
+    ensures { HeaderScanIsItsParts }
 {}

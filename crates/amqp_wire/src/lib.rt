@@ -30,8 +30,9 @@ pub use has_outline::HasOutline;
 pub use judging::{FrameJudgement, judge_frame};
 pub use laws::{
     canonical_bytes_are_shortest, canonical_bytes_read_back, equal_bytes_are_equal_frames,
-    front_is_longest, levels_nest, no_frame_begins_another, one_canonical_spelling, one_meaning,
-    outer_look_is_its_parts, verdicts_are_spellings, verdicts_are_stable, written_again,
+    front_is_longest, header_scan_is_its_parts, levels_nest, no_frame_begins_another,
+    one_canonical_spelling, one_meaning, verdicts_are_spellings, verdicts_are_stable,
+    written_again,
 };
 pub use looking::{FrameLayout, Look, look_at};
 pub use outline::{FrameOutline, outline_front, outline_raw};

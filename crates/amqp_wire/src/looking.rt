@@ -4,7 +4,7 @@ ghost use Rattle.std.specs.Prelude.{◌≡◌};
 ghost use Rattle.amqp_wire.specs.declared.frame_type.AMQPFrameType.TheVariants as kinds;
 ghost use Rattle.amqp_wire.specs.Looks.{looked, looked_behind, LiesInside};
 ghost use Rattle.amqp_wire.specs.Looks.{IsBehind, IsPlaced, IsPlacedAt};
-ghost use Rattle.amqp_wire.specs.Outer.{outer, judge_raw, version_at, begins_as};
+ghost use Rattle.amqp_wire.specs.HeaderScan.{scan, judge_raw, version_at, begins_as};
 
 use crate::frame_type::AMQPFrameType;
 use amqp_types::{
@@ -55,9 +55,9 @@ pub enum Look {
 /// Scans the header of the frame at the front of some bytes, with a limit in bytes on its payload, which is tested as
 /// soon as the length is there. A protocol header has no limit.
 #[inline(always)]
-#[tactic(auto, using(crate::proofs::Looked::looked_behind_one), unfolding(crate::specs::Outer::outer, crate::specs::Outer::behind_type))]
+#[tactic(auto, using(crate::proofs::Looked::looked_behind_one), unfolding(crate::specs::HeaderScan::scan, crate::specs::HeaderScan::behind_type))]
 pub fn look_at(max_payload: Option<u32>, bytes: &[u8]) -> Look
-    ensures value { outer max_payload bytes.now ≡ looked result bytes.now }
+    ensures value { scan max_payload bytes.now ≡ looked result bytes.now }
     ensures inside { LiesInside result bytes.now }
     ensures placed { IsPlaced result }
 {
@@ -86,7 +86,7 @@ pub(crate) fn agrees(bytes: &[u8], wanted: &[u8]) -> bool
 }
 
 /// Scans a protocol header after its first byte.
-#[tactic(auto, using(crate::proofs::Looked::version_payload), unfolding(crate::specs::Outer::judge_version))]
+#[tactic(auto, using(crate::proofs::Looked::version_payload), unfolding(crate::specs::HeaderScan::judge_version))]
 fn look_version(rest: &[u8]) -> Look
     ensures value { version_at rest.now ≡ looked_behind result rest.now }
     ensures inside { IsBehind result rest.now }
@@ -108,7 +108,7 @@ fn look_version(rest: &[u8]) -> Look
 }
 
 /// Scans any other frame after its type byte.
-#[tactic(auto, unfolding(crate::specs::Outer::judge_raw, crate::specs::Outer::ended_payload))]
+#[tactic(auto, unfolding(crate::specs::HeaderScan::judge_raw, crate::specs::HeaderScan::ended_payload))]
 pub(crate) fn look_raw(max_payload: Option<u32>, frame_type: AMQPFrameType, rest: &[u8]) -> Look
     ensures value { judge_raw max_payload frame_type rest.now ≡ looked_behind result rest.now }
     ensures inside { IsBehind result rest.now }

@@ -5,7 +5,7 @@ ghost use Rattle.amqp_types.specs.Tidiness.{short_at};
 ghost use Rattle.amqp_wire.specs.Frames.{Frame, raw_of};
 ghost use Rattle.amqp_wire.specs.Outlines.{IsEnough, long_long_at, outline_at};
 ghost use Rattle.amqp_wire.specs.Outlines.{outline_channel, outline_front, outline_of};
-ghost use Rattle.amqp_wire.specs.Verdicts.{whole, whole_as};
+ghost use Rattle.amqp_wire.specs.Verdicts.{decode_raw, decode_payload};
 
 use crate::frame_type::AMQPFrameType;
 use crate::raw_frame::AMQPRawFrame;
@@ -127,7 +127,7 @@ fn outline_if_enough(
     channel_id: ChannelId,
     payload: &[u8],
 ) -> Option<FrameOutline>
-    ensures whole { (frame : Frame) → whole_as frame_type channel_id payload.now ≡ Ok frame
+    ensures whole { (frame : Frame) → decode_payload frame_type channel_id payload.now ≡ Ok frame
         → result ≡ Some (outline_of frame) }
     ensures enough { IsEnough frame_type payload.now
         → result ≡ Some (outline_at frame_type channel_id payload.now) }
@@ -143,7 +143,7 @@ fn outline_if_enough(
 /// The outline that the ids and sizes at the front of a payload give, and `None` where they are not there. Of a whole
 /// payload it is the outline of the frame.
 pub fn outline_front(raw: AMQPRawFrame<'_>) -> Option<FrameOutline>
-    ensures whole { (frame : Frame) → whole (raw_of raw.entry) ≡ Ok frame
+    ensures whole { (frame : Frame) → decode_raw (raw_of raw.entry) ≡ Ok frame
         → result ≡ Some (outline_of frame) }
     ensures enough { IsEnough raw.entry.frame_type raw.entry.payload.now
         → result
@@ -155,8 +155,8 @@ pub fn outline_front(raw: AMQPRawFrame<'_>) -> Option<FrameOutline>
 
 /// The outline of the frame that a whole payload of this type encodes.
 fn outline_whole(frame_type: AMQPFrameType, channel_id: ChannelId, payload: &[u8]) -> FrameOutline
-    requires { IsOk (whole_as frame_type channel_id payload.now) }
-    ensures frame { (frame : Frame) → whole_as frame_type channel_id payload.now ≡ Ok frame
+    requires { IsOk (decode_payload frame_type channel_id payload.now) }
+    ensures frame { (frame : Frame) → decode_payload frame_type channel_id payload.now ≡ Ok frame
         → result ≡ outline_of frame }
     ensures front { result ≡ outline_at frame_type channel_id payload.now }
 {
@@ -166,8 +166,8 @@ fn outline_whole(frame_type: AMQPFrameType, channel_id: ChannelId, payload: &[u8
 /// The outline of the frame that a whole payload encodes. Only ids and sizes are read of the payload, and no memory is
 /// taken.
 pub fn outline_raw(raw: AMQPRawFrame<'_>) -> FrameOutline
-    requires whole { IsOk (whole (raw_of raw)) }
-    ensures frame { (frame : Frame) → whole (raw_of raw.entry) ≡ Ok frame
+    requires whole { IsOk (decode_raw (raw_of raw)) }
+    ensures frame { (frame : Frame) → decode_raw (raw_of raw.entry) ≡ Ok frame
         → result ≡ outline_of frame }
     ensures front { result ≡ outline_front (raw_of raw.entry) }
 {

@@ -4,7 +4,7 @@ ghost use Rattle.std.specs.Prelude.{◌≤◌, ◌<◌, ◌^◌, length, None, I
 ghost use Rattle.amqp_types.specs.Answers.{AnswersFully};
 ghost use Rattle.amqp_wire.specs.Channels.{judge_channel};
 ghost use Rattle.amqp_wire.specs.Frames.{raw_of};
-ghost use Rattle.amqp_wire.specs.Outer.{judge_frame_type, judge_version, judge_raw};
+ghost use Rattle.amqp_wire.specs.HeaderScan.{judge_frame_type, judge_version, judge_raw};
 
 use crate::channel::AMQPChannel;
 use crate::frame_type::AMQPFrameType;
@@ -44,7 +44,7 @@ pub fn parse_frame_type(i: &[u8]) -> Result<(usize, AMQPFrameType), ParserError>
 }
 
 /// Decodes the seven bytes of a protocol header that follow its `A`. Any version is decoded.
-#[tactic(auto, unfolding(crate::specs::Outer::judge_version))]
+#[tactic(auto, unfolding(crate::specs::HeaderScan::judge_version))]
 pub fn parse_protocol_header(i: &[u8]) -> Result<(usize, ProtocolVersion), ParserError>
     ensures judged { AnswersFully (λ version. version) result (judge_version i.now) }
     ensures used { IfOk result (λ found. found.0 ≤ length i.now) }
@@ -65,7 +65,7 @@ pub fn parse_protocol_header(i: &[u8]) -> Result<(usize, ProtocolVersion), Parse
 
 /// Decodes what follows a type byte: channel, length, payload and the end byte 206. The payload is borrowed, and not
 /// decoded. `ProtocolHeader` is a type like the others here.
-#[tactic(auto, using(crate::proofs::OuterLook::raw_never_large))]
+#[tactic(auto, using(crate::proofs::HeaderScan::raw_never_large))]
 pub fn parse_raw_frame<'a>(
     frame_type: AMQPFrameType,
     i: &'a [u8],

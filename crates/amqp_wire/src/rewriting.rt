@@ -11,7 +11,7 @@ ghost use Rattle.amqp_wire.specs.Frames.{raw_of, length_around};
 ghost use Rattle.amqp_wire.specs.Judgements.{JudgesFrame};
 ghost use Rattle.amqp_wire.specs.Rewrites.{Rewrites};
 ghost use Rattle.amqp_wire.specs.Spelling.{framed};
-ghost use Rattle.amqp_wire.specs.Verdicts.{IsPayloadError, whole, whole_as};
+ghost use Rattle.amqp_wire.specs.Verdicts.{IsPayloadError, decode_raw, decode_payload};
 ghost use Rattle.amqp_types.specs.Constants.{header_byte, method_byte};
 
 use crate::frame_type::AMQPFrameType;
@@ -74,7 +74,7 @@ pub fn put_judged(
     requires few { length payload.now < 2 ^ 32 }
     requires room { at + length_around frame_type (length payload.now) ≤ length buf.old }
     ensures puts { Rewrites buf.old buf.new at
-        (whole_as frame_type channel_id payload.now) (Ok result) }
+        (decode_payload frame_type channel_id payload.now) (Ok result) }
 
     // No more bytes are put than the frame has.
     ensures within { result ≤ at + length_around frame_type (length payload.now) }
@@ -109,7 +109,7 @@ pub fn put_canonical(
 ) -> Result<usize, ParserError>
     requires few { length raw.payload.now < 2 ^ 32 }
     requires room { at + length raw.payload.now + 8 ≤ length buf.old }
-    ensures whole { Rewrites buf.old buf.new at (whole (raw_of raw.entry)) result }
+    ensures whole { Rewrites buf.old buf.new at (decode_raw (raw_of raw.entry)) result }
 
     ensures within { IfOk result (λ end. end ≤ at + length raw.entry.payload.now + 8) }
     ensures inside { IfErr result IsPayloadError }

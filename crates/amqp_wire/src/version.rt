@@ -5,7 +5,7 @@ ghost use Rattle.amqp_types.specs.Answers.{AnswersWhole};
 ghost use Rattle.amqp_wire.specs.declared.frame_type.AMQPFrameType.TheVariants as kinds;
 ghost use Rattle.amqp_wire.specs.Display.{version_text};
 ghost use Rattle.amqp_wire.specs.Frames.{Proto};
-ghost use Rattle.amqp_wire.specs.Verdicts.{IsPayloadError, whole_as};
+ghost use Rattle.amqp_wire.specs.Verdicts.{IsPayloadError, decode_payload};
 
 use amqp_types::{ParserError, ShortShortUInt};
 use std::fmt;
@@ -37,11 +37,11 @@ impl ProtocolVersion {
 
     /// The version that the payload of a protocol header is, which has 3 bytes. Fewer are `ShortPayload`, and more
     /// `TrailingBytes`.
-    #[tactic(auto, unfolding(crate::specs::Verdicts::whole_as))]
+    #[tactic(auto, unfolding(crate::specs::Verdicts::decode_payload))]
     pub fn from_payload(payload: &[u8]) -> Result<Self, ParserError>
         ensures whole { (channel : ℕ)
             → AnswersWhole (λ version. Proto version.major version.minor version.revision) result
-            (whole_as kinds.ProtocolHeader channel payload.now) }
+            (decode_payload kinds.ProtocolHeader channel payload.now) }
         ensures found { (major minor revision : ℕ) → payload.now ≡ major ∷ minor ∷ revision ∷ []
             → result ≡ Ok (record { major = major; minor = minor; revision = revision }) }
         ensures inside { IfErr result IsPayloadError }

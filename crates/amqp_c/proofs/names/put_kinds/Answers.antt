@@ -1,6 +1,6 @@
 -- `put_kinds`: one kind after another.
 use Rattle.std.proofs.Common.{refl, sym, arith}
-use Rattle.amqp_types.proofs.Written.{written-nil}
+use Rattle.amqp_types.proofs.WrittenParts.{written-nil}
 use Rattle.amqp_c.proofs.KindsPut.{one_more_kind}
 use Rattle.amqp_c.proofs.names.put_kinds.Goals as goal
 

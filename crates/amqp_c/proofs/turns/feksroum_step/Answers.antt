@@ -1,6 +1,6 @@
 -- A step by numbers.
 use Rattle.std.proofs.Common.{Ok, ap, ◌∙◌}
-use Rattle.amqp_wire.specs.Outer.{type_of}
+use Rattle.amqp_wire.specs.HeaderScan.{type_of}
 use Rattle.amqp_c.proofs.StateNumbers.{last_made, steps_made}
 use Rattle.amqp_c.proofs.turns.feksroum_step.Goals as goal
 

@@ -10,4 +10,4 @@ returns-else-rest-n c =
     let n = c.number_size_after-n.result in
     let enough : n ≤ length (drop 1 i) = rw take_rest at c.if-rest-n.false in
     number_front c.args.depth_left i n (λ k. omega (arith, c.type_inv.i k)) (omega (arith, c.in-len1-up.len_at_least))
-    (c.number_size_after-n.ensures (omega (arith, c.if-n-eq0.false))) enough
+    (c.number_size_after-n.ensures.size (omega (arith, c.if-n-eq0.false))) enough

@@ -9,7 +9,7 @@ use Rattle.amqp_filter.proofs.filtering.filter_reported.Goals as goal
 
 pub returns-clause-run : goal.returns-clause-run
 returns-clause-run g c =
-    rw c.as_turned_report.ensures (reported_run is_method_type true (filters_by_turns c.args.rules.now) _ _ c.run_stream_reported-run.result
+    rw c.as_turned_report.ensures (reported_run is_method_type true (filters_by_turns c.args.rules.now) _ c.run_stream_reported-run.result
     (is_new c.args.rules.now _ c.new-writer.ensures.rules c.new-writer.ensures.messages) c.run_stream_reported-run.ensures.run)
 
 pub returns-clause-never_untidy : goal.returns-clause-never_untidy

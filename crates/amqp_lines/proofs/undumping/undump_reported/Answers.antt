@@ -8,7 +8,7 @@ pub returns-in-Err : goal.returns-in-Err
 returns-in-Err g c = record {
   run = unreported c.reported.result c.reported.ensures.answer never_ran;
   report =
-      never_reported g.S.Source.supply _ _ _ _ c.reported.result c.first-first.ensures
+      never_reported _ _ _ _ c.reported.result c.first-first.ensures
       c.reported.ensures.answer c.reported.ensures.line c.reported.ensures.place;
 }
 
@@ -17,7 +17,7 @@ returns-in-Err-open g c =
     let r = c.reported-in-Err-open in
     record {
       run = unreported r.result r.ensures.answer never_ran;
-      report = never_reported g.S.Source.supply _ _ _ _ r.result c.first-first.ensures r.ensures.answer r.ensures.line r.ensures.place;
+      report = never_reported _ _ _ _ r.result c.first-first.ensures r.ensures.answer r.ensures.line r.ensures.place;
     }
 
 pub returns : goal.returns
@@ -26,5 +26,5 @@ returns g c =
     let run = c.run-answer.ensures in
     record {
       run = unreported r.result r.ensures.answer (undump_run run.stream run.unread run.unwritten (λ none. inl (run.spent none)));
-      report = reported g.S.Source.supply r.result r.ensures.answer r.ensures.line r.ensures.place run.stream;
+      report = reported r.result r.ensures.answer r.ensures.line r.ensures.place run.stream;
     }

@@ -8,7 +8,7 @@ put_header-requires-clause-mask g c =
     let fits : c.args.properties.now.mask < 2 ^ 16 = search rules in
     masked_mask c.args.properties.now (g.T.ToItem.item c.args.headers)
     _ _ _ _ _ _ _ _ _ _ _ _ _ _ _ _ _ _ _ _ _ _ _ _
-    fits c.requires.second c.requires.lowest
+    fits c.requires.header.second c.requires.header.lowest
     c.text-2.ensures.set c.text-2.ensures.field
     c.rare_text-6.ensures.set c.rare_text-6.ensures.field
     c.has_bit-2.ensures

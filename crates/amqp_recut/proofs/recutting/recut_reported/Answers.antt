@@ -9,7 +9,7 @@ use Rattle.amqp_recut.proofs.recutting.recut_reported.Goals as goal
 
 pub returns-clause-run : goal.returns-clause-run
 returns-clause-run g c =
-    rw c.as_turned_report.ensures (reported_run is_content_type true (recuts_by_turns c.args.size c.requires.some) _ _ c.run_stream_reported-run.result
+    rw c.as_turned_report.ensures (reported_run is_content_type true (recuts_by_turns c.args.size c.requires.some) _ c.run_stream_reported-run.result
     (is_new c.args.size _ c.requires.some c.new-writer.ensures.size c.new-writer.ensures.messages) c.run_stream_reported-run.ensures.run)
 
 pub returns-clause-never_untidy : goal.returns-clause-never_untidy

@@ -4,7 +4,7 @@ use Rattle.amqp_select.proofs.Selected.{all_run, select_run}
 use Rattle.amqp_select.proofs.selecting.select_reported.Goals as goal
 
 pub returns-clause-run : goal.returns-clause-run
-returns-clause-run g c = select_run _ _ c.unrefused_report.result (rw c.unrefused_report.ensures at c.run_stream_reported-run.ensures.run)
+returns-clause-run g c = select_run _ c.unrefused_report.result (rw c.unrefused_report.ensures at c.run_stream_reported-run.ensures.run)
 
 pub returns-in-Some-true-clause-run : goal.returns-in-Some-true-clause-run
 returns-in-Some-true-clause-run g c =

@@ -5,7 +5,7 @@ use Rattle.amqp_types.specs.Values.{Entry, weight, values_weight, entries_weight
 use Rattle.amqp_types.specs.ValueBytes.{value_bytes, values_bytes, entries_bytes, tagged_bytes, is_long, any_value_long, any_entry_long}
 use Rattle.amqp_types.specs.Strings.{is_too_long}
 use Rattle.amqp_types.specs.Writing.{Puts}
-use Rattle.amqp_types.proofs.Written.{written-nil}
+use Rattle.amqp_types.proofs.WrittenParts.{written-nil}
 use Rattle.amqp_values.specs.Views.{value_of}
 use Rattle.amqp_values.proofs.Parts.{weight_at}
 use Rattle.amqp_laws.proofs.Pieces.{IsPut, has_room, puts}

@@ -19,13 +19,13 @@ invariant-values_length-loop-value l =
     record {
       all : map value_of l.value-items ≡ l.array;
       few : l.n < 2 ^ 32;
-      left : values_total l.n (map value_of (drop l.value-index l.value-items)) ≡ values_total 0 l.array;
+      left : values_total l.depth_left l.n (map value_of (drop l.value-index l.value-items)) ≡ values_total l.depth_left 0 l.array;
     }
 
 abbrev pub invariant-entries_length-loop-key : goal.invariant-entries_length-loop-key
 invariant-entries_length-loop-key l =
     record {
       few : l.n < 2 ^ 32;
-      left : entries_total l.n l.key-iterator ≡ entries_total 0 l.table;
+      left : entries_total l.depth_left l.n l.key-iterator ≡ entries_total l.depth_left 0 l.table;
       smaller : entries_weight (entries_of l.key-iterator) ≤ entries_weight (entries_of l.table);
     }

@@ -1,12 +1,12 @@
 -- `outline_whole`: clause `frame`, and what calls require.
 use Rattle.std.proofs.Common.{refl, ◌∙◌, arith}
-use Rattle.amqp_wire.specs.Verdicts.{whole_as}
+use Rattle.amqp_wire.specs.Verdicts.{decode_payload}
 use Rattle.amqp_wire.proofs.Outlined.{enough_whole, outlined}
 use Rattle.amqp_wire.proofs.outline.outline_whole.Goals as goal
 
 pub outline_at-requires : goal.outline_at-requires
 outline_at-requires c =
-    let read = whole_as c.args.frame_type c.args.channel_id c.args.payload.now in
+    let read = decode_payload c.args.frame_type c.args.channel_id c.args.payload.now in
     enough_whole c.args.frame_type c.args.channel_id c.args.payload.now read (λ i. omega (arith, c.type_inv.payload i)) refl c.requires
 
 pub returns-clause-frame : goal.returns-clause-frame

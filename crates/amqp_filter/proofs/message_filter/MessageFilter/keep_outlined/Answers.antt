@@ -1,7 +1,7 @@
 -- `MessageFilter::keep_outlined`: what it ensures.
 use Rattle.std.proofs.Common.{refl, sym, ap, ◌∙◌}
 use Rattle.amqp_wire.specs.Frames.{raw_of}
-use Rattle.amqp_wire.specs.Verdicts.{whole}
+use Rattle.amqp_wire.specs.Verdicts.{decode_raw}
 use Rattle.amqp_stream.specs.declared.errors.RunError.TheVariants as ends
 use Rattle.amqp_in_turn.specs.declared.errors.Refusal.TheVariants as refusals
 use Rattle.amqp_turns.specs.Steps.{mark_after}
@@ -17,7 +17,7 @@ returns-in-Fault c =
     let mark =
     sym c.in-Fault.is ∙ c.step-stepped.ensures.mark
     ∙ ap (λ p. mark_after greatest p c.args.outline) (c.progress_of.ensures ∙ ap progress_in (c.copied-held.ensures ∙ c.get.ensures)) in
-    let is = given_by (whole (raw_of c.args.raw)) c.requires.is_whole in
+    let is = given_by (decode_raw (raw_of c.args.raw)) c.requires.is_whole in
     turn_refuses filtering refl refl c.args.self.now (raw_of c.args.raw) c.in-Fault.fault (ends.Refused (refusals.BadContent c.in-Fault.fault))
     (refused_steps c.args.self.now (raw_of c.args.raw) c.args.outline c.in-Fault.fault c.requires.whole mark) (is.0, is.1, refl)
 

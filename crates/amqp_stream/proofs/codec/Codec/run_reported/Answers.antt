@@ -1,4 +1,4 @@
--- `Codec::run_reported`: clauses `run` and `place`.
+-- `Codec::run_reported`: clause `run`.
 use Rattle.std.proofs.Common.{ap, refl}
 use Rattle.amqp_stream.proofs.Reporting.{one_run, reports}
 use Rattle.amqp_stream.proofs.codec.Codec.run_reported.Goals as goal
@@ -6,11 +6,9 @@ use Rattle.amqp_stream.proofs.codec.Codec.run_reported.Goals as goal
 pub returns-clause-run : goal.returns-clause-run
 returns-clause-run g c =
     let none = ap (λ h. h.held) c.clear.ensures in
-    rw c.reported.ensures.error (one_run refl (rw (c.clear.ensures, c.self.view_is) at c.run_with-ended.ensures.stream) c.run_with-ended.ensures.unread
-    (c.run_with-ended.ensures.unwritten none) (c.run_with-ended.ensures.spent none))
-
-pub returns-clause-place : goal.returns-clause-place
-returns-clause-place g c =
-    let limit = rw (c.clear.ensures, c.self.view_is) at c.run_with-ended.ensures.limit in
-    reports c.reported.result c.reported.ensures.error refl (rw (c.clear.ensures, c.self.view_is) at c.run_with-ended.ensures.stream)
-    (rw limit at c.reported.ensures.few) c.reported.ensures.place c.reported.ensures.channel
+    let limit = rw (c.clear.ensures, c.self.view_is) at c.run_with-ended.ensures.limit in (
+      rw c.reported.ensures.error (one_run refl (rw (c.clear.ensures, c.self.view_is) at c.run_with-ended.ensures.stream) c.run_with-ended.ensures.unread
+          (c.run_with-ended.ensures.unwritten none) (c.run_with-ended.ensures.spent none)),
+      reports c.reported.result c.reported.ensures.error refl refl (rw (c.clear.ensures, c.self.view_is) at c.run_with-ended.ensures.stream)
+          (rw limit at c.reported.ensures.few) c.reported.ensures.place c.reported.ensures.channel,
+    )

@@ -1,6 +1,6 @@
 -- `FrameReader::fill`: what calls require.
 use Rattle.std.proofs.Common.{◌≤◌, length, ap, arith}
-use Rattle.amqp_wire.proofs.OuterLook.{outer-past_few}
+use Rattle.amqp_wire.proofs.HeaderScan.{scan-past_few}
 use Rattle.amqp_stream.proofs.Spans.{part-length}
 use Rattle.amqp_stream.proofs.reader.FrameReader.fill.Goals as goal
 
@@ -11,5 +11,5 @@ read_more-count-requires-clause-room g c =
     let buf = c.self.inside.buf.items in
     let fits : span.end ≤ length buf = omega (arith, within.within, c.deref_mut.ensures.len, ap length c.deref_mut.ensures.value) in
     let long = part-length buf span.start span.end within.ordered fits in
-    let few = outer-past_few c.args.self.now.limit c.args.self.now.held c.requires in
+    let few = scan-past_few c.args.self.now.limit c.args.self.now.held c.requires in
     omega (arith, few, long, ap (λ h. length h.held) c.self.view_is, ap (λ h. h.limit) c.self.view_is, c.self.invariant.1, ap length c.deref_mut.ensures.value)

@@ -1,7 +1,7 @@
 -- `FrameReader::frame_after`: what it ensures, and sums that fit.
 use Rattle.std.proofs.Common.{List, ℕ, length, refl, ap, arith}
 use Rattle.std.proofs.lemmas.List.{length-drop}
-use Rattle.amqp_wire.proofs.OuterLook.{outer-in_bounds}
+use Rattle.amqp_wire.proofs.HeaderScan.{scan-in_bounds}
 use Rattle.amqp_stream.proofs.Spans.{part-behind}
 use Rattle.amqp_stream.proofs.reader.FrameReader.frame_after.Goals as goal
 use Rattle.amqp_wire.proofs.Looked.{raw_with}
@@ -25,7 +25,7 @@ returns-clause-frame c =
 pub returns-clause-few : goal.returns-clause-few
 returns-clause-few c =
     let layout = c.args.layout in
-    let bounds = outer-in_bounds _ _ _ _ c.requires.lies.found in
+    let bounds = scan-in_bounds _ _ _ _ c.requires.lies.found in
     omega (
       arith,
       ap length (part-behind c.held-held.result.now c.args.self.now.held c.args.passed layout.payload_start layout.payload_len c.held-held.ensures.held),

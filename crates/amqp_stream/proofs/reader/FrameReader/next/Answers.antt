@@ -1,28 +1,28 @@
 -- `FrameReader::next`: what it ensures.
 use Rattle.std.proofs.Common.{◌+◌, ◌-◌, ◌^◌, ◌<◌, ◌≤◌, ℕ, List, length, take, drop, Ok, Err, None, refl, sym, ap, subst, ◌∙◌, arith}
 use Rattle.amqp_wire.specs.Looks.{laid_out}
-use Rattle.amqp_wire.proofs.OuterLook.{outer-in_bounds}
+use Rattle.amqp_wire.proofs.HeaderScan.{scan-in_bounds}
+use Rattle.amqp_stream.specs.Changes.{◌⇒◌}
 use Rattle.amqp_stream.specs.Reading.{Holding, LiesIn, IsBorrowed, HasNext}
 use Rattle.amqp_stream.proofs.Spans.{part-drop, part-frame, part-length}
-use Rattle.amqp_stream.proofs.Pulling.{has_next, err_as, none_as, some_as}
+use Rattle.amqp_stream.proofs.Pulling.{err_as, none_as, some_as}
 use Rattle.amqp_stream.proofs.reader.FrameReader.next.Goals as goal
 use Rattle.amqp_wire.proofs.Looked.{raw_with}
 
 pub returns-in-Err : goal.returns-in-Err
 returns-in-Err g c =
     let m = c.args.self.now.limit in
-    let fits : m < 2 ^ 32 = omega (arith, c.self.invariant.2, ap (λ h. h.limit) c.self.view_is, c.in-Err.ensures.limit) in
     let P : Holding → Type 0 = λ h.
-    HasNext (g.S.Source.supply c.args.source.now)
-    (g.S.Source.supply c.pull.new.source) c.args.budget.now c.pull.new.budget c.args.self.now h (Err c.in-Err.error) in
-    let next : P c.pull.new.self =
-    has_next fits c.in-Err.ensures.limit (err_as (LiesIn m) (IsBorrowed m) m _ _ _ _ _ _ c.in-Err.error c.in-Err.ensures.pulls) in (
+    HasNext IsBorrowed (g.S.Source.supply c.args.source.now ⇒ g.S.Source.supply c.pull.new.source)
+    (c.args.budget.now ⇒ c.pull.new.budget) (c.args.self.now ⇒ h) (Err c.in-Err.error) in
+    let next : P c.pull.new.self = err_as LiesIn IsBorrowed c.in-Err.error c.in-Err.ensures.pulls in (
       (refl, λ _. tt, subst P (sym c.self.view_is) (next)),
       record {
+        fits = omega (arith, c.self.invariant.2, ap (λ h. h.limit) c.self.view_is, c.in-Err.ensures.pulls.limit);
         few = tt;
-        returns = record { new = c.pull.new.self; has_next = next };
-        decided = λ h. c.in-Err.ensures.unread (c.in-Err.ensures.pulls.pulls.decided h).1;
-        unread = λ zero. c.in-Err.ensures.unread (omega (arith, c.in-Err.ensures.pulls.pulls.budget_falls, zero));
+        returns = (c.pull.new.self, next);
+        decided = λ h. c.in-Err.ensures.unread (c.in-Err.ensures.pulls.decided h);
+        unread = λ zero. c.in-Err.ensures.unread (omega (arith, c.in-Err.ensures.pulls.budget_falls, zero));
         after = tt;
       },
     )
@@ -30,17 +30,18 @@ returns-in-Err g c =
 pub returns-in-Ok-None : goal.returns-in-Ok-None
 returns-in-Ok-None g c =
     let m = c.args.self.now.limit in
-    let fits : m < 2 ^ 32 = omega (arith, c.self.invariant.2, ap (λ h. h.limit) c.self.view_is, c.in-Ok-None.ensures.limit) in
     let P : Holding → Type 0 =
-    λ h. HasNext (g.S.Source.supply c.args.source.now) (g.S.Source.supply c.pull.new.source) c.args.budget.now c.pull.new.budget c.args.self.now h (Ok None) in
+    λ h. HasNext IsBorrowed (g.S.Source.supply c.args.source.now ⇒ g.S.Source.supply c.pull.new.source)
+    (c.args.budget.now ⇒ c.pull.new.budget) (c.args.self.now ⇒ h) (Ok None) in
     let pulls = rw c.in-Ok-None.field-0-is at c.in-Ok-None.ensures.pulls in
-    let next : P c.pull.new.self = has_next fits c.in-Ok-None.ensures.limit (none_as (LiesIn m) (IsBorrowed m) m _ _ _ _ _ _ pulls) in (
+    let next : P c.pull.new.self = none_as LiesIn IsBorrowed pulls in (
       (refl, λ _. tt, subst P (sym c.self.view_is) (next)),
       record {
+        fits = omega (arith, c.self.invariant.2, ap (λ h. h.limit) c.self.view_is, c.in-Ok-None.ensures.pulls.limit);
         few = tt;
-        returns = record { new = c.pull.new.self; has_next = next };
-        decided = λ h. c.in-Ok-None.ensures.unread (c.in-Ok-None.ensures.pulls.pulls.decided h).1;
-        unread = λ zero. c.in-Ok-None.ensures.unread (omega (arith, c.in-Ok-None.ensures.pulls.pulls.budget_falls, zero));
+        returns = (c.pull.new.self, next);
+        decided = λ h. c.in-Ok-None.ensures.unread (c.in-Ok-None.ensures.pulls.decided h);
+        unread = λ zero. c.in-Ok-None.ensures.unread (omega (arith, c.in-Ok-None.ensures.pulls.budget_falls, zero));
         after = tt;
       },
     )
@@ -53,7 +54,7 @@ returns-in-Ok-Some g c =
     let layout = c.in-Ok-Some.layout in
     let pulls = rw c.in-Ok-Some.field-0-is at c.in-Ok-Some.ensures.pulls in
     let lies = pulls.ends.0 in
-    let same = ap (λ h. h.limit) c.self.view_is ∙ c.in-Ok-Some.ensures.limit in
+    let same = ap (λ h. h.limit) c.self.view_is ∙ c.in-Ok-Some.ensures.pulls.limit in
     let within : span.end ≤ length buf = omega (arith, c.self.invariant.0.within, c.deref.ensures.len, ap length c.deref.ensures.value) in
     let long = part-length buf span.start span.end c.self.invariant.0.ordered within in
     let inside : layout.payload_start + layout.payload_len ≤ span.end - span.start =
@@ -63,10 +64,11 @@ returns-in-Ok-Some g c =
     let raw = ap (λ (xs : List ℕ). raw_with layout xs) payload ∙ ap (λ h. laid_out layout h.held) c.self.view_is in
     let rest = part-drop buf span.start span.end layout.frame_len ∙ ap (λ h. drop layout.frame_len h.held) c.self.view_is in
     let fits : m < 2 ^ 32 = omega (arith, c.self.invariant.2, same) in
-    let next = has_next fits same (some_as m _ _ _ _ _ _ _ layout _ pulls raw rest) in
-    let bounds = outer-in_bounds _ _ _ _ lies.found in (
+    let next = some_as layout _ pulls same raw rest in
+    let bounds = scan-in_bounds _ _ _ _ lies.found in (
       (refl, λ _. tt, next),
       record {
+        fits = fits;
         few = omega (
           arith,
           ap length payload,
@@ -75,9 +77,9 @@ returns-in-Ok-Some g c =
           bounds.payload m refl,
           fits,
         );
-        returns = record { new = _; has_next = next };
-        decided = λ h. c.in-Ok-Some.ensures.unread (c.in-Ok-Some.ensures.pulls.pulls.decided h).1;
-        unread = λ zero. c.in-Ok-Some.ensures.unread (omega (arith, c.in-Ok-Some.ensures.pulls.pulls.budget_falls, zero));
+        returns = (_, next);
+        decided = λ h. c.in-Ok-Some.ensures.unread (c.in-Ok-Some.ensures.pulls.decided h);
+        unread = λ zero. c.in-Ok-Some.ensures.unread (omega (arith, c.in-Ok-Some.ensures.pulls.budget_falls, zero));
         after = tt;
       },
     )

@@ -2,7 +2,7 @@
 use Rattle.std.proofs.Common.{◌≡◌, ℕ, ◌+◌, ◌-◌, ◌≤◌, List, length, drop, ap, ◌∙◌, arith}
 use Rattle.std.proofs.lemmas.List.{take_at}
 use Rattle.amqp_types.specs.Writing.{written}
-use Rattle.amqp_types.proofs.Written.{written-length}
+use Rattle.amqp_types.proofs.WrittenParts.{written-length}
 use Rattle.amqp_stream.specs.Spans.{held_in}
 use Rattle.amqp_stream.proofs.Spans.{part-length, part-written}
 use Rattle.amqp_stream.proofs.reader.FrameReader.replace.Goals as goal

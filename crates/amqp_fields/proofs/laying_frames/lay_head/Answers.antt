@@ -1,0 +1,11 @@
+-- `lay_head`: what it ensures.
+use Rattle.std.proofs.Common.{[], ◌∷◌, arith}
+use Rattle.std.proofs.lemmas.Bool.Decides.{nat_tests}
+use Rattle.amqp_types.specs.Numbers.{bytes2, bytes4, number_bytes}
+use Rattle.amqp_fields.proofs.Quick.{parts_laid}
+use Rattle.amqp_fields.proofs.laying_frames.lay_head.Goals as goal
+
+pub returns : goal.returns
+returns g c =
+    parts_laid (c.args.frame_type ∷ []) (number_bytes bytes2 c.args.channel) (number_bytes bytes4 c.args.n) (grind (arith, nat_tests))
+    c.put_bytes-channel_at.ensures c.put_short_uint-length_at.ensures c.put_long_uint.ensures

@@ -1,0 +1,13 @@
+-- `lay_method`: what it ensures.
+use Rattle.amqp_fields.proofs.FramesMade.{known_slots, method_parts, own_nodes}
+use Rattle.amqp_fields.proofs.Quick.{laid_after, laid_as}
+use Rattle.amqp_fields.proofs.QuickFrames.{bytes_as}
+use Rattle.amqp_fields.proofs.laying_frames.lay_method.Goals as goal
+
+pub returns : goal.returns
+returns g c =
+    let known = known_slots c.args.head.now.class_id c.args.head.now.method_id _ c.in-Some.shapes c.shapes_of.ensures.slots c.in-Some.is in
+    laid_as (method_parts c.args.pool.now c.args.nodes.now c.in-Some-nodes_of.own.now c.args.head.now c.nodes_end-end.result
+    (own_nodes c.args.nodes.now c.args.head.now _ c.in-Some-nodes_of.own c.nodes_of.ensures c.in-Some-nodes_of.is)
+    c.nodes_end-end.ensures _ known c.if-head-ne0.false)
+    (laid_after (bytes_as c.id_bytes.ensures c.lay-front.ensures) c.lay_slots.ensures)
