@@ -340,6 +340,8 @@ typedef struct feksroum_written {
  *
  * Nothing is written but at status 0, and what comes after the bytes written is as it was. The status is that of the first refusal, frame
  * by frame and from left to right:
+ *   12 contents of tables and arrays that stand in the pool have more than max_payload bytes together (not of a protocol header): no pool
+ *      is gone over more often than a payload has room for it;
  *   41 the type is none; 14 and 15 both ids are no method;
  *   41 the head has what its type has not, or its nodes or its bytes pass the end of the list or the pool;
  *   of each node 41 a kind, place or `inside` that does not fit, a number outside its width, a truth value above 1, a span outside the

@@ -40,17 +40,8 @@ module _ (m : ℕ) (deep : Bool) (bytes : List ℕ) (heads : List Head) (nodes :
   fault_follows : (error : ParserError) (j : Judged Frame) → SaysFault error j → Follows m deep bytes heads nodes (with_end (ends.Fault error)) j
   unfolding with_end
   fault_follows errors.Incomplete j h = absurd h
-  fault_follows errors.UnknownFrameType j h = subst (Follows m deep bytes heads nodes (with_end (ends.Fault errors.UnknownFrameType))) (sym h) (refl, refl)
-  fault_follows errors.BadProtocolHeader j h = subst (Follows m deep bytes heads nodes (with_end (ends.Fault errors.BadProtocolHeader))) (sym h) (refl, refl)
-  fault_follows errors.BadFrameEnd j h = subst (Follows m deep bytes heads nodes (with_end (ends.Fault errors.BadFrameEnd))) (sym h) (refl, refl)
-  fault_follows errors.UnknownClass j h = subst (Follows m deep bytes heads nodes (with_end (ends.Fault errors.UnknownClass))) (sym h) (refl, refl)
-  fault_follows errors.UnknownMethod j h = subst (Follows m deep bytes heads nodes (with_end (ends.Fault errors.UnknownMethod))) (sym h) (refl, refl)
-  fault_follows errors.ShortPayload j h = subst (Follows m deep bytes heads nodes (with_end (ends.Fault errors.ShortPayload))) (sym h) (refl, refl)
-  fault_follows errors.TrailingBytes j h = subst (Follows m deep bytes heads nodes (with_end (ends.Fault errors.TrailingBytes))) (sym h) (refl, refl)
-  fault_follows errors.NotUtf8 j h = subst (Follows m deep bytes heads nodes (with_end (ends.Fault errors.NotUtf8))) (sym h) (refl, refl)
-  fault_follows errors.UnknownTag j h = subst (Follows m deep bytes heads nodes (with_end (ends.Fault errors.UnknownTag))) (sym h) (refl, refl)
-  fault_follows errors.TooDeep j h = subst (Follows m deep bytes heads nodes (with_end (ends.Fault errors.TooDeep))) (sym h) (refl, refl)
   fault_follows errors.NoMemory j h = absurd h
+  fault_follows error j h = subst (Follows m deep bytes heads nodes (with_end (ends.Fault error))) (sym h) (refl, refl)
 
   end_follows : (end : FramesEnd) → EndsWith m deep bytes heads nodes read end → Follows m deep bytes heads nodes (with_end end) left
   unfolding with_end left

@@ -1,20 +1,17 @@
 -- A frame and its line: what was read, and what is written of it.
-use Rattle.std.proofs.Common.{◌≡◌, ℕ, List, ◌++◌, length, take, drop, Some, Ok, Err, refl, sym, ap, subst, ◌∙◌}
+use Rattle.std.proofs.Common.{◌≡◌, ℕ, List, ◌++◌, length, take, drop, Some, Ok, Err, refl, sym, ap, ◌∙◌}
 use Rattle.std.proofs.lemmas.List.{length-take-le, take-append-drop}
 use Rattle.amqp_types.specs.Levels.{plain}
-use Rattle.amqp_types.specs.Judging.{Fault, took}
 use Rattle.amqp_wire.specs.declared.looking.FrameLayout.{FrameLayout}
 use Rattle.amqp_wire.specs.Canonical.{canon}
 use Rattle.amqp_wire.specs.Frames.{Frame, Raw}
 use Rattle.amqp_wire.specs.Looks.{laid_out}
 use Rattle.amqp_wire.specs.HeaderScan.{scan}
-use Rattle.amqp_wire.specs.Verdicts.{judge_frame, decode_raw}
-use Rattle.amqp_wire.proofs.Cuts.{verdict-whole}
+use Rattle.amqp_wire.specs.Verdicts.{decode_raw}
 use Rattle.amqp_stream.specs.declared.errors.StreamError.{StreamError}
 use Rattle.amqp_stream.specs.declared.errors.StreamError.TheVariants as errors
-use Rattle.amqp_stream.specs.Errors.{cause_of, error_for}
+use Rattle.amqp_stream.specs.Errors.{cause_of}
 use Rattle.amqp_stream.specs.Reading.{Lies}
-use Rattle.amqp_stream.specs.Writing.{IsFaulty}
 use Rattle.amqp_lines.specs.LineReading.{HasNoNewline, IsFirstLine}
 use Rattle.amqp_lines.specs.LineTexts.{HasNoLine}
 use Rattle.amqp_lines.specs.Lines.{line}
@@ -24,27 +21,19 @@ use Rattle.amqp_lines.proofs.TextFronts.{IsAtNone, at_clean, first_line, holds_n
 use Rattle.amqp_c.specs.declared.lines.FrameLine.{FrameLine}
 use Rattle.amqp_c.specs.FrameLines.{AppendsFront, Converts, IsNoFront}
 use Rattle.amqp_c.specs.Scans.{error_at}
-use Rattle.amqp_c.proofs.Fronts.{fault_verdict, unscanned}
+use Rattle.amqp_c.proofs.Fronts.{error_as, taken_as, unscanned}
 
 -- ---- the line of the frame in front
 
 -- Where the line of the whole frame in front is appended, it is that of the frame which the bytes are decoded to.
 pub line_appended : (m : ℕ) (bytes old new : List ℕ) (raw : Raw) (layout : FrameLayout) (frame : Frame) → Lies m bytes layout
     → raw ≡ laid_out layout bytes → decode_raw raw ≡ Ok frame → new ≡ old ++ line frame → AppendsFront m bytes old new (Ok layout.frame_len)
-line_appended m bytes old new raw layout frame lies is is_whole appended =
-    let found : scan (Some m) bytes ≡ took raw layout.frame_len = lies.found ∙ ap (λ (r : Raw). took r layout.frame_len) (sym is) in
-    (frame, verdict-whole plain (Some m) bytes raw layout.frame_len frame found refl is_whole, appended)
+line_appended m bytes old new raw layout frame lies is whole appended = (frame, taken_as lies is plain frame refl whole, appended)
 
 -- Where no frame is in front of the bytes, the error says why.
 pub no_front : (m : ℕ) (bytes old new : List ℕ) (error : StreamError) → error_at (scan (Some m) bytes) ≡ Some error → AppendsFront m bytes old new (Err error)
 no_front m bytes old new errors.NoMemory h = tt
 no_front m bytes old new error h = unscanned plain m bytes error h
-
-at_fault : (m : ℕ) (bytes : List ℕ) (raw : Raw) (layout : FrameLayout) (bad : Fault) → Lies m bytes layout
-    → raw ≡ laid_out layout bytes → IsFaulty plain raw bad → error_at (judge_frame plain (Some m) bytes) ≡ Some (error_for bad)
-at_fault m bytes raw layout bad lies is h =
-    let found : scan (Some m) bytes ≡ took raw layout.frame_len = lies.found ∙ ap (λ (r : Raw). took r layout.frame_len) (sym is) in
-    ap error_at (fault_verdict plain m bytes raw layout.frame_len bad found h)
 
 -- Where the frame in front has no line, the error says why.
 pub no_line : (m : ℕ) (bytes old new : List ℕ) (raw : Raw) (layout : FrameLayout) (error : StreamError) → Lies m bytes layout
@@ -54,7 +43,7 @@ no_line m bytes old new raw layout errors.CutShort lies is h = absurd h
 no_line m bytes old new raw layout errors.TurnsSpent lies is h = absurd h
 no_line m bytes old new raw layout errors.ReadFault lies is h = absurd h
 no_line m bytes old new raw layout errors.WriteFault lies is h = absurd h
-no_line m bytes old new raw layout error lies is h = at_fault m bytes raw layout _ lies is h
+no_line m bytes old new raw layout error lies is h = error_as lies is h refl
 
 -- ---- the frame of the line in front
 
@@ -75,7 +64,7 @@ undumped_front m text rest canonical written old new end frame result first of i
     let same : of.frame ≡ frame = same_frame of.frame frame of.strict_within.is_strict strict.is_strict (sym of.is_line ∙ front) in
     let bytes : written ≡ canon frame = is ∙ of.is_canonical ∙ ap canon same in
     let count : end ≡ length (line frame) = length_front text end first ∙ ap length front in
-    subst (λ (n : ℕ). Converts (canon frame) n old new result) count (subst (λ (xs : List ℕ). Converts xs end old new result) bytes h)
+    rw (sym bytes, sym count) h
 
 -- a line that is in front
 pub front_is_line : (m : ℕ) (text canonical : List ℕ) (end : ℕ) → IsLineOf m (take end text) canonical → IsNoFront m text → ⊥

@@ -6,7 +6,7 @@ use Rattle.std.proofs.Math.Seq.{paste}
 use Rattle.std.proofs.lemmas.List.{length-append, length-drop, length-take-le, drop-drop, drop_all, take_at, take-append-drop}
 use Rattle.std.proofs.lemmas.Slice.{drop-append-drop}
 use Rattle.amqp_types.specs.Levels.{Level, strict}
-use Rattle.amqp_types.specs.Judging.{Fault, IsBytes, Judged, past, fault, took, not_tidy}
+use Rattle.amqp_types.specs.Judging.{Fault, IsBytes, Judged, past, fault, took}
 use Rattle.amqp_types.specs.Answers.{RefusesWhole}
 use Rattle.amqp_types.specs.Writing.{Puts, written}
 use Rattle.amqp_types.specs.declared.errors.ParserError.{ParserError}
@@ -23,103 +23,83 @@ use Rattle.amqp_wire.specs.HeaderScan.{scan}
 use Rattle.amqp_wire.specs.Rewrites as puts
 use Rattle.amqp_wire.specs.Spelling.{SpellsFrames}
 use Rattle.amqp_wire.specs.Verdicts.{IsPayloadError, is_at, judge_scanned, judge_decoded, judge_frame, decode_raw}
-use Rattle.amqp_wire.proofs.Cuts.{IsStop, front-got, front-stop, place-none, verdict-got_within, verdict-whole}
+use Rattle.amqp_wire.proofs.Cuts.{IsStop, front-got, front-stop, place-none, verdict-got_within}
 use Rattle.amqp_wire.proofs.Encoded.{judge_decoded-is, verdict-spells}
 use Rattle.amqp_wire.proofs.HeaderScan.{scan-in_bounds}
 use Rattle.amqp_wire.proofs.Sequences.{SpellsFrames-precedes, longest_sequence}
 use Rattle.amqp_wire.proofs.Strictness.{one_strict}
 use Rattle.amqp_stream.specs.declared.errors.StreamError.{StreamError}
-use Rattle.amqp_stream.specs.declared.errors.StreamError.TheVariants as errors
 use Rattle.amqp_stream.specs.Errors.{stream_error_status}
 use Rattle.amqp_stream.specs.Reading.{Lies}
 use Rattle.amqp_stream.specs.Writing.{payload_fault}
-use Rattle.amqp_stream.proofs.Going.{frame_fits}
 use Rattle.amqp_c.specs.declared.in_place.Rewrite.TheVariants as rewrites
 use Rattle.amqp_c.specs.InPlace.{IsCanonicalRun, LacksRoom, Rewrites, StopsBefore}
 use Rattle.amqp_c.specs.Rewriting.{JudgesAt, came}
 use Rattle.amqp_c.specs.Scans.{error_at}
-use Rattle.amqp_c.proofs.Fronts.{Going, fault_verdict, going_on, judged_refused, unscanned}
+use Rattle.amqp_c.proofs.Fronts.{Going, error_as, fits_as, found_as, going_on, judged_refused, stops, taken_as, unscanned}
 
--- ---- the frame in front
-
--- a frame that lies there, by its outer parts
-lies_as : (m : ℕ) (bytes : List ℕ) (raw : Raw) (layout : FrameLayout) → Lies m bytes layout
-    → raw ≡ laid_out layout bytes → scan (Some m) bytes ≡ took raw layout.frame_len
-lies_as m bytes raw layout lies is = lies.found ∙ ap (λ (r : Raw). took r layout.frame_len) (sym is)
-
--- what has an error is no frame
-no_frame : (j : Judged Frame) (error : StreamError) → error_at j ≡ Some error → (frame : Frame) (used : ℕ) → j ≢ took frame used
-no_frame (took x n) error e frame used is = absurd cc
-no_frame past error e frame used is = absurd cc
-no_frame (fault bad) error e frame used is = absurd cc
-
-fault_is_none : (j : Judged Frame) (bad : Fault) → j ≡ fault bad → (frame : Frame) (used : ℕ) → j ≢ took frame used
-fault_is_none (took x n) bad e frame used is = absurd cc
-fault_is_none past bad e frame used is = absurd cc
-fault_is_none (fault b) bad e frame used is = absurd cc
-
-below_level : (t : Bool) (read : Result Frame Fault) (f : Frame) (n : ℕ) → read ≡ Ok f → t ≡ false → judge_decoded t read n ≡ fault not_tidy
-below_level true read f n e h = absurd cc
-below_level false read f n e h = ap (λ r. judge_decoded false r n) e
-
-not_strict : (m : ℕ) (bytes : List ℕ) (raw : Raw) (n : ℕ) (f : Frame) → scan (Some m) bytes ≡ took raw n
-    → decode_raw raw ≡ Ok f → is_at strict raw ≡ false → judge_frame strict (Some m) bytes ≡ fault not_tidy
-unfolding judge_frame
-not_strict m bytes raw n f found e h = ap (judge_scanned strict) found ∙ below_level (is_at strict raw) (decode_raw raw) f n e h
-
--- the bytes of a canonical frame
-strict_bytes : (m : ℕ) (bytes : List ℕ) (f : Frame) (n : ℕ) → IsBytes bytes → judge_frame strict (Some m) bytes ≡ took f n → take n bytes ≡ canon f
-strict_bytes m bytes f n fits e =
-    let spelled = verdict-spells strict (Some m) bytes f n fits e in
-    let sequence : SpellsFrames strict (Some m) (take n bytes) (f ∷ []) = (take n bytes, [], sym (append-nil (take n bytes)), spelled.0, spelled.1, refl) in
-    (one_strict strict (Some m) (take n bytes) (f ∷ []) sequence).only (take n bytes) sequence ∙ append-nil (canon f)
-
--- no other frame has its canonical bytes
-other_bytes : (level : Level) (m : ℕ) (bytes : List ℕ) (f : Frame) (n : ℕ) → IsBytes bytes
-    → judge_frame level (Some m) bytes ≡ took f n → judge_frame strict (Some m) bytes ≡ fault not_tidy → take n bytes ≢ canon f
-other_bytes level m bytes f n fits e bad same =
-    let spelled = verdict-spells level (Some m) bytes f n fits e in
-    let sequence : SpellsFrames level (Some m) (take n bytes) (f ∷ []) = (take n bytes, [], sym (append-nil (take n bytes)), spelled.0, spelled.1, refl) in
-    let one = (one_strict level (Some m) (take n bytes) (f ∷ []) sequence).canonical in
-    let before = SpellsFrames-precedes strict (Some m) (canon_frames (f ∷ [])) (f ∷ []) one in
-    let parts : canon_frames (f ∷ []) ++ drop n bytes ≡ bytes =
-    ap (λ (xs : List ℕ). xs ++ drop n bytes) (append-nil (canon f) ∙ sym same) ∙ take-append-drop n bytes in
-    let some : front strict (Some m) bytes ≡ f ∷ front strict (Some m) (drop n bytes) =
-    ap (front strict (Some m)) (sym parts) ∙ before.sequence (drop n bytes) in
-    let none : front strict (Some m) bytes ≡ [] = (front-stop strict (Some m) bytes (subst IsStop (sym bad) tt)).0 in
-    absurd (let both : [] ≡ f ∷ front strict (Some m) (drop n bytes) = sym none ∙ some in cc)
-
--- ---- a run of canonical frames
+-- ---- the bytes of a frame
 
 -- no canonical frame is in front
 abbrev pub HasNone : ℕ → List ℕ → Type 0
-HasNone m bytes = (frame : Frame) (used : ℕ) → judge_frame strict (Some m) bytes ≢ took frame used
+HasNone m bytes = IsStop (judge_frame strict (Some m) bytes)
 
 -- a canonical frame of so many bytes is in front
 abbrev pub HasOne : ℕ → List ℕ → ℕ → Type 0
 HasOne m bytes used = (frame : Frame) × (judge_frame strict (Some m) bytes ≡ took frame used)
 
+below_level : (at_level : Bool) (read : Result Frame Fault) (f : Frame) (n : ℕ) → read ≡ Ok f → at_level ≡ false → IsStop (judge_decoded at_level read n)
+below_level at_level read f n e h = rw (h, e) tt
+
+not_strict : (m : ℕ) (bytes : List ℕ) (raw : Raw) (n : ℕ) (f : Frame) → scan (Some m) bytes ≡ took raw n
+    → decode_raw raw ≡ Ok f → is_at strict raw ≡ false → HasNone m bytes
+unfolding judge_frame
+not_strict m bytes raw n f found e h = subst (λ j. IsStop (judge_scanned strict j)) (sym found) (below_level (is_at strict raw) (decode_raw raw) f n e h)
+
+one_frame : (level : Level) (m : ℕ) (bytes : List ℕ) (f : Frame) (n : ℕ) → IsBytes bytes
+    → judge_frame level (Some m) bytes ≡ took f n → SpellsFrames level (Some m) (take n bytes) (f ∷ [])
+one_frame level m bytes f n fits e =
+    let spelled = verdict-spells level (Some m) bytes f n fits e in (take n bytes, [], sym (append-nil (take n bytes)), spelled.0, spelled.1, refl)
+
+-- the bytes of a canonical frame
+strict_bytes : (m : ℕ) (bytes : List ℕ) (f : Frame) (n : ℕ) → IsBytes bytes → judge_frame strict (Some m) bytes ≡ took f n → take n bytes ≡ canon f
+strict_bytes m bytes f n fits e =
+    let sequence = one_frame strict m bytes f n fits e in
+    (one_strict strict (Some m) (take n bytes) (f ∷ []) sequence).only (take n bytes) sequence ∙ append-nil (canon f)
+
+-- no other frame has its canonical bytes
+other_bytes : (level : Level) (m : ℕ) (bytes : List ℕ) (f : Frame) (n : ℕ) → IsBytes bytes
+    → judge_frame level (Some m) bytes ≡ took f n → HasNone m bytes → take n bytes ≢ canon f
+other_bytes level m bytes f n fits e stop same =
+    let one = (one_strict level (Some m) (take n bytes) (f ∷ []) (one_frame level m bytes f n fits e)).canonical in
+    let before = SpellsFrames-precedes strict (Some m) (canon_frames (f ∷ [])) (f ∷ []) one in
+    let parts : canon_frames (f ∷ []) ++ drop n bytes ≡ bytes =
+    ap (λ (xs : List ℕ). xs ++ drop n bytes) (append-nil (canon f) ∙ sym same) ∙ take-append-drop n bytes in
+    let some : front strict (Some m) bytes ≡ f ∷ front strict (Some m) (drop n bytes) =
+    ap (front strict (Some m)) (sym parts) ∙ before.sequence (drop n bytes) in
+    let none : front strict (Some m) bytes ≡ [] = (front-stop strict (Some m) bytes stop).0 in
+    absurd (let both = sym none ∙ some in cc)
+
+-- ---- a run of canonical frames
+
 -- Where the header scan fails, no canonical frame is in front.
 pub run_unscanned : (m : ℕ) (bytes : List ℕ) (error : StreamError) → error_at (scan (Some m) bytes) ≡ Some error → HasNone m bytes
-run_unscanned m bytes error e = no_frame (judge_frame strict (Some m) bytes) error (unscanned strict m bytes error e)
+run_unscanned m bytes error e = stops (judge_frame strict (Some m) bytes) error (unscanned strict m bytes error e)
 
-module _ (m : ℕ) (bytes : List ℕ) (raw : Raw) (layout : FrameLayout) (lies : Lies m bytes layout) (is : raw ≡ laid_out layout bytes) where
+module _ {m : ℕ} {bytes : List ℕ} {raw : Raw} {layout : FrameLayout} (lies : Lies m bytes layout) (is : raw ≡ laid_out layout bytes) where
   -- Where the payload of the frame in front is refused, no canonical frame is in front.
   pub run_refused : (error : ParserError) → IsPayloadError error → error ≢ parses.NoMemory → RefusesWhole error (decode_raw raw) → HasNone m bytes
   run_refused error inside some h =
       let u = judged_refused strict raw error (payload_fault error) refl inside some h in
-      fault_is_none (judge_frame strict (Some m) bytes) u.0 (fault_verdict strict m bytes raw layout.frame_len u.0 (lies_as m bytes raw layout lies is) u.1)
+      stops (judge_frame strict (Some m) bytes) (payload_fault error) (error_as lies is u.1 u.2)
 
   -- Where the frame in front is canonical, a canonical frame of its length is in front.
   pub run_found : (found : FrameJudgement) → IsJudged raw found → found.canonical ≡ true → HasOne m bytes layout.frame_len
-  run_found found j canonical =
-      (j.frame, verdict-whole strict (Some m) bytes raw layout.frame_len j.frame (lies_as m bytes raw layout lies is) (sym j.canonical ∙ canonical) j.is)
+  run_found found j canonical = (j.frame, taken_as lies is strict j.frame (sym j.canonical ∙ canonical) j.is)
 
   -- Where the frame in front is not canonical, no canonical frame is in front.
   pub run_missed : (found : FrameJudgement) → IsJudged raw found → found.canonical ≡ false → HasNone m bytes
-  run_missed found j not =
-      fault_is_none (judge_frame strict (Some m) bytes) not_tidy
-      (not_strict m bytes raw layout.frame_len j.frame (lies_as m bytes raw layout lies is) j.is (sym j.canonical ∙ not))
+  run_missed found j not = not_strict m bytes raw layout.frame_len j.frame (found_as lies is) j.is (sym j.canonical ∙ not)
 
 -- so many bytes are canonical frames, whatever follows
 pub record Running (m : ℕ) (bytes : List ℕ) (used : ℕ) : Type 0 where
@@ -130,104 +110,93 @@ pub record Running (m : ℕ) (bytes : List ℕ) (used : ℕ) : Type 0 where
 pub running_start : (m : ℕ) (bytes : List ℕ) → Running m bytes 0
 running_start m bytes = record { after = refl; within = omega arith }
 
--- A canonical frame in front has at least eight bytes, and lies within the bytes.
-pub running_falls : (m : ℕ) (bytes : List ℕ) (used more : ℕ) → HasOne m (drop used bytes) more → (8 ≤ more) × (used + more ≤ length bytes)
-running_falls m bytes used more f =
-    let at = verdict-got_within strict (Some m) (drop used bytes) f.0 more f.1 in
-    (at.0, omega (arith, at.0, at.1, length-drop used bytes))
+-- a frame that is decoded from the rest of the bytes has at least eight bytes, and lies within them
+rewritten_falls : (level : Level) (m : ℕ) (now : List ℕ) (used more : ℕ) (frame : Frame)
+    → judge_frame level (Some m) (drop used now) ≡ took frame more → (8 ≤ more) × (used + more ≤ length now)
+rewritten_falls level m now used more frame e =
+    let at = verdict-got_within level (Some m) (drop used now) frame more e in (at.0, omega (arith, at.0, at.1, length-drop used now))
 
--- Canonical frames and one more canonical frame after them are canonical frames.
-pub running_on : {m : ℕ} {bytes : List ℕ} {used more : ℕ} → Running m bytes used → HasOne m (drop used bytes) more → Running m bytes (used + more)
-running_on {m = m} {bytes = bytes} {used = used} {more = more} r f =
-    let goes = front-got strict (Some m) (drop used bytes) f.0 more f.1 in
-    record {
-      after = r.after ∙ goes.after ∙ ap (place strict (Some m)) (drop-drop more used bytes);
-      within = (running_falls m bytes used more f).1;
-    }
+module _ {m : ℕ} {bytes : List ℕ} {used : ℕ} (r : Running m bytes used) where
+  -- A canonical frame in front of the rest has at least eight bytes, and lies within the bytes.
+  pub running_falls : (more : ℕ) → HasOne m (drop used bytes) more → (8 ≤ more) × (used + more ≤ length bytes)
+  running_falls more f = rewritten_falls strict m bytes used more f.0 f.1
 
-run_ends : (m : ℕ) (bytes : List ℕ) (used : ℕ) → IsBytes bytes → Running m bytes used
-    → place strict (Some m) (drop used bytes) ≡ drop used bytes → IsCanonicalRun m bytes used
-run_ends m bytes used fits r stays =
-    let left : place strict (Some m) bytes ≡ drop used bytes = r.after ∙ stays in
-    let s = longest_sequence strict (Some m) bytes fits in
-    let frames = front strict (Some m) bytes in
-    let size : length s.spelled ≡ used =
-    omega (arith, ap length s.parts, length-append s.spelled (place strict (Some m) bytes), ap length left, length-drop used bytes, r.within) in
-    let same : take used bytes ≡ s.spelled = ap (take used) s.parts ∙ take_at s.spelled (place strict (Some m) bytes) used size in
-    record {
-      within = r.within;
-      frames = frames;
-      sequence = subst (λ (xs : List ℕ). SpellsFrames strict (Some m) xs frames) (sym same) s.sequence;
-      canonical = same ∙ (one_strict strict (Some m) s.spelled frames s.sequence).only s.spelled s.sequence;
-      longest = λ other rest fs e h. omega (arith, s.longest other rest fs e h, size);
-    }
+  -- Canonical frames and one more canonical frame after them are canonical frames.
+  pub running_on : (more : ℕ) → HasOne m (drop used bytes) more → Running m bytes (used + more)
+  running_on more f =
+      let goes = front-got strict (Some m) (drop used bytes) f.0 more f.1 in
+      record {
+        after = r.after ∙ goes.after ∙ ap (place strict (Some m)) (drop-drop more used bytes);
+        within = (running_falls more f).1;
+      }
 
-stopped : (j : Judged Frame) → ((frame : Frame) (used : ℕ) → j ≢ took frame used) → IsStop j
-stopped (took f n) h = absurd (h f n refl)
-stopped past h = tt
-stopped (fault bad) h = tt
+  run_ends : IsBytes bytes → place strict (Some m) (drop used bytes) ≡ drop used bytes → IsCanonicalRun m bytes used
+  run_ends fits stays =
+      let left : place strict (Some m) bytes ≡ drop used bytes = r.after ∙ stays in
+      let s = longest_sequence strict (Some m) bytes fits in
+      let frames = front strict (Some m) bytes in
+      let size : length s.spelled ≡ used =
+      omega (arith, ap length s.parts, length-append s.spelled (place strict (Some m) bytes), ap length left, length-drop used bytes, r.within) in
+      let same : take used bytes ≡ s.spelled = ap (take used) s.parts ∙ take_at s.spelled (place strict (Some m) bytes) used size in
+      record {
+        within = r.within;
+        frames = frames;
+        sequence = subst (λ (xs : List ℕ). SpellsFrames strict (Some m) xs frames) (sym same) s.sequence;
+        canonical = same ∙ (one_strict strict (Some m) s.spelled frames s.sequence).only s.spelled s.sequence;
+        longest = λ other rest fs e h. omega (arith, s.longest other rest fs e h, size);
+      }
 
--- Where no canonical frame is in front of the rest, what was passed is the longest run of canonical frames.
-pub run_stops : {m : ℕ} {bytes : List ℕ} {used : ℕ} → IsBytes bytes → Running m bytes used → HasNone m (drop used bytes) → IsCanonicalRun m bytes used
-run_stops {m = m} {bytes = bytes} {used = used} fits r none =
-    run_ends m bytes used fits r (front-stop strict (Some m) (drop used bytes) (stopped (judge_frame strict (Some m) (drop used bytes)) none)).1
+  -- Where no canonical frame is in front of the rest, what was passed is the longest run of canonical frames.
+  pub run_stops : IsBytes bytes → HasNone m (drop used bytes) → IsCanonicalRun m bytes used
+  run_stops fits none = run_ends fits (front-stop strict (Some m) (drop used bytes) none).1
 
--- Where all bytes were passed, they are the longest run of canonical frames.
-pub run_finishes : {m : ℕ} {bytes : List ℕ} {used : ℕ} → IsBytes bytes → length bytes ≤ used → Running m bytes used → IsCanonicalRun m bytes used
-run_finishes {m = m} {bytes = bytes} {used = used} fits all r =
-    let none : drop used bytes ≡ [] = drop_all used bytes all in
-    run_ends m bytes used fits r (ap (place strict (Some m)) none ∙ place-none strict (Some m) ∙ sym none)
+  -- Where all bytes were passed, they are.
+  pub run_finishes : IsBytes bytes → length bytes ≤ used → IsCanonicalRun m bytes used
+  run_finishes fits all =
+      let none : drop used bytes ≡ [] = drop_all used bytes all in
+      run_ends fits (ap (place strict (Some m)) none ∙ place-none strict (Some m) ∙ sym none)
 
 -- ---- one frame
 
-module _ (level : Level) (m : ℕ) (bytes : List ℕ) (raw : Raw) (layout : FrameLayout) (lies : Lies m bytes layout) (is : raw ≡ laid_out layout bytes) where
+module _ {m : ℕ} {bytes : List ℕ} {raw : Raw} {layout : FrameLayout} (lies : Lies m bytes layout) (is : raw ≡ laid_out layout bytes)
+    (level : Level) (old new : List ℕ) where
   -- Where the frame in front is refused at the level, rewriting it is.
-  pub rewrite_refused : (old new : List ℕ) (error : StreamError) → JudgesAt level raw (Err error) → Rewrites level m bytes old new (Err error)
-  rewrite_refused old new error j =
-      ap error_at (fault_verdict level m bytes raw layout.frame_len j.0 (lies_as m bytes raw layout lies is) j.1) ∙ ap (λ e. Some e) (sym j.2)
+  pub rewrite_refused : (error : StreamError) → JudgesAt level raw (Err error) → Rewrites level m bytes old new (Err error)
+  rewrite_refused error j = error_as lies is j.1 j.2
 
   -- Where the frame in front is canonical, it is kept as it is.
-  pub rewrite_kept : (old new : List ℕ) (judge_scanned : FrameJudgement) → IsBytes bytes → JudgesAt level raw (Ok judge_scanned)
-      → judge_scanned.canonical ≡ true → Rewrites level m bytes old new (Ok (rewrites.Kept layout.frame_len))
-  rewrite_kept old new judge_scanned fits (j, at_level) so =
-      let found = lies_as m bytes raw layout lies is in
-      let canonical = verdict-whole strict (Some m) bytes raw layout.frame_len j.frame found (sym j.canonical ∙ so) j.is in (
-        j.frame,
-        verdict-whole level (Some m) bytes raw layout.frame_len j.frame found at_level j.is,
-        strict_bytes m bytes j.frame layout.frame_len fits canonical,
-      )
+  pub rewrite_kept : (judged : FrameJudgement) → IsBytes bytes → JudgesAt level raw (Ok judged)
+      → judged.canonical ≡ true → Rewrites level m bytes old new (Ok (rewrites.Kept layout.frame_len))
+  rewrite_kept judged fits (j, at_level) so = (
+    j.frame,
+    taken_as lies is level j.frame at_level j.is,
+    strict_bytes m bytes j.frame layout.frame_len fits (taken_as lies is strict j.frame (sym j.canonical ∙ so) j.is),
+  )
 
   -- Where the frame in front is not canonical, and the spare buffer is shorter than it, it has no room there.
-  pub rewrite_no_room : (old new : List ℕ) (judge_scanned : FrameJudgement) → IsBytes bytes → JudgesAt level raw (Ok judge_scanned)
-      → judge_scanned.canonical ≡ false → length old < layout.frame_len → Rewrites level m bytes old new (Ok rewrites.NoRoom)
-  rewrite_no_room old new judge_scanned fits (j, at_level) not short =
-      let found = lies_as m bytes raw layout lies is in
-      let taken = verdict-whole level (Some m) bytes raw layout.frame_len j.frame found at_level j.is in
+  pub rewrite_no_room : (judged : FrameJudgement) → IsBytes bytes → JudgesAt level raw (Ok judged)
+      → judged.canonical ≡ false → length old < layout.frame_len → Rewrites level m bytes old new (Ok rewrites.NoRoom)
+  rewrite_no_room judged fits (j, at_level) not short =
+      let taken = taken_as lies is level j.frame at_level j.is in
       record {
         frame = j.frame;
         used = layout.frame_len;
         found = taken;
-        changed =
-            other_bytes level m bytes j.frame layout.frame_len fits taken (not_strict m bytes raw layout.frame_len j.frame found j.is (sym j.canonical ∙ not));
+        changed = other_bytes level m bytes j.frame layout.frame_len fits taken (run_missed lies is judged j not);
         longer = short;
       }
 
-  -- Where there is room for what the header scan found in front, there is room for a frame with this payload.
-  pub rewrite_room : (room : ℕ) → layout.frame_len ≤ room → 0 + frame_length raw ≤ room
-  rewrite_room room h = omega (arith, h, frame_fits m bytes raw layout.frame_len (lies_as m bytes raw layout lies is))
-
   -- Where the canonical bytes of the frame in front are put in the spare buffer, they are no longer than it.
-  pub rewrite_spare : (old new : List ℕ) (count : ℕ) (judge_scanned : FrameJudgement) → JudgesAt level raw (Ok judge_scanned)
+  pub rewrite_spare : (count : ℕ) (judged : FrameJudgement) → JudgesAt level raw (Ok judged)
       → layout.frame_len ≤ length old → puts.Rewrites old new 0 (decode_raw raw) (Ok count)
       → count ≤ 0 + frame_length raw → Rewrites level m bytes old new (Ok (rewrites.Spare layout.frame_len count))
   unfolding written
-  rewrite_spare old new count judge_scanned j room puts within =
-      let found = lies_as m bytes raw layout lies is in
+  rewrite_spare count judged j room puts within =
       let put = puts.2 in
-      let fits = frame_fits m bytes raw layout.frame_len found in
+      let fits = fits_as lies is in
       let size : length new ≡ length old = puts-length old new 0 count (canon puts.0) (omega (arith, put.behind, within, fits, room)) put in (
         puts.0,
-        verdict-whole level (Some m) bytes raw layout.frame_len puts.0 found j.1 puts.1,
+        taken_as lies is level puts.0 j.1 puts.1,
         omega (arith, within, fits, room, size),
         ap (take count) put.put ∙ take_at (canon puts.0) (drop (0 + length (canon puts.0)) old) count (omega (arith, put.behind)),
         omega (arith, within, fits),
@@ -235,122 +204,97 @@ module _ (level : Level) (m : ℕ) (bytes : List ℕ) (raw : Raw) (layout : Fram
 
 -- ---- the buffer
 
--- Moving bytes within a buffer puts them at the place where they are moved to.
-pub moved_front : (buf new : List ℕ) (from count to : ℕ) → from + count ≤ length buf
-    → new ≡ copy_within buf from (from + count) to → Puts buf new to (take count (drop from buf)) (to + count)
-unfolding written
-moved_front buf new from count to inside is =
-    let size : length (take count (drop from buf)) ≡ count = length-take-le count (drop from buf) (omega (arith, length-drop from buf)) in
-    record {
-      put =
-          is ∙ ap (paste buf to (drop from buf)) {x = from + count - from} {y = count} (omega arith)
-          ∙ append_assoc (take to buf) (take count (drop from buf)) (drop (to + count) buf)
-          ∙ ap (λ n. take to buf ++ (take count (drop from buf) ++ drop (to + n) buf)) (sym size);
-      behind = omega (arith, size);
-    }
+module _ (buf : List ℕ) (from count to : ℕ) (inside : from + count ≤ length buf) where
+  moved_size : length (take count (drop from buf)) ≡ count
+  moved_size = length-take-le count (drop from buf) (omega (arith, length-drop from buf))
 
--- Bytes that stay where they are, are put there.
-pub moved_nowhere : (buf : List ℕ) (from count to : ℕ) → from + count ≤ length buf → from ≡ to → Puts buf buf to (take count (drop from buf)) (to + count)
-unfolding written
-moved_nowhere buf from count to inside same =
-    let size : length (take count (drop from buf)) ≡ count = length-take-le count (drop from buf) (omega (arith, length-drop from buf)) in
-    let rest : take count (drop from buf) ++ drop (from + count) buf ≡ drop from buf =
-    ap (λ (xs : List ℕ). take count (drop from buf) ++ xs) (sym (drop-drop count from buf)) ∙ take-append-drop count (drop from buf) in
-    let all : take from buf ++ (take count (drop from buf) ++ drop (from + count) buf) ≡ buf =
-    ap (λ (xs : List ℕ). take from buf ++ xs) rest ∙ take-append-drop from buf in
-    record {
-      put =
-          sym all ∙ ap (λ k. take k buf ++ (take count (drop from buf) ++ drop (k + count) buf)) same
-          ∙ ap (λ n. take to buf ++ (take count (drop from buf) ++ drop (to + n) buf)) (sym size);
-      behind = omega (arith, size);
-    }
+  -- Moving bytes within a buffer puts them at the place where they are moved to.
+  pub moved_front : (new : List ℕ) → new ≡ copy_within buf from (from + count) to → Puts buf new to (take count (drop from buf)) (to + count)
+  unfolding written
+  moved_front new is = record {
+    put =
+        is ∙ ap (paste buf to (drop from buf)) {x = from + count - from} {y = count} (omega arith)
+        ∙ append_assoc (take to buf) (take count (drop from buf)) (drop (to + count) buf)
+        ∙ ap (λ n. take to buf ++ (take count (drop from buf) ++ drop (to + n) buf)) (sym moved_size);
+    behind = omega (arith, moved_size);
+  }
 
--- what was not used is as it was
-pub going_rest : {level : Level} {m : ℕ} {bytes now : List ℕ} {used done : ℕ} → Going level m bytes bytes now used done → drop used now ≡ drop used bytes
-unfolding written
-going_rest {bytes = bytes} {now = now} {used = used} {done = done} g =
-    let text = canon_frames g.frames in
-    ap (drop used) (g.put.put ∙ ap (λ n. text ++ drop n bytes) {x = 0 + length text} {y = length text} (omega arith))
-    ∙ drop-append-drop (length text) bytes text used (omega (arith, g.put.behind, g.shorter)) refl
+  -- Bytes that stay where they are, are put there.
+  pub moved_nowhere : from ≡ to → Puts buf buf to (take count (drop from buf)) (to + count)
+  unfolding written
+  moved_nowhere same =
+      let rest : take count (drop from buf) ++ drop (from + count) buf ≡ drop from buf =
+      ap (λ (xs : List ℕ). take count (drop from buf) ++ xs) (sym (drop-drop count from buf)) ∙ take-append-drop count (drop from buf) in
+      let all : take from buf ++ (take count (drop from buf) ++ drop (from + count) buf) ≡ buf =
+      ap (λ (xs : List ℕ). take from buf ++ xs) rest ∙ take-append-drop from buf in
+      record {
+        put =
+            sym all ∙ ap (λ k. take k buf ++ (take count (drop from buf) ++ drop (k + count) buf)) same
+            ∙ ap (λ n. take to buf ++ (take count (drop from buf) ++ drop (to + n) buf)) (sym moved_size);
+        behind = omega (arith, moved_size);
+      }
 
--- Frames that were put in a buffer leave its length.
-pub going_length : {level : Level} {m : ℕ} {bytes now : List ℕ} {used done : ℕ} → Going level m bytes bytes now used done → length now ≡ length bytes
-going_length {bytes = bytes} {now = now} {done = done} g =
-    puts-length bytes now 0 done (canon_frames g.frames) (omega (arith, g.put.behind, g.shorter, g.within)) g.put
+module _ {level : Level} {m : ℕ} {bytes now : List ℕ} {used done : ℕ} (g : Going level m bytes bytes now used done) where
+  -- What was not used is as it was.
+  pub going_rest : drop used now ≡ drop used bytes
+  unfolding written
+  going_rest =
+      let text = canon_frames g.frames in
+      ap (drop used) (g.put.put ∙ ap (λ n. text ++ drop n bytes) {x = 0 + length text} {y = length text} (omega arith))
+      ∙ drop-append-drop (length text) bytes text used (omega (arith, g.put.behind, g.shorter)) refl
 
--- a frame that was found in the bytes that are there
-found_in : (level : Level) (m : ℕ) (bytes now : List ℕ) (used more : ℕ) (frame : Frame) → drop used now ≡ drop used bytes
-    → judge_frame level (Some m) (drop used now) ≡ took frame more → judge_frame level (Some m) (drop used bytes) ≡ took frame more
-found_in level m bytes now used more frame same e = ap (judge_frame level (Some m)) (sym same) ∙ e
+  -- Frames that were put in a buffer leave its length.
+  pub going_length : length now ≡ length bytes
+  going_length = puts-length bytes now 0 done (canon_frames g.frames) (omega (arith, g.put.behind, g.shorter, g.within)) g.put
 
--- A frame that is decoded from the rest of the bytes has at least eight bytes, and lies within them.
-pub rewritten_falls : (level : Level) (m : ℕ) (now : List ℕ) (used more : ℕ) (frame : Frame)
-    → judge_frame level (Some m) (drop used now) ≡ took frame more → (8 ≤ more) × (used + more ≤ length now)
-rewritten_falls level m now used more frame e =
-    let at = verdict-got_within level (Some m) (drop used now) frame more e in
-    (at.0, omega (arith, at.0, at.1, length-drop used now))
+  -- A frame that is decoded from the rest has at least eight bytes, and lies within the buffer, and so within the bytes.
+  pub frame_falls : {more : ℕ} (frame : Frame) → judge_frame level (Some m) (drop used now) ≡ took frame more
+      → (8 ≤ more) × (used + more ≤ length now) × (used + more ≤ length bytes)
+  frame_falls {more = more} frame e =
+      let falls = rewritten_falls level m now used more frame e in (falls.0, falls.1, omega (arith, falls.1, going_length))
 
--- The canonical bytes in the spare buffer fit in the buffer after those that were put.
-pub spare_fits : (level : Level) (m : ℕ) (now old spare : List ℕ) (used done more count : ℕ)
-    → Rewrites level m (drop used now) old spare (Ok (rewrites.Spare more count)) → done ≤ used → done + length (take count spare) ≤ length now
-spare_fits level m now old spare used done more count r h =
-    omega (arith, h, r.4, length-take-le count spare r.2, (rewritten_falls level m now used more r.0 r.1).1)
-
-module _ {level : Level} {m : ℕ} {bytes now new : List ℕ} {used done more end : ℕ} (old spare : List ℕ) where
-  -- Where a canonical frame is kept, and put to the frames before it, one frame more was put.
-  pub going_kept : Going level m bytes bytes now used done → Rewrites level m (drop used now) old spare (Ok (rewrites.Kept more))
-      → Puts now new done (take more (drop used now)) end → Going level m bytes bytes new (used + more) end
-  going_kept g r put =
-      let at = rewritten_falls level m now used more r.0 r.1 in
-      going_on (omega arith) g (record {
-        frame = r.0;
-        found = found_in level m bytes now used more r.0 (going_rest g) r.1;
-        put = subst (λ (xs : List ℕ). Puts now new done xs end) r.2 put;
-        no_longer = omega (arith, put.behind, length-take-le more (drop used now) (omega (arith, at.0, at.1, length-drop used now)));
-      })
-
-  -- Where a frame is put to those before it out of the spare buffer, one frame more was put.
-  pub going_spare : (count : ℕ) → Going level m bytes bytes now used done → Rewrites level m (drop used now) old spare (Ok (rewrites.Spare more count))
-      → Puts now new done (take count spare) end → Going level m bytes bytes new (used + more) end
-  going_spare count g r put = going_on (omega arith) g (record {
-    frame = r.0;
-    found = found_in level m bytes now used more r.0 (going_rest g) r.1;
-    put = subst (λ (xs : List ℕ). Puts now new done xs end) r.3 put;
-    no_longer = omega (arith, put.behind, length-take-le count spare r.2, r.4);
+  -- One frame more is put to those before it, as long as what stands in front or shorter.
+  going_more : {new text : List ℕ} {more end : ℕ} (frame : Frame) → judge_frame level (Some m) (drop used now) ≡ took frame more → text ≡ canon frame
+      → Puts now new done text end → length text ≤ more → Going level m bytes bytes new (used + more) end
+  going_more {new = new} {text = text} {end = end} frame found is put short = going_on g (omega arith) (record {
+    frame = frame;
+    found = ap (judge_frame level (Some m)) (sym going_rest) ∙ found;
+    put = subst (λ (xs : List ℕ). Puts now new done xs end) is put;
+    no_longer = omega (arith, put.behind, short);
   })
 
--- Where the spare buffer has no room for the frame in front, the progress stops before it, with the buffer kept after the frames.
-pub going_lacks : {level : Level} {m : ℕ} {bytes now : List ℕ} {used done : ℕ} (room : ℕ) → Going level m bytes bytes now used done
-    → LacksRoom level m (drop used now) room → StopsBefore level m room bytes now (came used done 40)
-going_lacks {level = level} {m = m} room g lacks = record {
-  frames = g.frames;
-  sequence = g.sequence;
-  after = g.after;
-  put = g.put;
-  no_longer = g.shorter;
-  next = subst (λ (xs : List ℕ). LacksRoom level m xs room) (going_rest g) lacks;
-  unused = refl;
-}
+  -- Where a canonical frame is kept, and put to the frames before it, one frame more was put.
+  pub going_kept : {new : List ℕ} {more end : ℕ} (old spare : List ℕ) → Rewrites level m (drop used now) old spare (Ok (rewrites.Kept more))
+      → Puts now new done (take more (drop used now)) end → Going level m bytes bytes new (used + more) end
+  going_kept {more = more} old spare r put =
+      let at = rewritten_falls level m now used more r.0 r.1 in
+      going_more r.0 r.1 r.2 put (omega (arith, length-take-le more (drop used now) (omega (arith, at.1, length-drop used now))))
+
+  -- The same of a frame that is put out of the spare buffer.
+  pub going_spare : {new : List ℕ} {more end : ℕ} (old spare : List ℕ) (count : ℕ) → Rewrites level m (drop used now) old spare (Ok (rewrites.Spare more count))
+      → Puts now new done (take count spare) end → Going level m bytes bytes new (used + more) end
+  going_spare old spare count r put = going_more r.0 r.1 r.3 put (omega (arith, length-take-le count spare r.2, r.4))
+
+  -- The canonical bytes in the spare buffer fit in the buffer after those that were put.
+  pub spare_fits : (more count : ℕ) (old spare : List ℕ) → Rewrites level m (drop used now) old spare (Ok (rewrites.Spare more count))
+      → done + length (take count spare) ≤ length now
+  spare_fits more count old spare r = omega (arith, g.shorter, r.4, length-take-le count spare r.2, (rewritten_falls level m now used more r.0 r.1).1)
+
+  -- Where the spare buffer has no room for the frame in front, the progress stops before it, with the buffer kept after the frames.
+  pub going_lacks : (room : ℕ) → LacksRoom level m (drop used now) room → StopsBefore level m room bytes now (came used done 40)
+  going_lacks room lacks = record {
+    frames = g.frames;
+    sequence = g.sequence;
+    after = g.after;
+    put = g.put;
+    no_longer = g.shorter;
+    next = subst (λ (xs : List ℕ). LacksRoom level m xs room) going_rest lacks;
+    unused = refl;
+  }
 
 -- no error of a stream has this status
 pub no_small_stream : (error : StreamError) → stream_error_status error ≢ 40
-no_small_stream errors.NoMemory e = absurd (omega (arith, e))
-no_small_stream errors.ReadFault e = absurd (omega (arith, e))
-no_small_stream errors.WriteFault e = absurd (omega (arith, e))
-no_small_stream errors.UnknownFrameType e = absurd (omega (arith, e))
-no_small_stream errors.BadProtocolHeader e = absurd (omega (arith, e))
-no_small_stream errors.TooLarge e = absurd (omega (arith, e))
-no_small_stream errors.BadFrameEnd e = absurd (omega (arith, e))
-no_small_stream errors.UnknownClass e = absurd (omega (arith, e))
-no_small_stream errors.UnknownMethod e = absurd (omega (arith, e))
-no_small_stream errors.ShortPayload e = absurd (omega (arith, e))
-no_small_stream errors.TrailingBytes e = absurd (omega (arith, e))
-no_small_stream errors.NotUtf8 e = absurd (omega (arith, e))
-no_small_stream errors.UnknownTag e = absurd (omega (arith, e))
-no_small_stream errors.TooDeep e = absurd (omega (arith, e))
-no_small_stream errors.CutShort e = absurd (omega (arith, e))
-no_small_stream errors.TurnsSpent e = absurd (omega (arith, e))
-no_small_stream errors.NotTidy e = absurd (omega (arith, e))
+no_small_stream error e = grind arith
 
 limit_by : (level : Level) (m : ℕ) (bytes : List ℕ) (frame : Frame) (n : ℕ) (j : Judged Raw)
     → scan (Some m) bytes ≡ j → judge_scanned level j ≡ took frame n → n ≤ m + 8

@@ -1,11 +1,10 @@
 -- How many bytes a frame has at least, by those that are there.
-use Rattle.std.proofs.Common.{◌≡◌, ℕ, ◌+◌, ◌<◌, ◌≤◌, eqb, true, false, cond, List, [], ◌∷◌, ◌++◌, length, get_or, Option, Some, None, refl}
+use Rattle.std.proofs.Common.{◌≡◌, ℕ, ◌+◌, ◌<◌, ◌≤◌, eqb, Bool, true, false, cond, List, [], ◌∷◌, ◌++◌, length, get_or, Option, Some, None, refl}
 use Rattle.std.proofs.Common.{sym, ap, subst, arith, inl, inr}
 use Rattle.std.proofs.lemmas.Bool.{cases_lt, cases_Bool, le-ltb, lt-ltb, ltb-false}
 use Rattle.std.proofs.lemmas.List.{length-append}
 use Rattle.std.specs.Int.{w32, from_be_bytes}
-use Rattle.amqp_types.specs.Judging.{Judged, past, fault, took, unknown_frame_type, bad_protocol_header, too_large, bad_frame_end, unknown_class}
-use Rattle.amqp_types.specs.Judging.{unknown_method, short_payload, trailing_bytes, not_utf8, unknown_tag, too_deep, not_tidy}
+use Rattle.amqp_types.specs.Judging.{Judged, past, fault, took, unknown_frame_type}
 use Rattle.amqp_types.specs.Constants.{protocol_byte, protocol_mark, method_byte, header_byte, body_byte, heartbeat_byte}
 use Rattle.amqp_wire.specs.declared.frame_type.AMQPFrameType.{AMQPFrameType}
 use Rattle.amqp_wire.specs.declared.frame_type.AMQPFrameType.TheVariants as kinds
@@ -26,33 +25,17 @@ least_of : Option AMQPFrameType → List ℕ → ℕ
 least_of (Some kinds.ProtocolHeader) rest = 8
 least_of other rest = least_after rest
 
+least_by : (test : Bool) (kind other : Option AMQPFrameType) (rest : List ℕ) → least_after rest ≡ least_of kind rest
+    → least_after rest ≡ least_of other rest → least_after rest ≡ least_of (cond test kind other) rest
+least_by true kind other rest h k = h
+least_by false kind other rest h k = k
+
 least_typed : (byte : ℕ) (rest : List ℕ) → least_length (byte ∷ rest) ≡ least_of (type_of byte) rest
 unfolding least_of
 least_typed byte rest = elim (cases_Bool (eqb byte protocol_byte)) [
   | inl same ↦ rw same refl
-  | inr differs ↦
-      rw differs (elim (eqb byte method_byte) as (λ t. least_after rest
-      ≡ least_of
-      (cond t (Some kinds.Method) (cond (eqb byte header_byte) (Some kinds.Header)
-      (cond (eqb byte body_byte) (Some kinds.Body) (cond (eqb byte heartbeat_byte) (Some kinds.Heartbeat) None))))
-      rest) [
-        | true ↦ refl
-        | false ↦
-            elim (eqb byte header_byte) as (λ t. least_after rest
-            ≡ least_of
-            (cond t (Some kinds.Header) (cond (eqb byte body_byte) (Some kinds.Body) (cond (eqb byte heartbeat_byte) (Some kinds.Heartbeat) None))) rest) [
-              | true ↦ refl
-              | false ↦
-                  elim (eqb byte body_byte) as (λ t. least_after rest
-                  ≡ least_of (cond t (Some kinds.Body) (cond (eqb byte heartbeat_byte) (Some kinds.Heartbeat) None)) rest) [
-                    | true ↦ refl
-                    | false ↦ elim (eqb byte heartbeat_byte) as (λ t. least_after rest ≡ least_of (cond t (Some kinds.Heartbeat) None) rest) [
-                      | true ↦ refl
-                      | false ↦ refl
-                    ]
-                  ]
-            ]
-      ])
+  | inr differs ↦ rw differs (least_by (eqb byte method_byte) _ _ rest refl (least_by (eqb byte header_byte) _ _ rest refl
+      (least_by (eqb byte body_byte) _ _ rest refl (least_by (eqb byte heartbeat_byte) (Some kinds.Heartbeat) None rest refl refl))))
 ]
 
 -- ---- the scan wants as many bytes
@@ -165,17 +148,7 @@ pub cut_short : {A : Type 0} (j : Judged A) → error_at j ≡ Some errors.CutSh
 cut_short (took x used) e = absurd cc
 cut_short past e = refl
 cut_short (fault unknown_frame_type) e = absurd cc
-cut_short (fault bad_protocol_header) e = absurd cc
-cut_short (fault too_large) e = absurd cc
-cut_short (fault bad_frame_end) e = absurd cc
-cut_short (fault unknown_class) e = absurd cc
-cut_short (fault unknown_method) e = absurd cc
-cut_short (fault short_payload) e = absurd cc
-cut_short (fault trailing_bytes) e = absurd cc
-cut_short (fault not_utf8) e = absurd cc
-cut_short (fault unknown_tag) e = absurd cc
-cut_short (fault too_deep) e = absurd cc
-cut_short (fault not_tidy) e = absurd cc
+cut_short (fault bad) e = absurd cc
 
 -- ---- what is returned
 

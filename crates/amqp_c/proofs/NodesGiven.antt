@@ -1,5 +1,5 @@
 -- What is reported of fields is what was read of them.
-use Rattle.std.proofs.Common.{◌≡◌, ℕ, ◌<◌, ◌≤◌, nat_lt, Bool, if◌then◌else◌, List, length, take, Some, Result, Ok, Err, refl, sym, ap, subst, ◌∙◌, arith}
+use Rattle.std.proofs.Common.{◌≡◌, ℕ, ◌<◌, ◌≤◌, nat_lt, Bool, List, length, take, Some, Result, Ok, Err, refl, sym, ap, subst, ◌∙◌, arith}
 use Rattle.std.specs.Prelude.{IsOk, IfOk, IfErr}
 use Rattle.std.proofs.lemmas.Bool.{le-ltb, lt-ltb}
 use Rattle.amqp_types.specs.Levels.{tidy, strict}
@@ -37,24 +37,18 @@ module _ (nodes : List Node) (most : ℕ) (given : ℕ → PayloadFields) (list 
   in_room : StandInFront nodes list count → result ≡ given count → GivesNodes nodes most given list result
   in_room front is = record {
     few = few;
-    result_is =
-        is ∙ ap given front.count_is
-        ∙ sym (ap (λ t. if t then counted buffer_too_small (length nodes) else given (length nodes))
-        (le-ltb (length list) (length nodes) (omega (arith, front.fit, front.count_is))));
+    result_is = rw (le-ltb (length list) (length nodes) (omega (arith, front.fit, front.count_is))) (is ∙ ap given front.count_is);
     in_front = λ room. ap (λ n. take n list) (sym front.count_is) ∙ front.front;
   }
 
   beyond : (old : List Node) → length list ≡ length old → NeedsMore nodes (length old) count
       → result ≡ counted buffer_too_small count → GivesNodes nodes most given list result
-  beyond old same more is =
-      record {
-        few = few;
-        result_is =
-            is ∙ ap (counted buffer_too_small) more.needed_is
-            ∙ sym (ap (λ t. if t then counted buffer_too_small (length nodes) else given (length nodes))
-            (lt-ltb (length list) (length nodes) (omega (arith, same, more.more, more.needed_is))));
-        in_front = λ room. absurd (omega (arith, room, same, more.more, more.needed_is));
-      }
+  beyond old same more is = record {
+    few = few;
+    result_is =
+        rw (lt-ltb (length list) (length nodes) (omega (arith, same, more.more, more.needed_is))) (is ∙ ap (counted buffer_too_small) more.needed_is);
+    in_front = λ room. absurd (omega (arith, room, same, more.more, more.needed_is));
+  }
 
 ok_of : {A : Type 0} (read : Result A Fault) → IsOk read → (x : A) × (read ≡ Ok x)
 ok_of (Ok x) h = (x, refl)
@@ -70,12 +64,9 @@ pub nodes_given : (kind : AMQPFrameType) (payload : List ℕ) (deep : Bool) (lis
 nodes_given kind payload deep list found outline result valid front levels outlined few is =
     let raw = raw_as kind 0 payload in
     let has = ok_of (decode_raw raw) valid in
-    let summary = summed (is_at strict raw) (is_at tidy raw) (outline_of has.0) in
-    let with : fields_with (summed found.canonical found.tidy outline) found.count ≡ fields_with summary found.count =
-    ap (λ c. fields_with (summed c found.tidy outline) found.count) levels.0 ∙ ap (λ t. fields_with (summed (is_at strict raw) t outline) found.count) levels.1
-    ∙ ap (λ o. fields_with (summed (is_at strict raw) (is_at tidy raw) o) found.count) (outlined has.0 has.1) in
     subst (λ read. ReadsFrame deep raw read list result) (sym has.1)
-    (in_room (fields_nodes kind deep payload) (length payload) (fields_with summary) list found.count result (few valid) front (is ∙ with))
+    (in_room (fields_nodes kind deep payload) (length payload) (fields_with (summed (is_at strict raw) (is_at tidy raw) (outline_of has.0)))
+    list found.count result (few valid) front (let frame = outlined has.0 has.1 in let c = levels.0 in let t = levels.1 in cc))
 
 -- Where there are more nodes than the list holds, how many there are is reported, with the status of a short list.
 pub nodes_wanted : (kind : AMQPFrameType) (payload : List ℕ) (deep : Bool) (old list : List Node) (count : ℕ) (result : PayloadFields)
@@ -95,14 +86,8 @@ refused_by deep raw list errors.Incomplete read fault h = absurd h
 refused_by deep raw list errors.UnknownFrameType read fault h = absurd fault.0
 refused_by deep raw list errors.BadProtocolHeader read fault h = absurd fault.0
 refused_by deep raw list errors.BadFrameEnd read fault h = absurd fault.0
-refused_by deep raw list errors.UnknownClass read fault h = subst (λ r. ReadsFrame deep raw r list (counted 14 0)) (sym h) refl
-refused_by deep raw list errors.UnknownMethod read fault h = subst (λ r. ReadsFrame deep raw r list (counted 15 0)) (sym h) refl
-refused_by deep raw list errors.ShortPayload read fault h = subst (λ r. ReadsFrame deep raw r list (counted 16 0)) (sym h) refl
-refused_by deep raw list errors.TrailingBytes read fault h = subst (λ r. ReadsFrame deep raw r list (counted 17 0)) (sym h) refl
-refused_by deep raw list errors.NotUtf8 read fault h = subst (λ r. ReadsFrame deep raw r list (counted 18 0)) (sym h) refl
-refused_by deep raw list errors.UnknownTag read fault h = subst (λ r. ReadsFrame deep raw r list (counted 19 0)) (sym h) refl
-refused_by deep raw list errors.TooDeep read fault h = subst (λ r. ReadsFrame deep raw r list (counted 20 0)) (sym h) refl
 refused_by deep raw list errors.NoMemory read fault h = absurd (fault.1 refl)
+refused_by deep raw list error read fault h = rw h refl
 
 -- Where a payload is refused, its status is reported, and no nodes.
 pub payload_refused : (kind : AMQPFrameType) (payload : List ℕ) (deep : Bool) (list : List Node) (error : ParserError) (status : ℕ) (result : PayloadFields)
@@ -122,17 +107,8 @@ raw_found byte kind payload deep list result e few h = subst (λ r. ReadsRaw dee
 refused_filled : {A : Type 0} (nodes : List Node) (most : ℕ) (list : List Node) (error : ParserError) (read : Result (List A) Fault)
     → MayRefuse error → RefusesWhole error read → OpensFilled nodes most read list (counted (stream_error_status (content_error error)) 0)
 refused_filled nodes most list errors.Incomplete read may h = absurd h
-refused_filled nodes most list errors.UnknownFrameType read may h = subst (λ r. OpensFilled nodes most r list (counted 10 0)) (sym h) refl
-refused_filled nodes most list errors.BadProtocolHeader read may h = subst (λ r. OpensFilled nodes most r list (counted 11 0)) (sym h) refl
-refused_filled nodes most list errors.BadFrameEnd read may h = subst (λ r. OpensFilled nodes most r list (counted 13 0)) (sym h) refl
-refused_filled nodes most list errors.UnknownClass read may h = subst (λ r. OpensFilled nodes most r list (counted 14 0)) (sym h) refl
-refused_filled nodes most list errors.UnknownMethod read may h = subst (λ r. OpensFilled nodes most r list (counted 15 0)) (sym h) refl
-refused_filled nodes most list errors.ShortPayload read may h = subst (λ r. OpensFilled nodes most r list (counted 16 0)) (sym h) refl
-refused_filled nodes most list errors.TrailingBytes read may h = subst (λ r. OpensFilled nodes most r list (counted 17 0)) (sym h) refl
-refused_filled nodes most list errors.NotUtf8 read may h = subst (λ r. OpensFilled nodes most r list (counted 18 0)) (sym h) refl
-refused_filled nodes most list errors.UnknownTag read may h = subst (λ r. OpensFilled nodes most r list (counted 19 0)) (sym h) refl
-refused_filled nodes most list errors.TooDeep read may h = subst (λ r. OpensFilled nodes most r list (counted 20 0)) (sym h) refl
 refused_filled nodes most list errors.NoMemory read may h = absurd (may refl)
+refused_filled nodes most list error read may h = rw h refl
 
 things_of : {A : Type 0} (read : Result (List A) Fault) → IsFilled read → (xs : List A) × (read ≡ Ok xs)
 things_of (Ok xs) h = (xs, refl)
@@ -153,14 +129,18 @@ module _ {A : Type 0} (read : Result (List A) Fault) (nodes : List Node) (conten
       subst (λ r. OpensFilled nodes (length content) r list (counted buffer_too_small needed)) (sym things.1)
       (beyond nodes (length content) (counted 0) list needed (counted buffer_too_small needed) (few refused.0) old same refused.1 refl)
 
-  -- a content that is no longer than four bytes can say, and one that is
-  short_enough : (result : PayloadFields) → length content ≤ 4294967295
-      → OpensFilled nodes (length content) read list result → OpensIf (nat_lt 4294967295 (length content)) nodes (length content) read list result
-  short_enough result few h = subst (λ t. OpensIf t nodes (length content) read list result) (sym (le-ltb 4294967295 (length content) few)) h
-
-  too_long : (result : PayloadFields) → 4294967295 < length content → result ≡ counted 12 0
+  -- what is reported of a content that is no longer than four bytes can say
+  content_reported : (old : List Node) (found : Result ℕ FieldsError) (result : PayloadFields) → length content ≤ 4294967295
+      → length list ≡ length old → IfOk found (λ count. IsFilled read) → IfOk found (StandInFront nodes list)
+      → IfErr found (RefusesContent read nodes (length old)) → (IsFilled read → length nodes ≤ length content) → result ≡ reported found
       → OpensIf (nat_lt 4294967295 (length content)) nodes (length content) read list result
-  too_long result many is = subst (λ t. OpensIf t nodes (length content) read list result) (sym (lt-ltb 4294967295 (length content) many)) is
+  content_reported old found result short same fills listed refused few is =
+      rw (le-ltb 4294967295 (length content) short, is) (items_reported old found same fills listed refused few)
+
+  -- a longer one is refused as too large, before it is read
+  content_too_large : (result : PayloadFields) → 4294967295 < length content → result ≡ counted 12 0
+      → OpensIf (nat_lt 4294967295 (length content)) nodes (length content) read list result
+  content_too_large result many is = rw (lt-ltb 4294967295 (length content) many) is
 
 module _ (content : List ℕ) (list : List Node) (result : PayloadFields) where
   -- What is reported of the entries of a table is their nodes, the count of more than the list holds, or the fault of the content.
@@ -168,25 +148,18 @@ module _ (content : List ℕ) (list : List Node) (result : PayloadFields) where
       → length list ≡ length old → IfOk found (λ count. IsFilled (entries_in content)) → IfOk found (StandInFront (entries_nodes content) list)
       → IfErr found (RefusesContent (entries_in content) (entries_nodes content) (length old))
       → (IsFilled (entries_in content) → length (entries_nodes content) ≤ length content) → result ≡ reported found → OpensEntries content list result
-  entries_reported old found short same fills listed refused few is =
-      short_enough (entries_in content) (entries_nodes content) content list result short
-      (subst (OpensFilled (entries_nodes content) (length content) (entries_in content) list) (sym is)
-      (items_reported (entries_in content) (entries_nodes content) content list old found same fills listed refused few))
+  entries_reported old found = content_reported (entries_in content) (entries_nodes content) content list old found result
 
   -- Content of more than four bytes can count is refused as too large, before it is read.
   pub entries_too_large : 4294967295 < length content → result ≡ counted 12 0 → OpensEntries content list result
-  entries_too_large many is = too_long (entries_in content) (entries_nodes content) content list result many is
+  entries_too_large = content_too_large (entries_in content) (entries_nodes content) content list result
 
-  -- What is reported of the values of an array is their nodes, the count of more than the list holds, or the fault of the content.
+  -- The same of the values of an array.
   pub values_reported : (old : List Node) (found : Result ℕ FieldsError) → length content ≤ 4294967295
       → length list ≡ length old → IfOk found (λ count. IsFilled (values_in content)) → IfOk found (StandInFront (values_nodes content) list)
       → IfErr found (RefusesContent (values_in content) (values_nodes content) (length old))
       → (IsFilled (values_in content) → length (values_nodes content) ≤ length content) → result ≡ reported found → OpensValues content list result
-  values_reported old found short same fills listed refused few is =
-      short_enough (values_in content) (values_nodes content) content list result short
-      (subst (OpensFilled (values_nodes content) (length content) (values_in content) list) (sym is)
-      (items_reported (values_in content) (values_nodes content) content list old found same fills listed refused few))
+  values_reported old found = content_reported (values_in content) (values_nodes content) content list old found result
 
-  -- Content of more than four bytes can count is refused as too large, before it is read.
   pub values_too_large : 4294967295 < length content → result ≡ counted 12 0 → OpensValues content list result
-  values_too_large many is = too_long (values_in content) (values_nodes content) content list result many is
+  values_too_large = content_too_large (values_in content) (values_nodes content) content list result

@@ -40,69 +40,50 @@ made_reported made old new (Err (failures.TooSmall needed)) report h is =
     })
 
 refusal_some : (why : WriteRefusal) → refusal_status why ≡ 0 → ⊥
-refusal_some whys.BadArgument h = omega (arith, h)
-refusal_some whys.TooLong h = omega (arith, h)
-refusal_some whys.TooLarge h = omega (arith, h)
-refusal_some (whys.Payload errors.Incomplete) h = omega (arith, h)
-refusal_some (whys.Payload errors.UnknownFrameType) h = omega (arith, h)
-refusal_some (whys.Payload errors.BadProtocolHeader) h = omega (arith, h)
-refusal_some (whys.Payload errors.BadFrameEnd) h = omega (arith, h)
-refusal_some (whys.Payload errors.UnknownClass) h = omega (arith, h)
-refusal_some (whys.Payload errors.UnknownMethod) h = omega (arith, h)
-refusal_some (whys.Payload errors.ShortPayload) h = omega (arith, h)
-refusal_some (whys.Payload errors.TrailingBytes) h = omega (arith, h)
-refusal_some (whys.Payload errors.NotUtf8) h = omega (arith, h)
-refusal_some (whys.Payload errors.UnknownTag) h = omega (arith, h)
-refusal_some (whys.Payload errors.TooDeep) h = omega (arith, h)
 refusal_some (whys.Payload errors.NoMemory) h = omega (arith, h)
+refusal_some (whys.Payload error) h = omega (arith, h)
+refusal_some why h = omega (arith, h)
 
 -- what is said of bytes that are written holds where all is reported as written
-written_means : (Means : ℕ → Type 0) (written : Result ℕ WriteError) (report : Written) (count : ℕ)
-    → IfOk written Means → report ≡ report_of written → report ≡ all_written count → Means count
-written_means Means (Ok n) report count h is all =
-    let same : n ≡ count = ap (λ (r : Written). r.length) (sym is ∙ all) in
-    subst Means same h
-written_means Means (Err (failures.Refused head place why)) report count h is all =
+written_means : (Means : ℕ → Type 0) (written : Result ℕ WriteError) (report : Written) → IfOk written Means → report ≡ report_of written
+    → (count : ℕ) → report ≡ all_written count → Means count
+written_means Means (Ok n) report h is count all = subst Means (ap (λ (r : Written). r.length) (sym is ∙ all)) h
+written_means Means (Err (failures.Refused head place why)) report h is count all =
     absurd (refusal_some why (ap (λ (r : Written). r.status) (sym is ∙ all)))
-written_means Means (Err (failures.TooSmall needed)) report count h is all =
-    absurd (omega (arith, ap (λ (r : Written). r.status) (sym is ∙ all)))
+written_means Means (Err (failures.TooSmall needed)) report h is count all = absurd (omega (arith, ap (λ (r : Written). r.status) (sym is ∙ all)))
 
--- what is reported as written encodes the frames that are meant
-pub frames_encoded : (pool : List ℕ) (nodes : List Node) (heads : List Head) (m : ℕ) (old new : List ℕ) (written : Result ℕ WriteError) (report : Written)
-    → IfOk written (EncodesFrames pool nodes heads m old new) → report ≡ report_of written
-    → (count : ℕ) → report ≡ all_written count → EncodesFrames pool nodes heads m old new count
-frames_encoded pool nodes heads m old new written report h is count all =
-    written_means (EncodesFrames pool nodes heads m old new) written report count h is all
+module _ (pool : List ℕ) (nodes : List Node) where
+  -- what is reported as written encodes the frames that are meant
+  pub frames_encoded : (heads : List Head) (m : ℕ) (old new : List ℕ) (written : Result ℕ WriteError) (report : Written)
+      → IfOk written (EncodesFrames pool nodes heads m old new) → report ≡ report_of written
+      → (count : ℕ) → report ≡ all_written count → EncodesFrames pool nodes heads m old new count
+  frames_encoded heads m old new written report = written_means (EncodesFrames pool nodes heads m old new) written report
 
--- and is canonical, where keys ascend and content in the pool is canonical
-pub frames_canonical : (pool : List ℕ) (nodes : List Node) (heads : List Head) (new : List ℕ) (written : Result ℕ WriteError) (report : Written)
-    → IfOk written (λ count. AreCanonicalInOrder pool nodes heads (take count new)) → report ≡ report_of written
-    → (count : ℕ) → report ≡ all_written count → AreCanonicalInOrder pool nodes heads (take count new)
-frames_canonical pool nodes heads new written report h is count all =
-    written_means (λ n. AreCanonicalInOrder pool nodes heads (take n new)) written report count h is all
+  -- and is canonical, where keys ascend and content in the pool is canonical
+  pub frames_canonical : (heads : List Head) (new : List ℕ) (written : Result ℕ WriteError) (report : Written)
+      → IfOk written (λ count. AreCanonicalInOrder pool nodes heads (take count new)) → report ≡ report_of written
+      → (count : ℕ) → report ≡ all_written count → AreCanonicalInOrder pool nodes heads (take count new)
+  frames_canonical heads new written report = written_means (λ n. AreCanonicalInOrder pool nodes heads (take n new)) written report
 
--- where frames are meant, nothing is refused but what is too long, and that is reported
-pub meant_reported : (pool : List ℕ) (nodes : List Node) (m : ℕ) (heads : List Head) (new : List ℕ) (written : Result ℕ WriteError) (report : Written)
-    → ((frames : List Frame) → TellFrames pool nodes heads frames
-    → EncodesUnless (RefusesFirst plain pool nodes m 0 heads frames) (SpellsFrames plain (Some m)) frames new written)
-    → report ≡ report_of written
-    → (frames : List Frame) → TellFrames pool nodes heads frames → ReportsMeant pool nodes m heads frames new report
-meant_reported pool nodes m heads new written report h is frames meant =
-    record { written = written; report_is = is; encoded = h frames meant }
+  -- where frames are meant, nothing is refused but what is too long, and that is reported
+  pub meant_reported : (m : ℕ) (heads : List Head) (new : List ℕ) (written : Result ℕ WriteError) (report : Written)
+      → ((frames : List Frame) → TellFrames pool nodes heads frames
+      → EncodesUnless (RefusesFirst plain pool nodes m 0 heads frames) (SpellsFrames plain (Some m)) frames new written)
+      → report ≡ report_of written
+      → (frames : List Frame) → TellFrames pool nodes heads frames → ReportsMeant pool nodes m heads frames new report
+  meant_reported m heads new written report h is frames meant = record { written = written; report_is = is; encoded = h frames meant }
 
--- what is reported as written encodes the entries that are meant
-pub entries_encoded : (pool : List ℕ) (nodes : List Node) (old new : List ℕ) (written : Result ℕ WriteError) (report : Written)
-    → IfOk written (EncodesEntries pool nodes old new) → report ≡ report_of written
-    → (count : ℕ) → report ≡ all_written count → EncodesEntries pool nodes old new count
-entries_encoded pool nodes old new written report h is count all =
-    written_means (EncodesEntries pool nodes old new) written report count h is all
+  -- what is reported as written encodes the entries that are meant
+  pub entries_encoded : (old new : List ℕ) (written : Result ℕ WriteError) (report : Written)
+      → IfOk written (EncodesEntries pool nodes old new) → report ≡ report_of written
+      → (count : ℕ) → report ≡ all_written count → EncodesEntries pool nodes old new count
+  entries_encoded old new written report = written_means (EncodesEntries pool nodes old new) written report
 
--- the same of values
-pub values_encoded : (pool : List ℕ) (nodes : List Node) (old new : List ℕ) (written : Result ℕ WriteError) (report : Written)
-    → IfOk written (EncodesValues pool nodes old new) → report ≡ report_of written
-    → (count : ℕ) → report ≡ all_written count → EncodesValues pool nodes old new count
-values_encoded pool nodes old new written report h is count all =
-    written_means (EncodesValues pool nodes old new) written report count h is all
+  -- the same of values
+  pub values_encoded : (old new : List ℕ) (written : Result ℕ WriteError) (report : Written)
+      → IfOk written (EncodesValues pool nodes old new) → report ≡ report_of written
+      → (count : ℕ) → report ≡ all_written count → EncodesValues pool nodes old new count
+  values_encoded old new written report = written_means (EncodesValues pool nodes old new) written report
 
 -- a kind that is neither a table's nor an array's is not reported as written
 pub no_content : (report : Written) (count : ℕ) → report ≡ refused_at 0 None bad_argument → report ≡ all_written count → ⊥

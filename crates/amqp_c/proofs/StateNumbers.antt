@@ -49,25 +49,12 @@ body_open max size seen channel count true e = rw e (goes_on size (seen + count)
 -- what is kept after a frame is open, where it was before
 pub open_after : (max : ℕ) (progress : Option Progress) (outline : FrameOutline) → IsOpen progress → IsOpen (progress_after max progress outline)
 open_after max None (outlines.Method channel class id) h = method_open max channel class id (is_opening_id class id) refl
-open_after max None (outlines.Header channel class size) h = tt
-open_after max None (outlines.Body channel count) h = tt
-open_after max None outlines.ProtocolHeader h = tt
-open_after max None (outlines.Heartbeat channel) h = tt
-open_after max (Some kept.Opened) (outlines.Method channel class id) h = tt
 open_after max (Some kept.Opened) (outlines.Header channel class size) h = header_open max channel class size (eqb class 60) (leb size max) refl refl
-open_after max (Some kept.Opened) (outlines.Body channel count) h = tt
-open_after max (Some kept.Opened) outlines.ProtocolHeader h = tt
-open_after max (Some kept.Opened) (outlines.Heartbeat channel) h = tt
-open_after max (Some (kept.Headed size seen)) (outlines.Method channel class id) h = tt
-open_after max (Some (kept.Headed size seen)) (outlines.Header channel class n) h = tt
 open_after max (Some (kept.Headed size seen)) (outlines.Body channel count) h = body_open max size seen channel count (leb (seen + count) size) refl
 open_after max (Some (kept.Headed size seen)) outlines.ProtocolHeader h = h
 open_after max (Some (kept.Headed size seen)) (outlines.Heartbeat channel) h = h
 open_after max (Some kept.Faulted) (outlines.Method channel class id) h = tt
-open_after max (Some kept.Faulted) (outlines.Header channel class size) h = tt
-open_after max (Some kept.Faulted) (outlines.Body channel count) h = tt
-open_after max (Some kept.Faulted) outlines.ProtocolHeader h = tt
-open_after max (Some kept.Faulted) (outlines.Heartbeat channel) h = tt
+open_after max progress outline h = tt
 
 -- ---- what numbers say is kept
 
@@ -79,26 +66,19 @@ record IsKept (s : ChannelState) (progress : Option Progress) : Type 0 where
 abbrev numbers : ℕ → ℕ → ℕ → ℕ → ChannelState
 numbers size seen state unused = record { size = size; seen = seen; state = state; unused = unused }
 
-plain_same : (s : ChannelState) (state : ℕ) → s.size ≡ 0 → s.seen ≡ 0 → s.state ≡ state → s.unused ≡ 0 → s ≡ kept_plain state
-plain_same s state a b c d =
-    ap (λ n. numbers n s.seen s.state s.unused) a ∙ ap (λ n. numbers 0 n s.state s.unused) b ∙ ap (λ n. numbers 0 0 n s.unused) c ∙ ap (numbers 0 0 state) d
+kept_as : (s : ChannelState) (found progress : Option Progress) → s ≡ state_of found → IsOpen found → found ≡ progress → IsKept s progress
+kept_as s found progress same opened is = subst (IsKept s) is (record { same = same; is_open = opened })
 
-headed_same : (s : ChannelState) → s.state ≡ 2 → s.unused ≡ 0 → s ≡ kept_headed s.size s.seen
-headed_same s a b = ap (λ n. numbers s.size s.seen n s.unused) a ∙ ap (numbers s.size s.seen 2) b
+plain_same : (s : ChannelState) (state : ℕ) → s.size ≡ 0 → s.seen ≡ 0 → s.unused ≡ 0 → s.state ≡ state → s ≡ kept_plain state
+plain_same s state a b c d = let all : numbers s.size s.seen s.state s.unused ≡ kept_plain state = cc in all
 
 plain_kept : (s : ChannelState) (progress : Option Progress) (between opened faulted : Bool) → s.size ≡ 0
     → s.seen ≡ 0 → s.unused ≡ 0 → eqb s.state 0 ≡ between → eqb s.state 1 ≡ opened → eqb s.state 3 ≡ faulted
     → (if between then Some None else (if opened then Some (Some kept.Opened) else (if faulted then Some (Some kept.Faulted) else None))) ≡ Some progress
     → IsKept s progress
-plain_kept s progress true opened faulted a b c e f g is =
-    let p : progress ≡ None = cc in
-    record { same = plain_same s 0 a b (eqb-true s.state 0 e) c ∙ ap state_of (sym p); is_open = subst IsOpen (sym p) tt }
-plain_kept s progress false true faulted a b c e f g is =
-    let p : progress ≡ Some kept.Opened = cc in
-    record { same = plain_same s 1 a b (eqb-true s.state 1 f) c ∙ ap state_of (sym p); is_open = subst IsOpen (sym p) tt }
-plain_kept s progress false false true a b c e f g is =
-    let p : progress ≡ Some kept.Faulted = cc in
-    record { same = plain_same s 3 a b (eqb-true s.state 3 g) c ∙ ap state_of (sym p); is_open = subst IsOpen (sym p) tt }
+plain_kept s progress true opened faulted a b c e f g is = kept_as s None progress (plain_same s 0 a b c (eqb-true s.state 0 e)) tt cc
+plain_kept s progress false true faulted a b c e f g is = kept_as s (Some kept.Opened) progress (plain_same s 1 a b c (eqb-true s.state 1 f)) tt cc
+plain_kept s progress false false true a b c e f g is = kept_as s (Some kept.Faulted) progress (plain_same s 3 a b c (eqb-true s.state 3 g)) tt cc
 plain_kept s progress false false false a b c e f g is = absurd cc
 
 both_zero : (a b : ℕ) → (eqb a 0 && eqb b 0) ≡ true → (a ≡ 0) × (b ≡ 0)
@@ -113,9 +93,10 @@ kept_by : (s : ChannelState) (progress : Option Progress) (clear headed blank : 
     → IsKept s progress
 kept_by s progress false headed blank e f g is = absurd cc
 kept_by s progress true true blank e f g is =
-    let p : progress ≡ Some (kept.Headed s.size s.seen) = cc in
     let both = headed_in s f in
-    record { same = headed_same s both.0 (eqb-true s.unused 0 e) ∙ ap state_of (sym p); is_open = subst IsOpen (sym p) both.1 }
+    let none = eqb-true s.unused 0 e in
+    let same : numbers s.size s.seen s.state s.unused ≡ kept_headed s.size s.seen = cc in
+    kept_as s (Some (kept.Headed s.size s.seen)) progress same both.1 cc
 kept_by s progress true false true e f g is =
     let both = both_zero s.size s.seen g in
     plain_kept s progress (eqb s.state 0) (eqb s.state 1) (eqb s.state 3) both.0 both.1 (eqb-true s.unused 0 e) refl refl refl is
@@ -195,20 +176,12 @@ sized : (max : ℕ) (progress : Option Progress) (kind : AMQPFrameType) (class m
 sized max progress kinds.Header class method size h = refl
 sized max None kinds.Method class method size h = absurd (no_opening (is_opening_id class method) h)
 sized max (Some kept.Opened) kinds.Method class method size h = absurd cc
-sized max (Some (kept.Headed whole seen)) kinds.Method class method size h = absurd cc
-sized max (Some kept.Faulted) kinds.Method class method size h = absurd cc
-sized max None kinds.Body class method size h = absurd cc
-sized max (Some kept.Opened) kinds.Body class method size h = absurd cc
 sized max (Some (kept.Headed whole seen)) kinds.Body class method size h = absurd (no_body whole seen size (leb (seen + size) whole) refl h)
-sized max (Some kept.Faulted) kinds.Body class method size h = absurd cc
 sized max None kinds.ProtocolHeader class method size h = absurd cc
 sized max (Some kept.Opened) kinds.ProtocolHeader class method size h = absurd cc
-sized max (Some (kept.Headed whole seen)) kinds.ProtocolHeader class method size h = absurd cc
-sized max (Some kept.Faulted) kinds.ProtocolHeader class method size h = absurd cc
 sized max None kinds.Heartbeat class method size h = absurd cc
 sized max (Some kept.Opened) kinds.Heartbeat class method size h = absurd cc
-sized max (Some (kept.Headed whole seen)) kinds.Heartbeat class method size h = absurd cc
-sized max (Some kept.Faulted) kinds.Heartbeat class method size h = absurd cc
+sized max progress kind class method size h = absurd cc
 
 -- ---- a step
 

@@ -1,7 +1,7 @@
 -- The nodes of whole payloads: those of a frame, at most one a byte, and where they stand once they were put.
 use Rattle.std.proofs.Common.{◌≡◌, ℕ, suc, ◌+◌, ◌-◌, ◌<◌, ◌≤◌, ◌^◌, ◌==◌, cond, Bool, true, false, List, [], ◌∷◌, ◌++◌, length, take, drop, set}
 use Rattle.std.proofs.Common.{Result, Ok, Err, refl, sym, ap}
-use Rattle.std.proofs.Common.{subst, ◌∙◌, append_assoc, append-nil, add-one, arith}
+use Rattle.std.proofs.Common.{◌∙◌, append_assoc, append-nil, add-one, arith}
 use Rattle.std.specs.Prelude.{IsOk}
 use Rattle.std.proofs.Math.Seq.{take-suc-set}
 use Rattle.std.proofs.lemmas.List.{length-set, take-set-le}
@@ -13,16 +13,19 @@ use Rattle.amqp_types.specs.SlotJudging.{judge_form, judge_slots}
 use Rattle.amqp_wire.specs.declared.frame_type.AMQPFrameType.{AMQPFrameType}
 use Rattle.amqp_wire.specs.declared.frame_type.AMQPFrameType.TheVariants as kinds
 use Rattle.amqp_wire.specs.Frames.{Frame, Proto, Meth, Head, Body, Beat, BadBeat, beat_on}
+use Rattle.amqp_wire.specs.Outlines.{outline_of}
 use Rattle.amqp_wire.specs.Verdicts.{all_of, filling, decode_raw, decode_payload}
 use Rattle.amqp_wire.proofs.Encoded.{read_as}
 use Rattle.amqp_fields.specs.declared.node.Node.{Node}
 use Rattle.amqp_fields.specs.Listing.{Grows, Listing, listing, pushed, pushed_all}
-use Rattle.amqp_fields.specs.Listed.{listed_payload, nodes_of, payload_nodes, version_slots}
+use Rattle.amqp_fields.specs.Listed.{listed_payload, payload_nodes, version_slots}
+use Rattle.amqp_fields.specs.Counting.{count_of}
 use Rattle.amqp_fields.specs.Finding.{Counts}
 use Rattle.amqp_fields.specs.Meaning.{AreNodesOf, IsSpan, fields_of}
 use Rattle.amqp_fields.specs.Reading.{IsWhole, NeedsMore, StandInFront, fields_nodes, payload_as}
 use Rattle.amqp_fields.proofs.Pushing.{pushed_count}
 use Rattle.amqp_fields.proofs.Spans.{Stands, itself}
+use Rattle.amqp_fields.proofs.Groups.{IsAt}
 use Rattle.amqp_fields.proofs.FieldsFound.{slots_found}
 use Rattle.amqp_fields.proofs.PayloadsFound.{header_found, method_found}
 
@@ -41,15 +44,15 @@ unfolding pushed
 pushed_front xs k [] fits = ap (λ n. take n xs) {x = k + 0} {y = k} (omega arith) ∙ sym (append-nil (take k xs))
 pushed_front xs k (node ∷ added) fits =
     ap (λ n. take n (pushed_all (listing (set xs k node) (k + 1)) added).nodes) {x = k + suc (length added)} {y = k + 1 + length added} (omega arith)
-    ∙ pushed_front (set xs k node) (k + 1) added (omega (arith, fits, length-set xs k node))
+    ∙ pushed_front (set xs k node) (k + 1) added (omega (arith, length-set xs k node))
     ∙ ap (λ n. take n (set xs k node) ++ added) (add-one k)
-    ∙ ap (λ (ns : List Node). ns ++ added) (take-suc-set xs k node (omega (arith, fits))) ∙ append_assoc (take k xs) (node ∷ []) added
+    ∙ ap (λ (ns : List Node). ns ++ added) (take-suc-set xs k node (omega arith)) ∙ append_assoc (take k xs) (node ∷ []) added
 
 -- what is put after so many nodes leaves these
 pub pushed_keeps : (s : Listing) (k : ℕ) (added : List Node) → k ≤ s.count → take k (pushed_all s added).nodes ≡ take k s.nodes
 unfolding pushed
 pushed_keeps s k [] h = refl
-pushed_keeps s k (node ∷ added) h = pushed_keeps (pushed s node) k added (omega (arith, h)) ∙ take-set-le k s.nodes s.count node h
+pushed_keeps s k (node ∷ added) h = pushed_keeps (pushed s node) k added (omega arith) ∙ take-set-le k s.nodes s.count node h
 
 -- ---- whole payloads
 
@@ -60,6 +63,7 @@ pub record AreListed (kind : AMQPFrameType) (bytes : List ℕ) (end : ℕ) (payl
   pub is : listed_payload kind deep end payload ≡ took nodes used
   pub nodes_are : AreNodesOf deep bytes frame nodes
   pub few : length nodes ≤ length payload
+  pub count : length (fields_of frame) ≡ count_of payload (outline_of frame)
 
 -- where what is read fills all bytes, it was taken
 pub filled_took : {A : Type 0} (n : ℕ) (j : Judged A) (x : A) → filling n j ≡ Ok x → (k : ℕ) × (j ≡ took x k)
@@ -71,20 +75,19 @@ filled_took n (took y used) x h = by_size (used == n) h
     by_size true h = let is : y ≡ x = cc in (used, ap (λ z. took z used) is)
     by_size false h = absurd cc
 
-octets : (a b c : ℕ) → judge_slots version_slots (a ∷ b ∷ c ∷ []) ≡ took (number_item a ∷ number_item b ∷ number_item c ∷ []) 3
-unfolding judge_slots judge_form
-octets a b c = refl
-
 -- a heartbeat has no fields on any channel
-beat_nodes : (deep : Bool) (bytes : List ℕ) (channel : ℕ) → AreNodesOf deep bytes (beat_on channel) []
+beat_fields : (payload : List ℕ) (channel : ℕ) → (fields_of (beat_on channel) ≡ []) × (count_of payload (outline_of (beat_on channel)) ≡ 0)
 unfolding fields_of
-beat_nodes deep bytes channel = by_test (channel == 0)
+beat_fields payload channel = by_test (channel == 0)
   where
-    by_test : (zero : Bool) → AreNodesOf deep bytes (cond zero Beat (BadBeat channel)) []
-    by_test true = refl
-    by_test false = refl
+    by_test : (zero : Bool) → (fields_of (cond zero Beat (BadBeat channel)) ≡ []) × (count_of payload (outline_of (cond zero Beat (BadBeat channel))) ≡ 0)
+    by_test true = (refl, refl)
+    by_test false = (refl, refl)
 
 module _ (deep : Bool) (bytes : List ℕ) (end : ℕ) where
+  at : {payload : List ℕ} → Stands bytes end payload → IsAt bytes (end - length payload) end payload
+  at stands = record { stands = stands; room = omega arith }
+
   version_found : (payload : List ℕ) (channel : ℕ) (frame : Frame) → Stands bytes end payload
       → decode_payload kinds.ProtocolHeader channel payload ≡ Ok frame → AreListed kinds.ProtocolHeader bytes end payload deep frame
   unfolding decode_payload listed_payload fields_of judge_slots judge_form
@@ -93,16 +96,17 @@ module _ (deep : Bool) (bytes : List ℕ) (end : ℕ) where
   version_found (a ∷ b ∷ []) channel frame stands h = absurd cc
   version_found (a ∷ b ∷ c ∷ []) channel frame stands h =
       let is : Proto a b c ≡ frame = cc in
-      let payload = a ∷ b ∷ c ∷ [] in
-      let read : judge_slots version_slots payload ≡ took (number_item a ∷ number_item b ∷ number_item c ∷ []) 3 = octets a b c in
-      let found = slots_found deep bytes end version_slots payload 0 3 (number_item a ∷ number_item b ∷ number_item c ∷ []) (omega arith) stands read in
-      record {
-        nodes = found.nodes;
+      let found =
+      (slots_found deep bytes (end - 3) end version_slots (a ∷ b ∷ c ∷ []) 0 (omega arith) (at stands)).there
+      (number_item a ∷ number_item b ∷ number_item c ∷ []) 3 refl in
+      rw (← is) (record {
+        nodes = found.0;
         used = 3;
-        is = found.is;
-        nodes_are = subst (λ f. AreNodesOf deep bytes f found.nodes) is found.means;
-        few = omega (arith, found.few);
-      }
+        is = found.1;
+        nodes_are = found.3.fields.means;
+        few = omega arith;
+        count = refl;
+      })
   version_found (a ∷ b ∷ c ∷ d ∷ more) channel frame stands h = absurd cc
 
   -- the nodes that are listed of a whole payload are those of its frame, where they stand in some bytes
@@ -113,19 +117,30 @@ module _ (deep : Bool) (bytes : List ℕ) (end : ℕ) where
   whole_found kinds.Method payload channel frame stands h =
       let read = read_as (λ x. Meth channel x) (all_of judge_payload payload) frame h in
       let m = filled_took (length payload) (judge_payload payload) read.0 read.1 in
-      let found = method_found deep bytes end payload m.0 read.0 stands m.1 in
-      record { nodes = found.0; used = found.1; is = found.2; nodes_are = subst (λ f. AreNodesOf deep bytes f found.0) read.2 found.3; few = found.4 }
+      let found = method_found deep bytes (end - length payload) end payload m.0 read.0 (at stands) m.1 in
+      rw (← read.2)
+      (record { nodes = found.0; used = found.1; is = found.2; nodes_are = found.3.nodes_are.means; few = found.3.nodes_are.few; count = found.3.number })
   whole_found kinds.Header payload channel frame stands h =
       let read = read_as (λ x. Head channel x) (all_of judge_content_header payload) frame h in
       let header = filled_took (length payload) (judge_content_header payload) read.0 read.1 in
-      let found = header_found deep bytes end payload header.0 read.0 stands header.1 in
-      record { nodes = found.0; used = found.1; is = found.2; nodes_are = subst (λ f. AreNodesOf deep bytes f found.0) read.2 found.3; few = found.4 }
+      let found = header_found deep bytes (end - length payload) end payload header.0 read.0 (at stands) header.1 in
+      rw (← read.2)
+      (record { nodes = found.0; used = found.1; is = found.2; nodes_are = found.3.nodes_are.means; few = found.3.nodes_are.few; count = found.3.number })
   whole_found kinds.Body payload channel frame stands h =
       let is : Body channel payload ≡ frame = cc in
-      record { nodes = []; used = 0; is = refl; nodes_are = subst (λ f. AreNodesOf deep bytes f []) is refl; few = omega arith }
+      rw (← is)
+      (record { nodes = []; used = 0; is = refl; nodes_are = refl; few = omega arith; count = refl })
   whole_found kinds.Heartbeat payload channel frame stands h =
       let is : beat_on channel ≡ frame = cc in
-      record { nodes = []; used = 0; is = refl; nodes_are = subst (λ f. AreNodesOf deep bytes f []) is (beat_nodes deep bytes channel); few = omega arith }
+      let none = beat_fields payload channel in
+      rw (← is) (record {
+        nodes = [];
+        used = 0;
+        is = refl;
+        nodes_are = rw none.0 refl;
+        few = omega arith;
+        count = ap length none.0 ∙ sym none.1;
+      })
 
 -- ---- what is promised of them
 
@@ -144,10 +159,10 @@ pub listed_mean : (deep : Bool) (bytes payload : List ℕ) (start : ℕ) (kind :
     → AreNodesOf deep bytes frame (payload_nodes kind deep (start + length payload) payload)
 listed_mean deep bytes payload start kind channel frame span is =
     let all = whole_found deep bytes (start + length payload) kind payload channel frame (span_stands bytes payload start span) is in
-    subst (AreNodesOf deep bytes frame) (sym (ap nodes_of all.is)) all.nodes_are
+    rw all.is all.nodes_are
 
 pub is_ok : {A : Type 0} (read : Result A Fault) (x : A) → read ≡ Ok x → IsOk read
-is_ok read x h = subst IsOk (sym h) refl
+is_ok read x h = rw h
 
 ok_of : {A : Type 0} (read : Result A Fault) → IsOk read → (x : A) × (read ≡ Ok x)
 ok_of (Ok x) h = (x, refl)
@@ -163,7 +178,7 @@ pub fields_few : (kind : AMQPFrameType) (payload : List ℕ) (deep : Bool) → I
 fields_few kind payload deep h =
     let frame = ok_of (decode_raw (payload_as kind payload)) h in
     let all = whole_found deep payload (length payload) kind payload 0 frame.0 (itself payload) frame.1 in
-    subst (λ (ns : List Node). length ns ≤ length payload) (sym (ap nodes_of all.is)) all.few
+    rw all.is all.few
 
 -- ---- nodes that were put after others
 
@@ -186,9 +201,9 @@ put_length nodes old new first count put = ap length put.list_is ∙ pushed_leng
 -- nodes for which the list has room stand in front of it
 pub put_front : (nodes old new : List Node) (count : ℕ) → ArePut nodes old 0 new count → count ≤ length new → StandInFront nodes new count
 put_front nodes old new count put room =
-    let front = pushed_front old 0 nodes (omega (arith, room, put_length nodes old new 0 count put, put.count_is)) in
+    let front = pushed_front old 0 nodes (omega (arith, put_length nodes old new 0 count put)) in
     record {
-      count_is = omega (arith, put.count_is);
+      count_is = omega arith;
       fit = room;
       front =
           ap (λ n. take n new) put.count_is ∙ ap (take (0 + length nodes)) put.list_is ∙ front;
@@ -197,16 +212,14 @@ put_front nodes old new count put room =
 -- and else the list is too short for them
 pub put_needs : (nodes old new : List Node) (count : ℕ) → ArePut nodes old 0 new count → length new < count → NeedsMore nodes (length old) count
 put_needs nodes old new count put more =
-    record { needed_is = omega (arith, put.count_is); more = omega (arith, more, put_length nodes old new 0 count put) }
+    record { needed_is = omega arith; more = omega (arith, put_length nodes old new 0 count put) }
 
 -- the nodes of a whole payload, as they were put
 pub put_all : (kind : AMQPFrameType) (bytes : List ℕ) (end : ℕ) (payload : List ℕ) (deep : Bool) (frame : Frame) (old new : List Node) (first count : ℕ)
     → (all : AreListed kind bytes end payload deep frame) → first + length payload < 2 ^ 32
     → Counts (listed_payload kind deep end payload) old first new count → ArePut (payload_nodes kind deep end payload) old first new count
 put_all kind bytes end payload deep frame old new first count all few h =
-    let P : Judged (List Node) → Type 0 = λ j. Counts j old first new count in
-    let Q : Judged (List Node) → Type 0 = λ j. ArePut (nodes_of j) old first new count in
-    subst Q (sym all.is) (grown all.nodes old new first count (subst P all.is h) (omega (arith, all.few, few)))
+    rw all.is (grown all.nodes old new first count (rw all.is at h) (omega (arith, few)))
 
 -- ---- the fields of a payload that stands alone
 

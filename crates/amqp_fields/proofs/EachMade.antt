@@ -1,55 +1,12 @@
--- Loops over nodes and heads: what is left decides.
-use Rattle.std.proofs.Common.{◌≡◌, ℕ, zero, suc, ◌+◌, ◌-◌, ◌<◌, ◌≤◌, true, List, [], ◌∷◌, ◌++◌, length, take, drop, Result, Ok, Err, refl, sym, ap, ap₂, ◌∙◌}
-use Rattle.std.proofs.Common.{append_assoc, append-nil, arith, nat_lt, if◌then◌else◌}
+-- What nodes make, one after another, by the first one.
+use Rattle.std.proofs.Common.{◌≡◌, ℕ, zero, suc, ◌+◌, ◌-◌, ◌<◌, ◌≤◌, true, List, [], ◌∷◌, ◌++◌, length, take, drop, Ok, refl, sym, ap, ap₂, ◌∙◌}
+use Rattle.std.proofs.Common.{arith, nat_lt, if◌then◌else◌}
 use Rattle.std.proofs.lemmas.Bool.Decides.{nat_tests}
 use Rattle.std.proofs.lemmas.List.{drop_at, take_at, length-append}
 use Rattle.amqp_fields.specs.declared.node.Node.{Node}
 use Rattle.amqp_fields.specs.Made.{Maker, after, made_each, misfit}
 use Rattle.amqp_fields.specs.Nodes.{PassesEnd, StandsFirst}
-use Rattle.amqp_fields.specs.Makes.{ArePut, Gives, cut_long}
-use Rattle.amqp_fields.proofs.Combined.{both_put, none_put, not_lt}
-
--- some bytes were made and put, and what is left decides
-pub record Onward {E : Type 0} (whole rest : Result (List ℕ) E) (old new : List ℕ) (at made : ℕ) : Type 0 where
-  pub done : List ℕ
-  pub so_far : whole ≡ after (Ok done) rest
-  pub are_put : ArePut old new at done made
-
-pub after_none : {E : Type 0} (made : Result (List ℕ) E) → after (Ok []) made ≡ made
-after_none (Ok bytes) = refl
-after_none (Err bad) = refl
-
-pub after_after : {E : Type 0} (a b c : Result (List ℕ) E) → after a (after b c) ≡ after (after a b) c
-after_after (Ok a) (Ok b) (Ok c) = ap Ok (sym (append_assoc a b c))
-after_after (Ok a) (Ok b) (Err bad) = refl
-after_after (Ok a) (Err bad) c = refl
-after_after (Err bad) b c = refl
-
--- before the first step nothing is put
-pub begins : {E : Type 0} (whole : Result (List ℕ) E) (old : List ℕ) (at : ℕ) → Onward whole whole old old at 0
-begins whole old at = record { done = []; so_far = sym (after_none whole); are_put = none_put old at }
-
--- what is made next is put after what was made so far
-pub steps : {E : Type 0} {whole rest one next : Result (List ℕ) E} {old mid new : List ℕ} {at made place n total : ℕ} → Onward whole rest old mid at made
-    → rest ≡ after one next → place ≡ cut_long (at + made) → Gives one mid new place n → total ≡ cut_long (made + n) → Onward whole next old new at total
-steps {E} {whole} {rest} {one} {next} h parts there given sum =
-    record {
-      done = h.done ++ given.bytes;
-      so_far = h.so_far ∙ ap (after (Ok h.done)) (parts ∙ ap (λ made. after made next) given.is) ∙ after_after (Ok h.done) (Ok given.bytes) next;
-      are_put = both_put h.are_put there given.are_put sum;
-    }
-
--- a refusal of what is left is one of the whole
-pub stops : {E : Type 0} {whole rest : Result (List ℕ) E} {old new : List ℕ} {at made : ℕ} (bad : E)
-    → Onward whole rest old new at made → rest ≡ Err bad → whole ≡ Err bad
-stops bad h is = h.so_far ∙ ap (after (Ok h.done)) is
-
--- where nothing is left, all of it was made and put
-pub ends : {E : Type 0} {whole rest : Result (List ℕ) E} {old new : List ℕ} {at made : ℕ}
-    → Onward whole rest old new at made → rest ≡ Ok [] → Gives whole old new at made
-ends h is = record { bytes = h.done; is = h.so_far ∙ ap (after (Ok h.done)) is ∙ ap Ok (append-nil h.done); are_put = h.are_put }
-
--- ---- nodes
+use Rattle.amqp_fields.proofs.Combined.{not_lt}
 
 each_passed : (make : Maker) (end k : ℕ) (nodes : List Node) → made_each make end k nodes ≡ made_each make end 0 (drop k nodes)
 unfolding made_each

@@ -1,11 +1,11 @@
--- The nodes of fields and properties mean the fields and properties.
-use Rattle.std.proofs.Common.{◌≡◌, ℕ, zero, suc, ◌+◌, ◌-◌, ◌<◌, ◌≤◌, Bool, true, false, List, [], ◌∷◌, ◌++◌, length, drop, map, refl, sym, ap, subst, ◌∙◌}
-use Rattle.std.proofs.Common.{append_assoc, append-nil, arith}
+-- The nodes of fields mean the fields.
+use Rattle.std.proofs.Common.{◌≡◌, ℕ, zero, suc, ◌+◌, ◌-◌, ◌<◌, ◌≤◌, Bool, true, false, List, [], ◌∷◌, ◌++◌, length, drop, inl, map, refl, sym, ap, ◌∙◌}
+use Rattle.std.proofs.Common.{append_assoc, append-nil, subst, arith}
 use Rattle.std.specs.Prelude.{replicate}
-use Rattle.std.proofs.lemmas.List.{length-append, length-drop}
+use Rattle.std.proofs.lemmas.List.{length-append, length-drop, length-map, length-replicate}
 use Rattle.amqp_types.proofs.Took.{bind_took, value_took, count_took}
-use Rattle.amqp_types.specs.Judging.{Judged, Judge, took, ◌>>=◌}
-use Rattle.amqp_types.specs.Sequences.{judge_map}
+use Rattle.amqp_types.specs.Judging.{Judge, Judged, took, ◌>>=◌}
+use Rattle.amqp_types.specs.Sequences.{judge_both, judge_map}
 use Rattle.amqp_types.specs.Numbers.{NumberWidth, bytes1, bytes2, bytes4, bytes8, byte_count, judge_number}
 use Rattle.amqp_types.specs.Strings.{judge_short_string, judge_long_string}
 use Rattle.amqp_types.specs.Flags.{bit_of, flags_from, judge_flags}
@@ -13,24 +13,28 @@ use Rattle.amqp_types.specs.ValueJudging.{filled, read_map, judge_entry, judge_t
 use Rattle.amqp_types.specs.Settling.{settled}
 use Rattle.amqp_types.specs.Slots.{Item, number_item, flag_item, text_item, bytes_item, entries_item, Form, number_form, flags_form, short_string_form}
 use Rattle.amqp_types.specs.Slots.{long_string_form, table_form, Slot, kept_slot, reserved_slot}
-use Rattle.amqp_types.specs.SlotJudging.{judge_dropped, judge_form, judge_slots}
+use Rattle.amqp_types.specs.SlotJudging.{judge_dropped, judge_form, judge_slot, judge_slots}
 use Rattle.amqp_types.specs.Constants.{inner_depth}
 use Rattle.amqp_fields.specs.declared.node.Node.{Node}
-use Rattle.amqp_fields.specs.Nodes.{numbered, spanned}
+use Rattle.amqp_fields.specs.Nodes.{numbered}
 use Rattle.amqp_fields.specs.Counting.{total}
 use Rattle.amqp_fields.specs.Kinds.{kind_of}
-use Rattle.amqp_fields.specs.Listed.{end_before, field_count, listed_bits, listed_entry, listed_form, listed_number, listed_slot, listed_slots, listed_span}
-use Rattle.amqp_fields.specs.Listed.{listed_table, listed_value, next_place, placed}
-use Rattle.amqp_fields.specs.Meaning.{AreNodes, IsText, MeansEntry, MeansField, MeansItem, MeansValue, field, fields_from, kinds_in, kinds_of}
-use Rattle.amqp_fields.proofs.Spans.{IsPart, Stands, byte_below, long_part, number_took, part_stands, short_part, span_of, stands_drop}
-use Rattle.amqp_fields.proofs.ValuesFound.{IsBounded, IsListed, all_took, entry_found, items_held, map_read, map_took, number_bounded, value_found}
+use Rattle.amqp_fields.specs.Listed.{field_count, kept_count, listed_bits, listed_form, listed_slot, listed_slots, listed_span, next_place, placed}
+use Rattle.amqp_fields.specs.Meaning.{AreNodes, Field, MeansField, MeansItem, field, fields_from, kinds_in, kinds_of}
+use Rattle.amqp_fields.specs.Spans.{LieIn, has_span}
+use Rattle.amqp_fields.proofs.Agreeing.{Agree, Follows, Takes, agree_back, agree_of, as_took, follows_make}
+use Rattle.amqp_fields.proofs.Groups.{Finds, IsAt, IsGroupOf, at_drop, regroup}
+use Rattle.amqp_fields.proofs.Lying.{append_lie, none_lie}
+use Rattle.amqp_fields.proofs.Spans.{byte_below, long_part, number_took, short_part}
+use Rattle.amqp_fields.proofs.ValuesFound.{IsBounded, IsLabel, Keeps, all_took, leaf, map_bounded, map_read, map_took, number_bounded}
+use Rattle.amqp_fields.proofs.ValuesFound.{span_found, table_found, value_found}
 
 -- ---- lists of nodes
 
 -- nodes of some things and then of others are the nodes of all of them
 pub nodes_append : {A : Type 0} (Means : Node → List Node → A → Type 0) (xs ys : List A) (front rest : List Node)
     → AreNodes Means xs front → AreNodes Means ys rest → AreNodes Means (xs ++ ys) (front ++ rest)
-nodes_append Means [] ys front rest one two = subst (λ ns. AreNodes Means ys (ns ++ rest)) (sym one) two
+nodes_append Means [] ys front rest one two = rw one two
 nodes_append Means (x ∷ xs) ys front rest one two = record {
   node = one.node;
   inside = one.inside;
@@ -45,294 +49,274 @@ nodes_append Means (x ∷ xs) ys front rest one two = record {
 pub fields_append : (place : ℕ) (kinds more : List ℕ) (items others : List Item) → length kinds ≡ length items
     → fields_from place (kinds ++ more) (items ++ others) ≡ fields_from place kinds items ++ fields_from (place + length items) more others
 fields_append place [] more [] others h = ap (λ k. fields_from k more others) {x = place} {y = place + 0} (omega arith)
-fields_append place [] more (item ∷ items) others h = absurd (omega (arith, h))
-fields_append place (kind ∷ kinds) more [] others h = absurd (omega (arith, h))
+fields_append place [] more (item ∷ items) others h = absurd (omega arith)
+fields_append place (kind ∷ kinds) more [] others h = absurd (omega arith)
 fields_append place (kind ∷ kinds) more (item ∷ items) others h =
-    ap (λ fs. field place kind item ∷ fs) (fields_append (place + 1) kinds more items others (omega (arith, h))
+    ap (λ fs. field place kind item ∷ fs) (fields_append (place + 1) kinds more items others (omega arith)
     ∙ ap (λ k. fields_from (place + 1) kinds items ++ fields_from k more others) {x = place + 1 + length items} {y = place + suc (length items)} (omega arith))
-
--- ---- what a form gives
-
--- how many fields more than bytes
-abbrev pub excess : Form → ℕ
-excess (flags_form count) = count - 1
-excess form = 0
-
--- what was listed of a form are the nodes of its items
-pub record IsForm (deep : Bool) (payload : List ℕ) (place : ℕ) (form : Form) (items : List Item) (listed : Judged (List Node)) (size used : ℕ) : Type 0 where
-  pub nodes : List Node
-  pub is : listed ≡ took nodes used
-  pub number : length items ≡ field_count form
-  pub kinds : length (kinds_of form) ≡ length items
-  pub means : AreNodes (MeansField deep payload) (fields_from place (kinds_of form) items) nodes
-  pub few : length nodes ≤ used + excess form
-  pub bound : used ≤ size
-
--- a form of one item; a listed node with those inside it is within the bytes that are used, less one
-record IsOne (deep : Bool) (payload : List ℕ) (place : ℕ) (form : Form) (item : Item) (listed : Judged (List Node)) (size used : ℕ) : Type 0 where
-  found : IsListed (λ node inside. MeansItem deep payload node inside item) (placed place form) listed size used
-  less : 1 + length found.inside ≤ used
-
-one_form : (deep : Bool) (payload : List ℕ) (place : ℕ) (form : Form) (item : Item) (items : List Item) (listed : Judged (List Node)) (size used : ℕ)
-    → field_count form ≡ 1 → kinds_of form ≡ kind_of form ∷ [] → item ∷ [] ≡ items
-    → IsOne deep payload place form item listed size used → IsForm deep payload place form items listed size used
-one_form deep payload place form item items listed size used one kinds is h =
-    let found = h.found in
-    let means : AreNodes (MeansField deep payload) (field place (kind_of form) item ∷ []) (found.node ∷ found.inside) = record {
-      node = found.node;
-      inside = found.inside;
-      others = [];
-      nodes_are = ap (λ ns. found.node ∷ ns) (sym (append-nil found.inside));
-      inside_is = found.inside_is;
-      means =
-          record { place_is = found.keeps.place; kind_is = found.keeps.kind; no_key = (found.keeps.key_start, found.keeps.key_length); means = found.means };
-      rest = refl;
-    } in
-    let same : field place (kind_of form) item ∷ [] ≡ fields_from place (kinds_of form) items =
-    ap (λ ks. fields_from place ks (item ∷ [])) (sym kinds) ∙ ap (fields_from place (kinds_of form)) is in
-    record {
-      nodes = found.node ∷ found.inside;
-      is = found.is;
-      number = sym (ap length is) ∙ sym one;
-      kinds = ap length kinds ∙ ap length is;
-      means = subst (λ fs. AreNodes (MeansField deep payload) fs (found.node ∷ found.inside)) same means;
-      few = omega (arith, h.less);
-      bound = found.bound;
-    }
-
--- ---- flags
-
-bits_found : (deep : Bool) (payload : List ℕ) (place : ℕ) (flags : List Bool) → place + length flags < 256
-    → AreNodes (MeansField deep payload) (fields_from place (replicate (length flags) 5) (map flag_item flags)) (listed_bits place flags)
-bits_found deep payload place [] few = refl
-bits_found deep payload place (flag ∷ flags) few =
-    let next : next_place place 1 ≡ place + 1 = byte_below (place + 1) (omega (arith, few)) in
-    record {
-      node = numbered (placed place (flags_form 1)) (bit_of flag);
-      inside = [];
-      others = listed_bits (next_place place 1) flags;
-      nodes_are = refl;
-      inside_is = refl;
-      means = record { place_is = refl; kind_is = refl; no_key = (refl, refl); means = (refl, refl, (refl, refl), (refl, refl)) };
-      rest =
-          subst (λ p. AreNodes (MeansField deep payload) (fields_from (place + 1) (replicate (length flags) 5) (map flag_item flags)) (listed_bits p flags))
-          (sym next) (bits_found deep payload (place + 1) flags (omega (arith, few)));
-    }
-
-bits_length : (place : ℕ) (flags : List Bool) → length (listed_bits place flags) ≡ length flags
-bits_length place [] = refl
-bits_length place (flag ∷ flags) = ap suc (bits_length (next_place place 1) flags)
 
 -- so many flags are read of a byte
 pub flags_length : (count k byte : ℕ) → length (flags_from count k byte) ≡ count
 flags_length zero k byte = refl
 flags_length (suc count) k byte = ap suc (flags_length count (k + 1) byte)
 
--- a list of so many equal things is so long
-pub replicate_length : (count kind : ℕ) → length (replicate count kind) ≡ count
-replicate_length zero kind = refl
-replicate_length (suc count) kind = ap suc (replicate_length count kind)
+-- ---- what is found
 
--- a list is as long as what is made of it
-pub map_length : {A B : Type 0} (f : A → B) (xs : List A) → length (map f xs) ≡ length xs
-map_length f [] = refl
-map_length f (x ∷ xs) = ap suc (map_length f xs)
+-- Where something is decoded, nodes are listed that stand for it, in as many bytes. All that is listed lies between two places.
+pub record Found {A : Type 0} (R : A → List Node → ℕ → Type 0) (from to size : ℕ) (j : Judged A) (k : Judged (List Node)) : Type 0 where
+  pub there : Follows R size j k
+  pub lies : (nodes : List Node) (n : ℕ) → k ≡ took nodes n → LieIn from to nodes × (n ≤ size)
 
-flags_found : (deep : Bool) (payload bytes : List ℕ) (place count n : ℕ) (items : List Item)
-    → place + count < 256 → judge_map (map flag_item) (judge_flags count) bytes ≡ took items n
-    → IsForm deep payload place (flags_form count) items (judge_map (listed_bits place) (judge_flags count) bytes) (length bytes) n
-unfolding judge_flags
-flags_found deep payload bytes place count n items few h =
-    let one = map_took (judge_flags count) (map flag_item) bytes items n h in
-    let two = bind_took (judge_number bytes1 bytes) _ one.0 n one.1 in
-    let flags : flags_from count 0 two.0 ≡ one.0 = value_took (flags_from count 0 two.0) one.0 two.1 n two.3 in
-    let used = count_took (flags_from count 0 two.0) one.0 two.1 n two.3 in
-    let byte = number_took bytes1 bytes two.0 two.1 two.2 in
-    let size : length one.0 ≡ count = ap length (sym flags) ∙ flags_length count 0 two.0 in
-    let many : length items ≡ count = ap length (sym one.2) ∙ map_length flag_item one.0 ∙ size in
-    let same : fields_from place (replicate (length one.0) 5) (map flag_item one.0) ≡ fields_from place (replicate count 5) items =
-    ap (λ k. fields_from place (replicate k 5) (map flag_item one.0)) size ∙ ap (fields_from place (replicate count 5)) one.2 in
-    record {
-      nodes = listed_bits place one.0;
-      is = ap (λ j. j >>= λ x. took (listed_bits place x.0) x.1) one.1;
-      number = many;
-      kinds = replicate_length count 5 ∙ sym many;
-      means =
-          subst (λ fs. AreNodes (MeansField deep payload) fs (listed_bits place one.0)) same (bits_found deep payload place one.0 (omega (arith, few, size)));
-      few = omega (arith, bits_length place one.0, size, byte.0, used);
-      bound = omega (arith, byte.1, used);
-    }
+-- what agrees, and lies there
+found_of : {A : Type 0} {R : A → List Node → ℕ → Type 0} {from to size : ℕ} {j : Judged A} {k : Judged (List Node)} → Agree R size j k
+    → ((x : A) (nodes : List Node) (n : ℕ) → R x nodes n → LieIn from to nodes) → Found R from to size j k
+found_of h lie = record { there = h.there; lies = λ nodes n e. let one = agree_back h nodes n e in (lie one.0 nodes n one.3, one.2) }
 
--- ---- the other forms
+-- something is made of what is decoded
+pub found_make : {A B : Type 0} {R : A → List Node → ℕ → Type 0} {S : B → List Node → ℕ → Type 0} {from to size : ℕ} (j : Judged A) (k : Judged (List Node))
+    (make : A → B) → Found R from to size j k → ((x : A) (nodes : List Node) (n : ℕ) → R x nodes n → S (make x) nodes n)
+    → Found S from to size (j >>= λ x. took (make x.0) x.1) k
+found_make {S = S} j k make h made = record { there = follows_make S j k make h.there made; lies = h.lies }
 
-number_found : (deep : Bool) (payload bytes : List ℕ) (place n : ℕ) (width : NumberWidth) (items : List Item)
-    → judge_map (λ x. number_item x ∷ []) (judge_number width) bytes ≡ took items n
-    → IsForm deep payload place (number_form width) items (listed_number width (placed place (number_form width)) bytes) (length bytes) n
-number_found deep payload bytes place n width items h =
-    let one = map_took (judge_number width) (λ x. number_item x ∷ []) bytes items n h in
-    let label = placed place (number_form width) in
-    let size = number_took width bytes one.0 n one.1 in
-    one_form deep payload place (number_form width) (number_item one.0) items (listed_number width label bytes) (length bytes) n refl refl one.2 (record {
-      found = record {
-        node = numbered label one.0;
-        inside = [];
-        is = ap (λ j. j >>= λ x. took (numbered label x.0 ∷ []) x.1) one.1;
-        inside_is = refl;
-        keeps = record { key_start = refl; key_length = refl; place = refl; kind = refl };
-        means = (refl, refl, (refl, refl), (refl, refl));
-        few = omega arith;
-        bound = size.1;
-      };
-      less = let some = width_some width in omega (arith, size.0, some);
-    })
-  where
-    width_some : (w : NumberWidth) → 1 ≤ byte_count w
-    width_some bytes1 = omega arith
-    width_some bytes2 = omega arith
-    width_some bytes4 = omega arith
-    width_some bytes8 = omega arith
+-- nothing is read
+pub found_none : {A : Type 0} {R : A → List Node → ℕ → Type 0} {from to size : ℕ} (x : A) → R x [] 0 → Found R from to size (took x 0) (took [] 0)
+found_none {R = R} {from = from} {to = to} {size = size} x r = record {
+  there = λ z n e. as_took (Takes R size (took [] 0)) e ([], refl, omega arith, r);
+  lies = λ nodes n e. as_took (λ ns k. LieIn from to ns × (k ≤ size)) e (none_lie, omega arith);
+}
 
-text_found : (judge : Judge (List ℕ)) (front : ℕ) → 1 ≤ front → ((bytes content : List ℕ) (n : ℕ) → judge bytes ≡ took content n → IsPart bytes content front n)
-    → (make : List ℕ → Item) (form : Form) (deep : Bool) (payload bytes : List ℕ) (end place n : ℕ) (items : List Item)
-    → field_count form ≡ 1 → kinds_of form ≡ kind_of form ∷ []
-    → ((content : List ℕ) (node : Node) → IsText payload node [] content → MeansItem deep payload node [] (make content))
-    → Stands payload end bytes → judge_map (λ x. make x ∷ []) judge bytes ≡ took items n
-    → IsForm deep payload place form items (listed_span judge end (placed place form) bytes) (length bytes) n
-unfolding listed_span
-text_found judge front some parts make form deep payload bytes end place n items count kinds means stands h =
-    let one = map_took judge (λ x. make x ∷ []) bytes items n h in
-    let label = placed place form in
-    let part = parts bytes one.0 n one.1 in
-    let content_ends = end - length (drop n bytes) in
-    let node = spanned label content_ends one.0 in
-    one_form deep payload place form (make one.0) items (listed_span judge end label bytes) (length bytes) n count kinds one.2 (record {
-      found = record {
-        node = node;
-        inside = [];
-        is = ap (λ j. j >>= λ x. took (spanned label (end_before end (drop x.1 bytes)) x.0 ∷ []) x.1) one.1;
-        inside_is = refl;
-        keeps = record { key_start = refl; key_length = refl; place = refl; kind = refl };
-        means = means one.0 node (span_of payload one.0 content_ends (part_stands payload bytes one.0 end front n stands part), (refl, refl), (refl, refl));
-        few = omega arith;
-        bound = part.within;
-      };
-      less = omega (arith, part.used_is, some);
-    })
+-- one thing after another
+pub found_both : {A B C : Type 0} {R : A → List Node → ℕ → Type 0} {S : B → List Node → ℕ → Type 0} {T : C → List Node → ℕ → Type 0} {from to : ℕ}
+    (bytes : List ℕ) (first : Judge A) (second : Judge B) (join : A → B → C) (one two : Judge (List Node))
+    → Found R from to (length bytes) (first bytes) (one bytes)
+    → ((n : ℕ) → n ≤ length bytes → Found S from to (length (drop n bytes)) (second (drop n bytes)) (two (drop n bytes)))
+    → ((x : A) (nodes : List Node) (n : ℕ) (y : B) (more : List Node) (m : ℕ) → R x nodes n → S y more m → T (join x y) (nodes ++ more) (n + m))
+    → Found T from to (length bytes) (judge_both first second join bytes) (judge_both one two (λ a b. a ++ b) bytes)
+found_both {T = T} {from = from} {to = to} bytes first second join one two h rest joins = record {
+  there = λ z k e.
+      let x = bind_took (first bytes) _ z k e in
+      let a = h.there x.0 x.1 x.2 in
+      let y = bind_took (second (drop x.1 bytes)) _ z k x.3 in
+      let b = (rest x.1 a.2).there y.0 y.1 y.2 in
+      as_took (Takes T (length bytes) (judge_both one two (λ ns more. ns ++ more) bytes)) y.3 (
+        a.0 ++ b.0,
+        ap (λ j. j >>= λ p. two (drop p.1 bytes) >>= λ q. took (p.0 ++ q.0) (p.1 + q.1)) a.1 ∙ ap (λ j. j >>= λ q. took (a.0 ++ q.0) (x.1 + q.1)) b.1,
+        omega (arith, length-drop x.1 bytes),
+        joins x.0 a.0 x.1 y.0 b.0 y.1 a.3 b.3,
+      );
+  lies = λ nodes k e.
+      let p = bind_took (one bytes) _ nodes k e in
+      let a = h.lies p.0 p.1 p.2 in
+      let q = bind_took (two (drop p.1 bytes)) _ nodes k p.3 in
+      let b = (rest p.1 a.1).lies q.0 q.1 q.2 in
+      as_took (λ ns m. LieIn from to ns × (m ≤ length bytes)) q.3 (append_lie p.0 q.0 a.0 b.0, omega (arith, length-drop p.1 bytes));
+}
 
--- a table with its entries
-deep_found : (payload bytes : List ℕ) (end place n : ℕ) (items : List Item)
-    → Stands payload end bytes → judge_map (λ es. entries_item es ∷ []) judge_field_table bytes ≡ took items n
-    → IsForm true payload place table_form items (listed_table (listed_value inner_depth) end (placed place table_form) bytes) (length bytes) n
+-- ---- the nodes of fields
+
+-- the nodes of fields, at most so many
+pub record AreFields (deep : Bool) (payload : List ℕ) (fields : List Field) (most : ℕ) (nodes : List Node) : Type 0 where
+  pub means : AreNodes (MeansField deep payload) fields nodes
+  pub few : length nodes ≤ most
+
+-- fields and then others
+pub fields_then : {deep : Bool} {payload : List ℕ} {a b most : ℕ} {xs ys : List Field} {front rest : List Node}
+    → AreFields deep payload xs a front → AreFields deep payload ys b rest → a + b ≤ most → AreFields deep payload (xs ++ ys) most (front ++ rest)
+fields_then {deep = deep} {payload = payload} {xs = xs} {ys = ys} {front = front} {rest = rest} one two less = record {
+  means = nodes_append (MeansField deep payload) xs ys front rest one.means two.means;
+  few = omega (arith, length-append front rest);
+}
+
+-- items of some kinds from a place on, and their nodes, of which there may be so many more than bytes
+pub record AreItems (deep : Bool) (payload : List ℕ) (place count : ℕ) (kinds : List ℕ)
+    (spare : ℕ) (items : List Item) (nodes : List Node) (n : ℕ) : Type 0 where
+  pub number : length items ≡ count
+  pub fields : AreFields deep payload (fields_from place kinds items) (n + spare) nodes
+
+-- how many fields more than bytes
+abbrev pub excess : Form → ℕ
+excess (flags_form count) = count - 1
+excess form = 0
+
+kinds_count : (form : Form) → length (kinds_of form) ≡ field_count form
+kinds_count (number_form width) = refl
+kinds_count (flags_form count) = length-replicate count 5
+kinds_count short_string_form = refl
+kinds_count long_string_form = refl
+kinds_count table_form = refl
+
+table_bounded : IsBounded judge_field_table
 unfolding judge_table
-deep_found payload bytes end place n items stands h =
-    let one = map_took judge_field_table (λ es. entries_item es ∷ []) bytes items n h in
-    let label = placed place table_form in
-    let all =
-    items_held (judge_entry (judge_value inner_depth)) (listed_entry (listed_value inner_depth)) (MeansEntry (MeansValue inner_depth payload) payload)
-    settled payload bytes end n label one.0 (record { inside = refl; items = refl; start = refl; count = refl; number = refl; scale = refl })
-    (entry_found inner_depth (value_found inner_depth) payload) stands one.1 in
-    let held = all.2 in
-    let found = held.found in
-    one_form true payload place table_form (entries_item one.0) items
-    (listed_table (listed_value inner_depth) end label bytes) (length bytes) n refl refl one.2 (record {
-      found = record {
-        node = found.node;
-        inside = found.inside;
-        is = found.is;
-        inside_is = found.inside_is;
-        keeps = found.keeps;
-        few = found.few;
-        bound = found.bound;
-        means = record {
-          content = held.content;
-          span = found.means.0;
-          no_number = found.means.1;
-          entries = all.0;
-          fills = held.fills;
-          entries_are = found.means.2;
-          settles = sym all.1;
-        };
-      };
-      less = held.less;
-    })
-
--- a table alone
-alone_found : (payload bytes : List ℕ) (end place n : ℕ) (items : List Item)
-    → Stands payload end bytes → judge_map (λ es. entries_item es ∷ []) judge_field_table bytes ≡ took items n
-    → IsForm false payload place table_form items (listed_span judge_long_string end (placed place table_form) bytes) (length bytes) n
-unfolding judge_table listed_span
-alone_found payload bytes end place n items stands h =
-    let one = map_took judge_field_table (λ es. entries_item es ∷ []) bytes items n h in
-    let label = placed place table_form in
-    let two = bind_took (judge_long_string bytes) _ one.0 n one.1 in
-    let all = all_took two.1 n (read_map settled (filled (judge_entry (judge_value inner_depth)) 0 two.0)) one.0 two.3 in
-    let entries = map_read settled (filled (judge_entry (judge_value inner_depth)) 0 two.0) one.0 all.0 in
-    let part = long_part bytes two.0 two.1 two.2 in
-    let content_ends = end - length (drop two.1 bytes) in
-    one_form false payload place table_form (entries_item one.0) items
-    (listed_span judge_long_string end label bytes) (length bytes) n refl refl one.2 (record {
-      found = record {
-        node = spanned label content_ends two.0;
-        inside = [];
-        is =
-            ap (λ j. j >>= λ x. took (spanned label (end_before end (drop x.1 bytes)) x.0 ∷ []) x.1) two.2
-            ∙ ap (took (spanned label content_ends two.0 ∷ [])) all.1;
-        inside_is = refl;
-        keeps = record { key_start = refl; key_length = refl; place = refl; kind = refl };
-        means = record {
-          content = two.0;
-          span = span_of payload two.0 content_ends (part_stands payload bytes two.0 end 4 two.1 stands part);
-          no_number = (refl, refl);
-          entries = entries.0;
-          fills = entries.1;
-          entries_are = (refl, refl);
-          settles = sym entries.2;
-        };
-        few = omega arith;
-        bound = omega (arith, part.within, all.1);
-      };
-      less = omega (arith, part.used_is, all.1);
-    })
-
--- the nodes that are listed of a form are those of the items that are decoded
-pub form_found : (deep : Bool) (payload bytes : List ℕ) (end place n : ℕ) (form : Form) (items : List Item)
-    → place + field_count form < 256 → Stands payload end bytes → judge_form form bytes ≡ took items n
-    → IsForm deep payload place form items (listed_form deep end place form bytes) (length bytes) n
-unfolding judge_form listed_form
-form_found deep payload bytes end place n (number_form width) items room stands h = number_found deep payload bytes place n width items h
-form_found deep payload bytes end place n (flags_form count) items room stands h = flags_found deep payload bytes place count n items room h
-form_found deep payload bytes end place n short_string_form items room stands h =
-    text_found judge_short_string 1 (omega arith) short_part text_item short_string_form
-    deep payload bytes end place n items refl refl (λ content node is. is) stands h
-form_found deep payload bytes end place n long_string_form items room stands h =
-    text_found judge_long_string 4 (omega arith) long_part bytes_item long_string_form
-    deep payload bytes end place n items refl refl (λ content node is. is) stands h
-form_found true payload bytes end place n table_form items room stands h = deep_found payload bytes end place n items stands h
-form_found false payload bytes end place n table_form items room stands h = alone_found payload bytes end place n items stands h
-
--- ---- fields, one after another
+table_bounded bytes es n h =
+    let two = bind_took (judge_long_string bytes) _ es n h in
+    let all = all_took two.1 n (read_map settled (filled (judge_entry (judge_value inner_depth)) 0 two.0)) es two.3 in
+    omega (arith, (long_part bytes two.0 two.1 two.2).within)
 
 form_bounded : (form : Form) → IsBounded (judge_form form)
-unfolding judge_form judge_flags judge_table
-form_bounded (number_form width) bytes items n h =
-    let one = map_took (judge_number width) (λ x. number_item x ∷ []) bytes items n h in
-    number_bounded width bytes one.0 n one.1
-form_bounded (flags_form count) bytes items n h =
-    let one = map_took (judge_flags count) (map flag_item) bytes items n h in
-    let two = bind_took (judge_number bytes1 bytes) _ one.0 n one.1 in
-    let used = count_took (flags_from count 0 two.0) one.0 two.1 n two.3 in
-    omega (arith, number_bounded bytes1 bytes two.0 two.1 two.2, used)
-form_bounded short_string_form bytes items n h =
-    let one = map_took judge_short_string (λ x. text_item x ∷ []) bytes items n h in
-    (short_part bytes one.0 n one.1).within
-form_bounded long_string_form bytes items n h =
-    let one = map_took judge_long_string (λ x. bytes_item x ∷ []) bytes items n h in
-    (long_part bytes one.0 n one.1).within
-form_bounded table_form bytes items n h =
-    let one = map_took judge_field_table (λ es. entries_item es ∷ []) bytes items n h in
-    let two = bind_took (judge_long_string bytes) _ one.0 n one.1 in
-    let all = all_took two.1 n (read_map settled (filled (judge_entry (judge_value inner_depth)) 0 two.0)) one.0 two.3 in
-    omega (arith, (long_part bytes two.0 two.1 two.2).within, all.1)
+unfolding judge_form judge_flags
+form_bounded (number_form width) = map_bounded _ (number_bounded width)
+form_bounded (flags_form count) = map_bounded _ (map_bounded _ (number_bounded bytes1))
+form_bounded short_string_form = map_bounded _ (λ bytes text n h. (short_part bytes text n h).within)
+form_bounded long_string_form = map_bounded _ (λ bytes text n h. (long_part bytes text n h).within)
+form_bounded table_form = map_bounded _ table_bounded
+
+label_of : {from to : ℕ} (place : ℕ) (form : Form) → IsLabel from to (placed place form)
+label_of place form = record {
+  fresh = record { inside = refl; items = refl; start = refl; count = refl; number = refl; scale = refl };
+  key = inl (refl, refl);
+}
+
+-- the node of one field, with those inside it
+one_field : {deep : Bool} {payload : List ℕ} {from to : ℕ} (most place : ℕ) (form : Form) (item : Item) {nodes : List Node}
+    → IsGroupOf (λ node inside. Keeps (placed place form) node × MeansItem deep payload node inside item) from to most nodes
+    → AreFields deep payload (field place (kind_of form) item ∷ []) most nodes
+one_field most place form item group = record {
+  means = record {
+    node = group.node;
+    inside = group.inside;
+    others = [];
+    nodes_are = group.nodes_are ∙ ap (λ ns. group.node ∷ ns) (sym (append-nil group.inside));
+    inside_is = group.inside_is;
+    means =
+        let keeps = group.means.0 in
+        record { place_is = keeps.place; kind_is = keeps.kind; no_key = (keeps.key_start, keeps.key_length); means = group.means.1 };
+    rest = refl;
+  };
+  few = group.few;
+}
+
+module _ (deep : Bool) (payload : List ℕ) (from to : ℕ) where
+  -- a form of one item
+  one_found : {A : Type 0} {size : ℕ} (place : ℕ) (form : Form) (j : Judged A) (k : Judged (List Node)) (make : A → Item)
+      → Finds (λ node inside x. Keeps (placed place form) node × MeansItem deep payload node inside (make x)) from to size j k
+      → Found (AreItems deep payload place 1 (kind_of form ∷ []) 0) from to size (j >>= λ x. took (make x.0 ∷ []) x.1) k
+  one_found place form j k make h =
+      found_make j k (λ x. make x ∷ []) (found_of h (λ x nodes n group. group.lie)) (λ x nodes n group.
+      let one = one_field n place form (make x) group in
+      record { number = refl; fields = record { means = one.means; few = omega arith } })
+
+  bits_found : (place : ℕ) (flags : List Bool) → place + length flags < 256
+      → AreFields deep payload (fields_from place (replicate (length flags) 5) (map flag_item flags)) (length flags) (listed_bits place flags)
+      × LieIn from to (listed_bits place flags)
+  bits_found place [] few = (record { means = refl; few = omega arith }, none_lie)
+  bits_found place (flag ∷ flags) few =
+      let next : next_place place 1 ≡ place + 1 = byte_below (place + 1) (omega (arith, few)) in
+      let one = leaf (label_of place (flags_form 1)) refl 0 0 (bit_of flag) refl in
+      let others = bits_found (place + 1) flags (omega (arith, few)) in
+      rw next (
+        fields_then (one_field 1 place (flags_form 1) (flag_item flag) one) others.0 (omega arith),
+        append_lie (numbered (placed place (flags_form 1)) (bit_of flag) ∷ []) (listed_bits (place + 1) flags) one.lie others.1,
+      )
+
+  flags_found : (place count : ℕ) (bytes : List ℕ) → place + count < 256
+      → Found (AreItems deep payload place count (replicate count 5) (count - 1)) from to (length bytes) (judge_map (map flag_item) (judge_flags count) bytes)
+      (judge_map (listed_bits place) (judge_flags count) bytes)
+  unfolding judge_flags
+  flags_found place count bytes room =
+      found_make
+      {R = λ flags nodes n. AreItems deep payload place count (replicate count 5) (count - 1) (map flag_item flags) nodes n × LieIn from to nodes}
+      (judge_flags count bytes) _ (map flag_item)
+      (found_of (agree_of (judge_flags count bytes) (λ flags n. listed_bits place flags) (λ flags n e.
+      let byte = bind_took (judge_number bytes1 bytes) _ flags n e in
+      let size : length flags ≡ count = ap length (sym (value_took _ flags byte.1 n byte.3)) ∙ flags_length count 0 byte.0 in
+      let took_one = number_took bytes1 bytes byte.0 byte.1 byte.2 in
+      let used = count_took _ flags byte.1 n byte.3 in
+      let bits = bits_found place flags (omega arith) in (
+        omega arith,
+        (
+          record {
+            number = length-map flags flag_item ∙ size;
+            fields = record {
+              means = rw size at bits.0.means;
+              few = omega arith;
+            };
+          },
+          bits.1,
+        ),
+      ))) (λ flags nodes n h. h.1))
+      (λ flags nodes n h. h.0)
+
+  -- a number
+  number_found : (place : ℕ) (width : NumberWidth) (bytes : List ℕ)
+      → Found (AreItems deep payload place 1 (kind_of (number_form width) ∷ []) 0) from to (length bytes)
+      (judge_map (λ x. number_item x ∷ []) (judge_number width) bytes)
+      (judge_map (λ x. numbered (placed place (number_form width)) x ∷ []) (judge_number width) bytes)
+  number_found place width bytes =
+      one_found place (number_form width) (judge_number width bytes) _ number_item
+      (agree_of (judge_number width bytes) (λ x n. numbered (placed place (number_form width)) x ∷ []) (λ x n e.
+      let size = number_took width bytes x n e in (
+        size.1,
+        regroup (leaf (label_of place (number_form width)) (no_span width) 0 0 x refl) (let some = width_some width in omega arith)
+            (λ node inside means. means),
+      )))
+    where
+      no_span : (w : NumberWidth) → has_span (kind_of (number_form w)) ≡ false
+      no_span bytes1 = refl
+      no_span bytes2 = refl
+      no_span bytes4 = refl
+      no_span bytes8 = refl
+
+      width_some : (w : NumberWidth) → 1 ≤ byte_count w
+      width_some bytes1 = omega arith
+      width_some bytes2 = omega arith
+      width_some bytes4 = omega arith
+      width_some bytes8 = omega arith
+
+module _ (payload : List ℕ) (from to : ℕ) (bytes : List ℕ) (at : IsAt payload from to bytes) where
+  -- a table alone
+  alone_found : (place : ℕ) → Found (AreItems false payload place 1 (kind_of table_form ∷ []) 0) from to (length bytes)
+      (judge_map (λ es. entries_item es ∷ []) judge_field_table bytes) (listed_span judge_long_string to (placed place table_form) bytes)
+  unfolding judge_table
+  alone_found place =
+      let span = span_found at (label_of place table_form) judge_long_string 4 long_part (omega arith) in
+      record {
+        there = λ items n e.
+            let one = map_took judge_field_table (λ es. entries_item es ∷ []) bytes items n e in
+            let content = bind_took (judge_long_string bytes) _ one.0 n one.1 in
+            let all = all_took content.1 n (read_map settled (filled (judge_entry (judge_value inner_depth)) 0 content.0)) one.0 content.3 in
+            let entries = map_read settled (filled (judge_entry (judge_value inner_depth)) 0 content.0) one.0 all.0 in
+            let listed = span.there content.0 content.1 content.2 in
+            let table =
+            one_field content.1 place table_form (entries_item one.0) (regroup listed.3 (omega arith) (λ node inside means. (
+              means.0,
+              record {
+                content = content.0;
+                span = means.1.0;
+                no_number = means.1.1;
+                entries = entries.0;
+                fills = entries.1;
+                entries_are = means.1.2;
+                settles = sym entries.2;
+              },
+            ))) in (
+              listed.0,
+              listed.1 ∙ ap (took listed.0) all.1,
+              omega arith,
+              subst (λ xs. AreItems false payload place 1 (kind_of table_form ∷ []) 0 xs listed.0 n) one.2
+                  (record { number = refl; fields = record { means = table.means; few = omega arith } }),
+            );
+        lies = λ nodes n e. let one = agree_back span nodes n e in (one.3.lie, one.2);
+      }
+
+  -- the nodes that are listed of a form are those of the items that are decoded
+  pub form_found : (deep : Bool) (place : ℕ) (form : Form) → place + field_count form < 256
+      → Found (AreItems deep payload place (field_count form) (kinds_of form) (excess form)) from to (length bytes) (judge_form form bytes)
+      (listed_form deep to place form bytes)
+  unfolding judge_form listed_form
+  form_found deep place (number_form width) room = number_found deep payload from to place width bytes
+  form_found deep place (flags_form count) room = flags_found deep payload from to place count bytes room
+  form_found deep place short_string_form room =
+      one_found deep payload from to place short_string_form (judge_short_string bytes) _ text_item
+      (span_found at (label_of place short_string_form) judge_short_string 1 short_part (omega arith))
+  form_found deep place long_string_form room =
+      one_found deep payload from to place long_string_form (judge_long_string bytes) _ bytes_item
+      (span_found at (label_of place long_string_form) judge_long_string 4 long_part (omega arith))
+  form_found true place table_form room =
+      one_found true payload from to place table_form (judge_field_table bytes) _ entries_item
+      (table_found inner_depth (value_found inner_depth) at (label_of place table_form))
+  form_found false place table_form room = alone_found place
+
+-- ---- fields, one after another
 
 -- how many fields that are not reserved are more than bytes
 abbrev pub slot_excess : Slot → ℕ
@@ -344,104 +328,62 @@ abbrev pub spare : List Slot → ℕ
 spare [] = 0
 spare (slot ∷ slots) = slot_excess slot + spare slots
 
--- what was listed of fields are the nodes of their items
-pub record AreSlots (deep : Bool) (payload : List ℕ) (place : ℕ) (slots : List Slot)
-    (items : List Item) (listed : Judged (List Node)) (size used : ℕ) : Type 0 where
-  pub nodes : List Node
-  pub is : listed ≡ took nodes used
-  pub means : AreNodes (MeansField deep payload) (fields_from place (kinds_in slots) items) nodes
-  pub few : length nodes ≤ used + spare slots
-  pub bound : used ≤ size
+-- the kinds of a field that is not reserved
+abbrev slot_kinds : Slot → List ℕ
+slot_kinds (kept_slot form) = kinds_of form
+slot_kinds (reserved_slot form constant) = []
 
-kept_next : (deep : Bool) (payload bytes : List ℕ) (end place : ℕ) (form : Form) (slots : List Slot) (one others : List Item) (a b : ℕ)
-    → place + field_count form < 256 → IsForm deep payload place form one (listed_form deep end place form bytes) (length bytes) a
-    → AreSlots deep payload (place + field_count form) slots others
-    (listed_slots deep end (place + field_count form) slots (drop a bytes)) (length (drop a bytes)) b
-    → AreSlots deep payload place (kept_slot form ∷ slots) (one ++ others) (listed_slots deep end place (kept_slot form ∷ slots) bytes) (length bytes) (a + b)
-unfolding listed_slots listed_slot
-kept_next deep payload bytes end place form slots one others a b room first rest =
-    let next : next_place place (field_count form) ≡ place + field_count form = byte_below (place + field_count form) room in
-    let fields : fields_from place (kinds_in (kept_slot form ∷ slots)) (one ++ others)
-    ≡ fields_from place (kinds_of form) one ++ fields_from (place + field_count form) (kinds_in slots) others =
-    fields_append place (kinds_of form) (kinds_in slots) one others first.kinds
-    ∙ ap (λ k. fields_from place (kinds_of form) one ++ fields_from (place + k) (kinds_in slots) others) first.number in
-    record {
-      nodes = first.nodes ++ rest.nodes;
-      is =
-          ap
-          (λ j. j >>= λ x. listed_slots deep end (next_place place (field_count form)) slots (drop x.1 bytes) >>= λ y. took (x.0 ++ y.0) (x.1 + y.1)) first.is
-          ∙ ap (λ p. listed_slots deep end p slots (drop a bytes) >>= λ y. took (first.nodes ++ y.0) (a + y.1)) next
-          ∙ ap (λ j. j >>= λ y. took (first.nodes ++ y.0) (a + y.1)) rest.is;
-      means =
-          subst (λ fs. AreNodes (MeansField deep payload) fs (first.nodes ++ rest.nodes)) (sym fields) (nodes_append
-          (MeansField deep payload) (fields_from place (kinds_of form) one)
-          (fields_from (place + field_count form) (kinds_in slots) others) first.nodes rest.nodes first.means rest.means);
-      few = omega (arith, length-append first.nodes rest.nodes, first.few, rest.few);
-      bound = omega (arith, first.bound, rest.bound, length-drop a bytes);
-    }
+slot_count : (slot : Slot) → length (slot_kinds slot) ≡ kept_count slot
+slot_count (kept_slot form) = kinds_count form
+slot_count (reserved_slot form constant) = refl
 
-reserved_next : (deep : Bool) (payload bytes : List ℕ) (end place : ℕ) (form : Form)
-    (constant given : List Item) (slots : List Slot) (others : List Item) (a b : ℕ)
-    → place < 256 → judge_form form bytes ≡ took given a
-    → AreSlots deep payload place slots others (listed_slots deep end place slots (drop a bytes)) (length (drop a bytes)) b
-    → AreSlots deep payload place (reserved_slot form constant ∷ slots) others
-    (listed_slots deep end place (reserved_slot form constant ∷ slots) bytes) (length bytes) (a + b)
-unfolding listed_slots listed_slot
-reserved_next deep payload bytes end place form constant given slots others a b room first rest =
-    let next : next_place place 0 ≡ place = byte_below (place + 0) (omega (arith, room)) ∙ (omega arith) in
-    record {
-      nodes = rest.nodes;
-      is =
-          ap (λ j. j >>= (λ x. took [] x.1) >>= λ x. listed_slots deep end (next_place place 0) slots (drop x.1 bytes) >>= λ y. took (x.0 ++ y.0) (x.1 + y.1))
-          first
-          ∙ ap (λ p. listed_slots deep end p slots (drop a bytes) >>= λ y. took ([] ++ y.0) (a + y.1)) next
-          ∙ ap (λ j. j >>= λ y. took ([] ++ y.0) (a + y.1)) rest.is;
-      means = rest.means;
-      few = omega (arith, rest.few);
-      bound = omega (arith, form_bounded form bytes given a first, rest.bound, length-drop a bytes);
-    }
+slot_first : (slot : Slot) (slots : List Slot) → slot_kinds slot ++ kinds_in slots ≡ kinds_in (slot ∷ slots)
+slot_first (kept_slot form) slots = refl
+slot_first (reserved_slot form constant) slots = refl
+
+slot_found : (deep : Bool) (payload : List ℕ) (from to : ℕ) (bytes : List ℕ) (place : ℕ) (slot : Slot)
+    → IsAt payload from to bytes → place + kept_count slot < 256
+    → Found (AreItems deep payload place (kept_count slot) (slot_kinds slot) (slot_excess slot)) from to (length bytes) (judge_slot slot bytes)
+    (listed_slot deep to place slot bytes)
+unfolding listed_slot judge_dropped
+slot_found deep payload from to bytes place (kept_slot form) at room = form_found payload from to bytes at deep place form room
+slot_found deep payload from to bytes place (reserved_slot form constant) at room =
+    found_make {R = λ items nodes n. nodes ≡ []} (judge_form form bytes) _ (λ items. [])
+    (found_of (agree_of (judge_form form bytes) (λ items n. []) (λ items n e. (form_bounded form bytes items n e, refl)))
+    (λ items nodes n none. rw none none_lie))
+    (λ items nodes n none. record { number = refl; fields = record { means = none; few = omega (arith, ap length none) } })
+
+-- fields have as many kinds as they are
+pub kinds_total : (slots : List Slot) → length (kinds_in slots) ≡ total slots
+kinds_total [] = refl
+kinds_total (slot ∷ slots) =
+    omega (arith, ap length (slot_first slot slots), length-append (slot_kinds slot) (kinds_in slots), slot_count slot, kinds_total slots)
+
+-- as many items as kinds are as many fields
+pub from_count : (place : ℕ) (kinds : List ℕ) (items : List Item) → length kinds ≡ length items → length (fields_from place kinds items) ≡ length kinds
+from_count place [] items h = refl
+from_count place (kind ∷ kinds) [] h = absurd (omega arith)
+from_count place (kind ∷ kinds) (item ∷ items) h = omega (arith, from_count (place + 1) kinds items (omega (arith, h)))
 
 -- the nodes that are listed of fields are those of the items that are decoded
-pub slots_found : (deep : Bool) (payload : List ℕ) (end : ℕ) (slots : List Slot) (bytes : List ℕ) (place n : ℕ) (items : List Item)
-    → place + total slots < 256 → Stands payload end bytes → judge_slots slots bytes ≡ took items n
-    → AreSlots deep payload place slots items (listed_slots deep end place slots bytes) (length bytes) n
-unfolding judge_slots listed_slots judge_dropped
-slots_found deep payload end [] bytes place n items room stands h =
+pub slots_found : (deep : Bool) (payload : List ℕ) (from to : ℕ) (slots : List Slot) (bytes : List ℕ) (place : ℕ) → place + total slots < 256
+    → IsAt payload from to bytes → Found (AreItems deep payload place (total slots) (kinds_in slots) (spare slots)) from to (length bytes)
+    (judge_slots slots bytes) (listed_slots deep to place slots bytes)
+unfolding judge_slots listed_slots
+slots_found deep payload from to [] bytes place room at = found_none [] (record { number = refl; fields = record { means = refl; few = omega arith } })
+slots_found deep payload from to (slot ∷ slots) bytes place room at =
+    let next : next_place place (kept_count slot) ≡ place + kept_count slot = byte_below (place + kept_count slot) (omega arith) in
+    found_both {S = AreItems deep payload (place + kept_count slot) (total slots) (kinds_in slots) (spare slots)} bytes
+    (judge_slot slot) (judge_slots slots) (λ xs ys. xs ++ ys) (listed_slot deep to place slot)
+    (listed_slots deep to (next_place place (kept_count slot)) slots) (slot_found deep payload from to bytes place slot at (omega arith))
+    (λ n few. rw next (slots_found deep payload from to slots (drop n bytes) (place + kept_count slot) (omega arith) (at_drop bytes n at few)))
+    (λ items nodes n others more m one two.
+    let fields =
+    ap (λ ks. fields_from place ks (items ++ others)) (sym (slot_first slot slots))
+    ∙ fields_append place (slot_kinds slot) (kinds_in slots) items others (slot_count slot ∙ sym one.number)
+    ∙ ap (λ k. fields_from place (slot_kinds slot) items ++ fields_from (place + k) (kinds_in slots) others) one.number in
     record {
-      nodes = [];
-      is = ap (took []) (count_took [] items 0 n h);
-      means = refl;
-      few = omega arith;
-      bound = let used = count_took [] items 0 n h in omega (arith, used);
-    }
-slots_found deep payload end (kept_slot form ∷ slots) bytes place n items room stands h =
-    let one = bind_took (judge_form form bytes) _ items n h in
-    let two = bind_took (judge_slots slots (drop one.1 bytes)) _ items n one.3 in
-    let used : one.1 + two.1 ≡ n = count_took (one.0 ++ two.0) items (one.1 + two.1) n two.3 in
-    let is : one.0 ++ two.0 ≡ items = value_took (one.0 ++ two.0) items (one.1 + two.1) n two.3 in
-    let first = form_found deep payload bytes end place one.1 form one.0 (omega (arith, room)) stands one.2 in
-    let rest =
-    slots_found deep payload end slots (drop one.1 bytes) (place + field_count form) two.1 two.0
-    (omega (arith, room)) (stands_drop payload bytes end one.1 stands first.bound) two.2 in
-    subst (AreSlots deep payload place (kept_slot form ∷ slots) items (listed_slots deep end place (kept_slot form ∷ slots) bytes) (length bytes)) used
-    (subst
-    (λ xs. AreSlots deep payload place (kept_slot form ∷ slots) xs (listed_slots deep end place (kept_slot form ∷ slots) bytes) (length bytes) (one.1 + two.1))
-    is (kept_next deep payload bytes end place form slots one.0 two.0 one.1 two.1 (omega (arith, room)) first rest))
-slots_found deep payload end (reserved_slot form constant ∷ slots) bytes place n items room stands h =
-    let one = bind_took (judge_dropped form bytes) _ items n h in
-    let given = map_took (judge_form form) (λ xs. []) bytes one.0 one.1 one.2 in
-    let two = bind_took (judge_slots slots (drop one.1 bytes)) _ items n one.3 in
-    let used : one.1 + two.1 ≡ n = count_took (one.0 ++ two.0) items (one.1 + two.1) n two.3 in
-    let is : two.0 ≡ items = ap (λ (xs : List Item). xs ++ two.0) given.2 ∙ value_took (one.0 ++ two.0) items (one.1 + two.1) n two.3 in
-    let rest =
-    slots_found deep payload end slots (drop one.1 bytes) place two.1 two.0 (omega (arith, room))
-    (stands_drop payload bytes end one.1 stands (form_bounded form bytes given.0 one.1 given.1)) two.2 in
-    subst
-    (AreSlots deep payload place (reserved_slot form constant ∷ slots) items
-    (listed_slots deep end place (reserved_slot form constant ∷ slots) bytes) (length bytes))
-    used
-    (subst
-    (λ xs.
-    AreSlots deep payload place (reserved_slot form constant ∷ slots) xs
-    (listed_slots deep end place (reserved_slot form constant ∷ slots) bytes) (length bytes) (one.1 + two.1))
-    is (reserved_next deep payload bytes end place form constant given.0 slots two.0 one.1 two.1 (omega (arith, room)) given.1 rest))
+      number = omega (arith, length-append items others);
+      fields = rw fields
+          (fields_then one.fields two.fields (omega arith));
+    })

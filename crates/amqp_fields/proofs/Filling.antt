@@ -1,13 +1,13 @@
 -- Decoding what fills a table or an array, item by item.
-use Rattle.std.proofs.Common.{◌≡◌, ℕ, ◌+◌, ◌<◌, ◌≤◌, List, ◌∷◌, length, drop, Result, Ok, Err, sym, ap, subst, ◌∙◌}
+use Rattle.std.proofs.Common.{◌≡◌, ℕ, ◌+◌, ◌<◌, ◌≤◌, List, ◌∷◌, length, drop, Result, Ok, Err, sym, ap, ◌∙◌}
 use Rattle.std.proofs.lemmas.List.{nil_from_length}
-use Rattle.amqp_types.specs.Judging.{Fault, Judge, Judged, took, ◌>>=◌}
+use Rattle.amqp_types.specs.Judging.{Fault, Judge, took, ◌>>=◌}
+use Rattle.amqp_types.proofs.Judged.{refuses_next}
 use Rattle.amqp_types.specs.Answers.{Refuses, RefusesWhole}
 use Rattle.amqp_types.specs.Strings.{judge_short_string}
-use Rattle.amqp_types.specs.Values.{FieldValue, Entry}
+use Rattle.amqp_types.specs.Values.{FieldValue}
 use Rattle.amqp_types.specs.ValueJudging.{filled, inside_error, judge_entry, judge_value, read_map}
 use Rattle.amqp_types.specs.declared.errors.ParserError.{ParserError}
-use Rattle.amqp_types.specs.declared.errors.ParserError.TheVariants as errors
 use Rattle.amqp_canonical.specs.Judgements.{MayRefuse}
 use Rattle.amqp_canonical.specs.Writes.{IsFilled}
 use Rattle.amqp_canonical.proofs.Refusing.{refused_inside}
@@ -30,37 +30,23 @@ goes_on item content rest next x n h some is up le e =
     let same : filled item 0 rest ≡ read_map (λ xs. x ∷ xs) (filled item 0 next) =
     filled_next item rest x n some is up le ∙ ap (λ bs. read_map (λ xs. x ∷ xs) (filled item 0 bs)) (sym e) in
     record {
-      refused = λ e r. h.refused e (subst (RefusesWhole e) (sym same) (RefusesWhole-map e (λ xs. x ∷ xs) (filled item 0 next) r));
-      fills = λ f. h.fills (subst IsFilled (sym same) (map_filled x (filled item 0 next) f));
+      refused = λ e r. h.refused e (rw same (RefusesWhole-map e (λ xs. x ∷ xs) (filled item 0 next) r));
+      fills = λ f. h.fills (rw same (map_filled x (filled item 0 next) f));
     }
 
 -- a fault of the next thing is one of the whole
 pub fails : {A : Type 0} (item : Judge A) (content rest : List ℕ) (e inside : ParserError) → Onward item content rest → 0 < length rest
     → inside ≡ inside_error e → MayRefuse e → Refuses e (item rest) → FillsOrFails (Err inside) (filled item 0 content)
 fails item content rest e inside h some is may refused =
-    (refused_inside e inside is may, h.refused inside (subst (λ x. RefusesWhole x (filled item 0 rest)) (sym is) (filled_refused item e rest some refused)))
+    (refused_inside e inside is may, h.refused inside (rw is (filled_refused item e rest some refused)))
 
 -- where nothing is left, things fill the content
 pub ends : {A : Type 0} (item : Judge A) (content rest : List ℕ) (done : Unit {0})
     → Onward item content rest → length rest ≡ 0 → FillsOrFails (Ok done) (filled item 0 content)
 unfolding filled
-ends item content rest done h none = h.fills (subst (λ bs. IsFilled (filled item 0 bs)) (sym (nil_from_length rest none)) tt)
+ends item content rest done h none = h.fills (rw (nil_from_length rest none) tt)
 
 -- ---- an entry
-
-refuses_next : {A B : Type 0} (e : ParserError) (j : Judged A) (f : A × ℕ → Judged B) → MayRefuse e → Refuses e j → Refuses e (j >>= f)
-refuses_next errors.Incomplete j f may h = ap (λ k. k >>= f) h
-refuses_next errors.UnknownFrameType j f may h = ap (λ k. k >>= f) h
-refuses_next errors.BadProtocolHeader j f may h = ap (λ k. k >>= f) h
-refuses_next errors.BadFrameEnd j f may h = ap (λ k. k >>= f) h
-refuses_next errors.UnknownClass j f may h = ap (λ k. k >>= f) h
-refuses_next errors.UnknownMethod j f may h = ap (λ k. k >>= f) h
-refuses_next errors.ShortPayload j f may h = ap (λ k. k >>= f) h
-refuses_next errors.TrailingBytes j f may h = ap (λ k. k >>= f) h
-refuses_next errors.NotUtf8 j f may h = ap (λ k. k >>= f) h
-refuses_next errors.UnknownTag j f may h = ap (λ k. k >>= f) h
-refuses_next errors.TooDeep j f may h = ap (λ k. k >>= f) h
-refuses_next errors.NoMemory j f may h = tt
 
 -- a key and a value are an entry of as many bytes as both
 pub entry_used : (d : ℕ) (i key rest : List ℕ) (v : FieldValue) (n m : ℕ) → judge_short_string i ≡ took key n
@@ -75,13 +61,11 @@ entry_used d i key rest v n m one e two = (
 -- a fault of a key is one of its entry
 pub key_refused : (d : ℕ) (i : List ℕ) (e : ParserError) → MayRefuse e → Refuses e (judge_short_string i) → UsesOrFails (Err e) (judge_entry (judge_value d) i)
 unfolding judge_entry
-key_refused d i e may h = (may, refuses_next e (judge_short_string i) _ may h)
+key_refused d i e may h = (may, refuses_next e (judge_short_string i) _ h)
 
 -- a fault of a value behind a key is one of the entry
 pub value_refused : (d : ℕ) (i key rest : List ℕ) (e : ParserError) (n : ℕ) → judge_short_string i ≡ took key n
     → rest ≡ drop n i → MayRefuse e × Refuses e (judge_value d rest) → UsesOrFails (Err e) (judge_entry (judge_value d) i)
 unfolding judge_entry
 value_refused d i key rest e n one is h =
-    let P : Judged (List ℕ) → Type 0 = λ j. Refuses {B = Entry} e (j >>= λ k. judge_value d (drop k.1 i) >>= λ y. took (k.0, y.0) (k.1 + y.1)) in
-    let Q : List ℕ → Type 0 = λ bs. Refuses e (judge_value d bs) in
-    (h.0, subst P (sym one) (refuses_next e (judge_value d (drop n i)) (λ y. took (key, y.0) (n + y.1)) h.0 (subst Q is h.1)))
+    (h.0, rw one (refuses_next e (judge_value d (drop n i)) (λ y. took (key, y.0) (n + y.1)) (rw is at h.1)))

@@ -1,5 +1,6 @@
 -- The frames that are read, one after another, with their heads and nodes.
-use Rattle.std.proofs.Common.{◌≡◌, ℕ, suc, ◌+◌, ◌*◌, ◌-◌, ◌<◌, ◌≤◌, ◌^◌, Bool, List, [], ◌∷◌, ◌++◌, length, take, drop, set, append_assoc, append-nil, Some, Ok}
+use Rattle.std.proofs.Common.{◌≡◌, ℕ, suc, ◌+◌, ◌*◌, ◌-◌, ◌<◌, ◌≤◌, ◌^◌, Bool, List, [], ◌∷◌, ◌++◌, length, take, drop, set, append_assoc, append-nil, Some}
+use Rattle.std.proofs.Common.{Ok}
 use Rattle.std.proofs.Common.{refl, sym, ap, subst, ◌∙◌, arith}
 use Rattle.std.proofs.lemmas.List.{drop-drop, length-append, length-drop, length-set, length-take, length-take-le, take_more_set}
 use Rattle.amqp_types.specs.Answers.{RefusesWhole}
@@ -47,7 +48,7 @@ frame_stands bytes payload used place count within is =
     let size : length payload ≡ count =
     ap length (sym same) ∙ length-take-le count (drop (used + place) bytes) (omega (arith, within, length-drop (used + place) bytes)) in
     let end : length bytes - length (drop (used + place + count) bytes) ≡ used + place + length payload =
-    omega (arith, within, size, length-drop (used + place + count) bytes) in
+    omega (arith, within, length-drop (used + place + count) bytes) in
     let P : ℕ → Type 0 = λ e. Stands bytes e (take count (drop (used + place) bytes)) in
     subst (Stands bytes (used + place + length payload)) same (subst P end part)
 
@@ -67,7 +68,7 @@ next_frame m deep bytes used start old new first layout raw head few within coun
     let payload = raw.payload in
     let payload_is : payload ≡ take layout.payload_len (drop layout.payload_start (drop used bytes)) = ap (λ (r : Raw). r.payload) is in
     let kind : raw.kind ≡ layout.frame_type = ap (λ (r : Raw). r.kind) is in
-    let inside : used + (layout.payload_start + layout.payload_len) ≤ length bytes = omega (arith, left, within, found.inside.0, found.inside.1) in
+    let inside : used + (layout.payload_start + layout.payload_len) ≤ length bytes = omega (arith, within) in
     let stands : Stands bytes (start + length payload) payload =
     subst (λ s. Stands bytes (s + length payload) payload) (sym place)
     (frame_stands bytes payload used layout.payload_start layout.payload_len inside payload_is) in
@@ -75,17 +76,17 @@ next_frame m deep bytes used start old new first layout raw head few within coun
       arith,
       ap length payload_is,
       length-take-le layout.payload_len (drop layout.payload_start (drop used bytes))
-          (omega (arith, left, within, found.inside.0, found.inside.1, length-drop layout.payload_start (drop used bytes))),
+          (omega (arith, within, length-drop layout.payload_start (drop used bytes))),
     ) in
     let all = whole_found deep bytes (start + length payload) raw.kind payload raw.channel read.frame stands read.is in
     let put =
     put_all raw.kind bytes (start + length payload) payload deep read.frame old new first read.count all
-    (omega (arith, few, counted, inside, size)) read.counts in
+    (omega (arith, few)) read.counts in
     let begins : start ≡ used + payload_place raw.kind = place ∙ ap (λ k. used + k) (found.placed.0 ∙ ap payload_place (sym kind)) in
     let scan_is : scan (Some m) (drop used bytes) ≡ took raw layout.frame_len = found.found ∙ ap (λ (r : Raw). took r layout.frame_len) (sym is) in
     let bounds = scan-in_bounds (Some m) (drop used bytes) raw layout.frame_len scan_is in
     let own = payload_nodes raw.kind deep (start + length payload) payload in
-    let many : read.count - first ≡ length own = omega (arith, put.count_is) in
+    let many : read.count - first ≡ length own = omega arith in
     let own_few : length own ≤ length payload = subst (λ (ns : List Node). length ns ≤ length payload) (sym (ap nodes_of all.is)) all.few in
     let head_is : head ≡ head_of raw (outline_of read.frame) (used + payload_place raw.kind) first (length own) =
     read.head_is ∙ ap (λ s. head_of raw (outline_of read.frame) s first (read.count - first)) begins
@@ -102,8 +103,8 @@ next_frame m deep bytes used start old new first layout raw head few within coun
         nodes_are = ap (nodes_at raw deep) begins;
       };
       list_is = put.list_is;
-      few = omega (arith, own_few, size, found.inside.0);
-      within = omega (arith, left, within, found.inside.1);
+      few = omega arith;
+      within = omega (arith, within);
       some = bounds.least;
     }
 
@@ -177,14 +178,14 @@ module _ {m : ℕ} {deep : Bool} {bytes : List ℕ} {heads : List Head} {nodes n
 
   -- the sums fit their numbers
   pub next_few : total + head.nodes ≤ used + size
-  next_few = omega (arith, g.few, next.few, next_nodes)
+  next_few = omega (arith, next_nodes)
 
   -- a head and its nodes are added, where both lists have room
   pub going_on : count < length heads → total + head.nodes ≤ length new
       → Going m deep bytes (set heads count head) new (used + size) (count + 1) (total + head.nodes)
   going_on room fits =
       let front : take (total + length next.own) (pushed_all (listing nodes total) next.own).nodes ≡ take total nodes ++ next.own =
-      pushed_front nodes total next.own (omega (arith, fits, next_length, next_nodes)) in
+      pushed_front nodes total next.own (omega (arith, next_length, next_nodes)) in
       let own : take total nodes ++ next.own ≡ take (total + head.nodes) new =
       sym front
       ∙ ap (λ n. take n (pushed_all (listing nodes total) next.own).nodes) {x = total + length next.own} {y = total + head.nodes} (omega (arith, next_nodes))
@@ -192,16 +193,16 @@ module _ {m : ℕ} {deep : Bool} {bytes : List ℕ} {heads : List Head} {nodes n
       let before : length (take total nodes) ≡ total = length-take-le total nodes g.nodes_fit in
       let Q : ℕ → Type 0 = λ f. SaysFrame m deep bytes used f head next.own size in
       let says : SaysFrame m deep bytes used (0 + length (take total nodes)) head next.own size =
-      subst Q {x = total} {y = 0 + length (take total nodes)} (omega (arith, before)) next.says in
+      subst Q {x = total} {y = 0 + length (take total nodes)} (omega arith) next.says in
       let more = one_more m deep bytes 0 0 used size (take count heads) (take total nodes) next.own head g.frames says in
       let P : List Head → Type 0 = λ hs. SayFrames m deep bytes 0 0 hs (take total nodes ++ next.own) (used + size) in
       let R : List Node → Type 0 = λ ns. SayFrames m deep bytes 0 0 (take (count + 1) (set heads count head)) ns (used + size) in
       record {
-        heads_fit = omega (arith, room, length-set heads count head);
+        heads_fit = omega (arith, length-set heads count head);
         nodes_fit = fits;
         within = next.within;
         few = next_few;
-        few_heads = omega (arith, g.few_heads, next.some);
+        few_heads = omega arith;
         frames = subst R own (subst P (sym (take_more_set heads count head room)) more);
       }
 
@@ -212,7 +213,7 @@ module _ {m : ℕ} {deep : Bool} {bytes : List ℕ} {heads : List Head} {nodes n
       sym (pushed_keeps (listing nodes total) total next.own (omega arith)) ∙ ap (take total) (sym next.list_is) in
       record {
         heads_fit = g.heads_fit;
-        nodes_fit = omega (arith, g.nodes_fit, next_length);
+        nodes_fit = omega (arith, next_length);
         within = g.within;
         few = g.few;
         few_heads = g.few_heads;
@@ -233,7 +234,7 @@ module _ {m : ℕ} {deep : Bool} {bytes : List ℕ} {heads : List Head} {nodes n
         needed_is =
             is ∙ next_nodes ∙ ap length says.nodes_are
             ∙ ap (λ u. length (nodes_at says.raw deep (u + payload_place says.raw.kind))) (sym at);
-        few = omega (arith, is, next_nodes, next.few);
+        few = omega (arith, next_nodes);
         no_room = no_room;
       }
 
@@ -247,7 +248,7 @@ going_given m deep bytes heads nodes read g =
 
 -- where no bytes are left, all were read
 pub all_read : (bytes : List ℕ) (used : ℕ) → length bytes ≤ used → used ≤ length (in_reach bytes) → used ≡ length bytes
-all_read bytes used all within = omega (arith, all, within, length-take 4294967295 bytes)
+all_read bytes used all within = omega (arith, within, length-take 4294967295 bytes)
 
 -- ---- the front of the bytes
 

@@ -1,69 +1,26 @@
 -- What frames make, by the parts that are put.
-use Rattle.std.proofs.Common.{Bor, ◌≡◌, ℕ, ◌+◌, ◌<◌, ◌^◌, ◌==◌, ◌&&◌, ◌++◌, true, false, List, ◌∷◌, length, Option, Some, None, Result, Ok, Err, refl, sym, ap}
-use Rattle.std.proofs.Common.{subst, ◌∙◌, append_assoc, arith, nat_lt, if◌then◌else◌}
-use Rattle.std.specs.Prelude.{is_some, option_copied, option_map}
+use Rattle.std.proofs.Common.{◌≤◌, get_or, drop, Bor, ◌≡◌, ℕ, ◌+◌, ◌<◌, ◌^◌, ◌==◌, ◌&&◌, ◌++◌, true, false, List, ◌∷◌, length, Option, Some, Ok}
+use Rattle.std.proofs.Common.{sym, ap}
+use Rattle.std.proofs.Common.{◌∙◌, arith, if◌then◌else◌}
+use Rattle.std.specs.Prelude.{option_copied, option_map}
 use Rattle.std.proofs.lemmas.Bool.Decides.{nat_tests}
+use Rattle.std.proofs.lemmas.List.{drop_all, drop_more}
 use Rattle.amqp_types.specs.Numbers.{bytes2, number_bytes}
 use Rattle.amqp_types.specs.Constants.{protocol_byte, protocol_mark}
 use Rattle.amqp_types.specs.Slots as meant
-use Rattle.amqp_types.specs.Rows.{Row, slots_at}
-use Rattle.amqp_types.specs.declared.errors.ParserError.TheVariants as errors
-use Rattle.amqp_wire.specs.Spelling.{framed, head}
+use Rattle.amqp_types.specs.Rows.{slots_at}
 use Rattle.amqp_canonical.specs.declared.shapes.Slot.{Slot}
 use Rattle.amqp_canonical.specs.Shapes.{slots_of}
 use Rattle.amqp_fields.specs.declared.head.Head.{Head}
 use Rattle.amqp_fields.specs.declared.node.Node.{Node}
-use Rattle.amqp_fields.specs.declared.refusals.Refusal.{Refusal}
 use Rattle.amqp_fields.specs.declared.refusals.WriteRefusal.TheVariants as whys
 use Rattle.amqp_fields.specs.Listed.{version_slots}
-use Rattle.amqp_fields.specs.Made.{Made, after, misfit_head, refuse_head}
+use Rattle.amqp_fields.specs.Made.{after, misfit_head, refuse_head}
 use Rattle.amqp_fields.specs.MadeFields.{made_properties, made_slots}
-use Rattle.amqp_fields.specs.MadeFrames.{header_front, has_no_ids, made_around, made_header, made_known, made_method, made_own, made_payload, made_typed}
-use Rattle.amqp_fields.specs.MadeFrames.{made_version, nodes_in, unknown_in}
-use Rattle.amqp_fields.specs.Makes.{ArePut, Gives, Makes, Surrounds, cut_long}
-use Rattle.amqp_fields.proofs.Combined.{before_put, both_put, cut_small}
-
--- ---- ids
-
--- where the class is in the table, it is the method that is unknown
-pub class_known : (rows : Option (List Row)) → is_some rows ≡ true → unknown_in rows ≡ errors.UnknownMethod
-class_known None h = absurd (search (arith, h))
-class_known (Some rows) h = refl
-
--- where the class is not in the table, it is the class that is unknown
-pub class_unknown : (rows : Option (List Row)) → is_some rows ≡ false → unknown_in rows ≡ errors.UnknownClass
-class_unknown None h = refl
-class_unknown (Some rows) h = absurd (search (arith, h))
-
--- ---- around a payload
-
--- a payload that was made makes a frame with what is put around it, or is refused as too large
-pub surrounds : (type channel m n : ℕ) (head_of : Head) (new : List ℕ) {made : Made} {old mid : List ℕ} {place : ℕ} (at : ℕ) (result : Result ℕ Refusal)
-    → m < 2 ^ 32 → type ≡ head_of.frame_type → channel ≡ head_of.channel → Gives made old mid place n → place ≡ cut_long (at + 7)
-    → Surrounds type channel n m mid new at result → Makes (made_around m head_of made) old new at result
-surrounds type channel m n head_of new {made} {old} {mid} {place} at (Ok count) few t ch one there h =
-    let content = one.bytes in
-    let size : length content ≡ n = cut_small (length content) n (sym one.are_put.count_is) (omega (arith, few, h.within)) in
-    let short : nat_lt m (length content) ≡ false = grind (arith, nat_tests, size, h.within) in
-    let front : ArePut mid h.mid at (head type channel (length content)) 7 = subst (λ k. ArePut mid h.mid at (head type channel k) 7) (sym size) h.front in
-    let begun = before_put one.are_put there front refl refl in
-    let last : cut_long (cut_long (at + 7) + n) ≡ cut_long (at + cut_long (7 + n)) = grind (arith, nat_tests) in
-    let whole = both_put begun last h.ended refl in
-    let count_is : count ≡ cut_long (cut_long (7 + n) + 1) = h.count_is ∙ grind (arith, nat_tests, few, h.within) in
-    record {
-      bytes = framed type channel content;
-      is =
-          ap (made_around m head_of) one.is
-          ∙ ap (λ test. if test then refuse_head whys.TooLarge else Ok (framed head_of.frame_type head_of.channel content)) short
-          ∙ ap (λ t. Ok (framed t head_of.channel content)) (sym t) ∙ ap (λ c. Ok (framed type c content)) (sym ch);
-      are_put =
-          subst (λ k. ArePut old new at (framed type channel content) k) (sym count_is)
-          (subst (λ bs. ArePut old new at bs (cut_long (cut_long (7 + n) + 1))) (append_assoc (head type channel (length content)) content _) whole);
-    }
-surrounds type channel m n head_of new {made} at (Err bad) few t ch one there h =
-    let long : nat_lt m (length one.bytes) ≡ true = grind (arith, nat_tests, one.are_put.count_is, few, h.0) in
-    ap (made_around m head_of) one.is
-    ∙ ap (λ test. if test then refuse_head whys.TooLarge else Ok (framed head_of.frame_type head_of.channel one.bytes)) long ∙ ap Err (sym h.1)
+use Rattle.amqp_fields.specs.Makes.{cut_long, given_bytes}
+use Rattle.amqp_fields.specs.MadeFrames.{are_beyond, given_length, header_front, has_no_ids, made_around, made_header, made_known, made_method, made_own}
+use Rattle.amqp_fields.specs.MadeFrames.{made_payload, made_typed}
+use Rattle.amqp_fields.specs.MadeFrames.{made_version, nodes_in}
 
 -- ---- what heads are made of
 
@@ -123,10 +80,42 @@ pub known_slots : (class id : ℕ) (found : Option (Bor (List Slot))) (shapes : 
     → option_map slots_of (option_copied found) ≡ slots_at class id → found ≡ Some shapes → slots_at class id ≡ Some (slots_of shapes.now)
 known_slots class id found shapes is h = sym is ∙ ap (λ o. option_map slots_of (option_copied o)) h
 
--- a frame that is no protocol header is made around its payload
+-- a frame that is no protocol header, and has not too much content as bytes, is made around its payload
 pub frame_parts : (pool : List ℕ) (nodes : List Node) (m : ℕ) (head_of : Head) → (head_of.frame_type ≡ protocol_byte → ⊥)
-    → made_typed pool nodes m head_of ≡ made_around m head_of (made_payload pool nodes head_of)
+    → are_beyond m nodes head_of ≡ false → made_typed pool nodes m head_of ≡ made_around m head_of (made_payload pool nodes head_of)
 unfolding made_typed
-frame_parts pool nodes m head_of differs =
+frame_parts pool nodes m head_of differs few =
     let other : (head_of.frame_type == protocol_byte) ≡ false = grind (arith, nat_tests, differs) in
-    ap (λ test. if test then made_version pool nodes head_of else made_around m head_of (made_payload pool nodes head_of)) other
+    let around = made_around m head_of (made_payload pool nodes head_of) in
+    ap (λ test. if test then made_version pool nodes head_of else (if are_beyond m nodes head_of then refuse_head whys.TooLarge else around)) other
+    ∙ ap (λ test. if test then refuse_head whys.TooLarge else around) few
+
+-- ---- contents that are given as bytes
+
+-- one node more is added up
+pub given_next : (nodes : List Node) (k : ℕ) (other : Node) (count bytes more : ℕ) → k < length nodes
+    → cut_long (given_length nodes) ≡ cut_long (count + given_length (drop k nodes)) → bytes ≡ given_bytes (get_or nodes k other)
+    → more ≡ cut_long (count + bytes) → (more < 2 ^ 64) × (cut_long (given_length nodes) ≡ cut_long (more + given_length (drop (k + 1) nodes)))
+unfolding given_length
+given_next nodes k other count bytes more few so_far is adds =
+    let next : given_length (drop k nodes) ≡ given_bytes (get_or nodes k other) + given_length (drop (k + 1) nodes) =
+    ap given_length (drop_more nodes k other few) in
+    let cut : more < 2 ^ 64 = grind (arith, nat_tests, adds) in (
+      cut,
+      so_far ∙ ap (λ n. cut_long (count + n)) next
+          ∙ cut_adds count bytes more (given_length (drop (k + 1) nodes)) (given_bytes (get_or nodes k other)) is adds,
+    )
+  where
+    cut_adds : (count bytes more rest here : ℕ) → bytes ≡ here → more ≡ cut_long (count + bytes) → cut_long (count + (here + rest)) ≡ cut_long (more + rest)
+    cut_adds count bytes more rest here is adds = grind (arith, nat_tests)
+
+-- where none is left, all of them were added up
+pub given_none : (nodes : List Node) (k count : ℕ) → length nodes ≤ k → cut_long (given_length nodes) ≡ cut_long (count + given_length (drop k nodes))
+    → count < 2 ^ 64 → count ≡ cut_long (given_length nodes)
+unfolding given_length
+given_none nodes k count gone so_far fits =
+    let none : given_length (drop k nodes) ≡ 0 = ap given_length (drop_all k nodes gone) in
+    cut_whole count (given_length (drop k nodes)) none fits ∙ sym so_far
+  where
+    cut_whole : (count rest : ℕ) → rest ≡ 0 → count < 2 ^ 64 → count ≡ cut_long (count + rest)
+    cut_whole count rest none fits = grind (arith, nat_tests)

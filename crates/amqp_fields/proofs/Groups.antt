@@ -1,87 +1,116 @@
 -- What fills some bytes has a group of nodes for each thing.
-use Rattle.std.proofs.Common.{◌≡◌, ℕ, zero, suc, ◌+◌, ◌-◌, ◌≤◌, List, [], ◌∷◌, length, Result, Ok, Err, refl, sym, ap, subst, ◌∙◌, arith}
-use Rattle.std.proofs.lemmas.List.{length-append}
-use Rattle.amqp_types.specs.Judging.{Judged, Judge, Fault, took, past, fault}
-use Rattle.amqp_types.specs.ValueJudging.{filled, next_item, read_map}
+use Rattle.std.proofs.Common.{◌≡◌, ℕ, zero, suc, ◌+◌, ◌-◌, ◌≤◌, List, [], ◌∷◌, ◌++◌, length, drop, refl, ap, subst, arith}
+use Rattle.std.proofs.lemmas.List.{length-append, length-drop}
+use Rattle.amqp_types.specs.Judging.{Judge, Judged}
+use Rattle.amqp_types.specs.ValueJudging.{filled}
 use Rattle.amqp_fields.specs.declared.node.Node.{Node}
 use Rattle.amqp_fields.specs.Listed.{joined}
 use Rattle.amqp_fields.specs.Meaning.{AreNodes}
-use Rattle.amqp_fields.proofs.Spans.{Stands, stands_drop}
+use Rattle.amqp_fields.specs.Spans.{LieIn}
+use Rattle.amqp_fields.proofs.Agreeing.{Agree, AgreeAll, agree_next, agree_ok}
+use Rattle.amqp_fields.proofs.Lying.{append_lie, none_lie}
+use Rattle.amqp_fields.proofs.Spans.{IsPart, Stands, itself, part_stands, stands_drop}
 
--- what was listed is a node and those inside it, which mean what was read; and both are of as many bytes
-pub record IsFound (Means : Node → List Node → Type 0) (listed : Judged (List Node)) (size used : ℕ) : Type 0 where
+-- where bytes stand in a payload: they end at one place, and none of them is before another
+pub record IsAt (payload : List ℕ) (from to : ℕ) (bytes : List ℕ) : Type 0 where
+  pub stands : Stands payload to bytes
+  pub room : from + length bytes ≤ to
+
+-- a payload stands in itself
+pub at_front : (payload : List ℕ) → IsAt payload 0 (length payload) payload
+at_front payload = record { stands = itself payload; room = omega arith }
+
+-- the bytes after so many
+pub at_drop : {payload : List ℕ} {from to : ℕ} (bytes : List ℕ) (k : ℕ) → IsAt payload from to bytes → k ≤ length bytes
+    → IsAt payload from to (drop k bytes)
+at_drop {payload = payload} {to = to} bytes k h few =
+    record { stands = stands_drop payload bytes to k h.stands few; room = omega (arith, length-drop k bytes) }
+
+-- the content behind a length
+pub at_part : {payload : List ℕ} {from to : ℕ} (bytes content : List ℕ) (front used : ℕ) → IsAt payload from to bytes → IsPart bytes content front used
+    → IsAt payload (to - length (drop used bytes) - length content) (to - length (drop used bytes)) content
+at_part {payload = payload} {to = to} bytes content front used h part =
+    let stands = part_stands payload bytes content to front used h.stands part in
+    record { stands = stands; room = omega (arith, stands.fits) }
+
+-- A node and those inside it, which mean something. They are at most so many, and lie between two places.
+pub record IsGroupOf (Means : Node → List Node → Type 0) (from to most : ℕ) (nodes : List Node) : Type 0 where
   pub node : Node
   pub inside : List Node
-  pub is : listed ≡ took (node ∷ inside) used
+  pub nodes_are : nodes ≡ node ∷ inside
   pub inside_is : node.inside ≡ length inside
   pub means : Means node inside
-  pub few : 1 + length inside ≤ used
-  pub bound : used ≤ size
+  pub few : length nodes ≤ most
+  pub lie : LieIn from to nodes
 
--- the same of things that fill some bytes
-pub record AreFound {A : Type 0} (Means : Node → List Node → A → Type 0) (listed : Result (List (List Node)) Fault) (size : ℕ) (xs : List A) : Type 0 where
-  pub groups : List (List Node)
-  pub is : listed ≡ Ok groups
+-- what is decoded is listed as a group of nodes that mean it
+abbrev pub Finds : {A : Type 0} → (Node → List Node → A → Type 0) → ℕ → ℕ → ℕ → Judged A → Judged (List Node) → Type 0
+Finds Means from to size j k = Agree (λ x nodes n. IsGroupOf (λ node inside. Means node inside x) from to n nodes) size j k
+
+-- what they mean means more
+pub regroup : {Means More : Node → List Node → Type 0} {from to few most : ℕ} {nodes : List Node} → IsGroupOf Means from to few nodes → few ≤ most
+    → ((node : Node) (inside : List Node) → Means node inside → More node inside) → IsGroupOf More from to most nodes
+regroup group less more = record {
+  node = group.node;
+  inside = group.inside;
+  nodes_are = group.nodes_are;
+  inside_is = group.inside_is;
+  means = more group.node group.inside group.means;
+  few = omega arith;
+  lie = group.lie;
+}
+
+-- a group for each thing
+pub record AreFound {A : Type 0} (Means : Node → List Node → A → Type 0) (from to size : ℕ) (xs : List A) (groups : List (List Node)) : Type 0 where
   pub number : length groups ≡ length xs
-  pub some : length groups ≤ length (joined groups)
   pub few : length (joined groups) ≤ size
   pub means : AreNodes Means xs (joined groups)
+  pub lie : LieIn from to (joined groups)
 
-module _ {A : Type 0} (judge : Judge A) (listed : Judge (List Node)) (Means : Node → List Node → A → Type 0) (payload : List ℕ) (end : ℕ)
-    (each : (bytes : List ℕ) (x : A) (n : ℕ) → Stands payload end bytes → judge bytes ≡ took x n
-    → IsFound (λ node inside. Means node inside x) (listed bytes) (length bytes) n)
+module _ {A : Type 0} (judge : Judge A) (listed : Judge (List Node)) (Means : Node → List Node → A → Type 0) (payload : List ℕ) (from to : ℕ)
+    (each : (bytes : List ℕ) → IsAt payload from to bytes → Finds Means from to (length bytes) (judge bytes) (listed bytes))
   where
     -- one more in front
-    one_more : (byte : ℕ) (bytes : List ℕ) (x : A) (n : ℕ) (xs : List A)
-        → IsFound (λ node inside. Means node inside x) (listed (byte ∷ bytes)) (length (byte ∷ bytes)) n
-        → AreFound Means (filled listed (n - 1) bytes) (length bytes - (n - 1)) xs
-        → AreFound Means (next_item (listed (byte ∷ bytes)) (λ k. filled listed (k - 1) bytes)) (length (byte ∷ bytes)) (x ∷ xs)
-    one_more byte bytes x n xs one others = record {
-      groups = (one.node ∷ one.inside) ∷ others.groups;
-      is = ap (λ j. next_item j (λ k. filled listed (k - 1) bytes)) one.is ∙ ap (read_map (λ gs. (one.node ∷ one.inside) ∷ gs)) others.is;
-      number = ap suc others.number;
-      some = omega (arith, others.some, length-append one.inside (joined others.groups));
-      few = omega (arith, others.few, length-append one.inside (joined others.groups), one.few, one.bound);
-      means = record {
-        node = one.node;
-        inside = one.inside;
-        others = joined others.groups;
-        nodes_are = refl;
-        inside_is = one.inside_is;
-        means = one.means;
-        rest = others.means;
-      };
-    }
-
-    next_found : {B : Type 0} (x : B) (r : Result (List B) Fault) (ys : List B)
-        → read_map (λ xs. x ∷ xs) r ≡ Ok ys → (xs : List B) × (r ≡ Ok xs) × (ys ≡ x ∷ xs)
-    next_found x (Ok xs) ys h = (xs, refl, cc)
-    next_found x (Err bad) ys h = absurd cc
-
-    -- what comes first, where the others are found
-    by_item : (byte : ℕ) (bytes : List ℕ) (xs : List A) → Stands payload end (byte ∷ bytes)
-        → ((k : ℕ) (ys : List A) → filled judge k bytes ≡ Ok ys → AreFound Means (filled listed k bytes) (length bytes - k) ys)
-        → (j : Judged A) → judge (byte ∷ bytes) ≡ j → next_item j (λ k. filled judge (k - 1) bytes) ≡ Ok xs
-        → AreFound Means (next_item (listed (byte ∷ bytes)) (λ k. filled listed (k - 1) bytes)) (length (byte ∷ bytes)) xs
-    by_item byte bytes xs stands rest past is h = absurd cc
-    by_item byte bytes xs stands rest (fault bad) is h = absurd cc
-    by_item byte bytes xs stands rest (took x n) is h =
-        let next = next_found x (filled judge (n - 1) bytes) xs h in
-        let one = each (byte ∷ bytes) x n stands is in
-        subst (AreFound Means (next_item (listed (byte ∷ bytes)) (λ k. filled listed (k - 1) bytes)) (length (byte ∷ bytes)))
-        (sym next.2) (one_more byte bytes x n next.0 one (rest (n - 1) next.0 next.1))
+    one_more : (x : A) (xs : List A) (nodes : List Node) (groups : List (List Node)) (n size : ℕ) → n ≤ suc size
+        → IsGroupOf (λ node inside. Means node inside x) from to n nodes → AreFound Means from to (size - (n - 1)) xs groups
+        → AreFound Means from to (suc size) (x ∷ xs) (nodes ∷ groups)
+    one_more x xs nodes groups n size fits one others =
+        let some = ap length one.nodes_are in
+        record {
+          number = ap suc others.number;
+          few = omega (arith, length-append nodes (joined groups));
+          means = record {
+            node = one.node;
+            inside = one.inside;
+            others = joined groups;
+            nodes_are = ap (λ (ns : List Node). ns ++ joined groups) one.nodes_are;
+            inside_is = one.inside_is;
+            means = one.means;
+            rest = others.means;
+          };
+          lie = append_lie nodes (joined groups) one.lie others.lie;
+        }
 
     -- the nodes of things that fill some bytes are listed, a group for each
-    pub filled_found : (k : ℕ) (bytes : List ℕ) (xs : List A) → Stands payload end bytes
-        → filled judge k bytes ≡ Ok xs → AreFound Means (filled listed k bytes) (length bytes - k) xs
+    pub filled_found : (k : ℕ) (bytes : List ℕ) → IsAt payload from to bytes
+        → AgreeAll (AreFound Means from to (length bytes - k)) (filled judge k bytes) (filled listed k bytes)
     unfolding filled
-    filled_found k [] [] stands h = record { groups = []; is = refl; number = refl; some = omega arith; few = omega arith; means = refl }
-    filled_found k [] (x ∷ xs) stands h = absurd cc
-    filled_found (suc k) (byte ∷ bytes) xs stands h =
-        let found = filled_found k bytes xs (stands_drop payload (byte ∷ bytes) end 1 stands (omega arith)) h in
-        record { groups = found.groups; is = found.is; number = found.number; some = found.some; few = omega (arith, found.few); means = found.means }
-    filled_found zero (byte ∷ bytes) xs stands h =
-        subst (λ size. AreFound Means (next_item (listed (byte ∷ bytes)) (λ k. filled listed (k - 1) bytes)) size xs)
-        {x = length (byte ∷ bytes)} {y = length (byte ∷ bytes) - 0} (omega arith)
-        (by_item byte bytes xs stands (λ k ys e. filled_found k bytes ys (stands_drop payload (byte ∷ bytes) end 1 stands (omega arith)) e)
-        (judge (byte ∷ bytes)) refl h)
+    filled_found k [] at = agree_ok [] [] (record { number = refl; few = omega arith; means = refl; lie = none_lie })
+    filled_found (suc k) (byte ∷ bytes) at =
+        subst (λ size. AgreeAll (AreFound Means from to size) (filled judge k bytes) (filled listed k bytes))
+        {x = length bytes - k} {y = suc (length bytes) - suc k}
+        (omega arith) (filled_found k bytes (at_drop (byte ∷ bytes) 1 at (omega arith)))
+    filled_found zero (byte ∷ bytes) at =
+        subst
+        (λ size.
+        AgreeAll (AreFound Means from to size) (filled judge zero (byte ∷ bytes)) (filled listed zero (byte ∷ bytes)))
+        {x = suc (length bytes)} {y = suc (length bytes) - 0} (omega arith)
+        (agree_next (judge (byte ∷ bytes)) (listed (byte ∷ bytes)) (λ n. filled judge (n - 1) bytes) (λ n. filled listed (n - 1) bytes) (each (byte ∷ bytes) at)
+        (λ n few.
+        let rest = filled_found (n - 1) bytes (at_drop (byte ∷ bytes) 1 at (omega arith)) in
+        record {
+          there = λ xs e.
+              let one = rest.there xs e in
+              (one.0, one.1, λ x nodes group. one_more x xs nodes one.0 n (length bytes) few group one.2);
+          back = rest.back;
+        }))

@@ -1,20 +1,14 @@
 -- What writing leaves, and loops over heads.
-use Rattle.std.proofs.Common.{◌≡◌, ℕ, ◌+◌, ◌-◌, ◌<◌, ◌≤◌, ◌^◌, List, [], ◌∷◌, length, true, false, None, Result, Ok, Err, if◌then◌else◌}
-use Rattle.std.proofs.Common.{refl, sym, ap, subst, ◌∙◌, arith}
-use Rattle.std.proofs.lemmas.Bool.Decides.{nat_tests}
-use Rattle.amqp_types.specs.Strings.{is_too_long}
+use Rattle.std.proofs.Common.{◌≡◌, ℕ, ◌+◌, List, [], ◌∷◌, length, Result, Ok, Err}
+use Rattle.std.proofs.Common.{refl, ap, arith}
 use Rattle.amqp_fields.specs.declared.head.Head.{Head}
 use Rattle.amqp_fields.specs.declared.node.Node.{Node}
-use Rattle.amqp_fields.specs.declared.refusals.Refusal.{Refusal}
 use Rattle.amqp_fields.specs.declared.refusals.WriteError.{WriteError}
 use Rattle.amqp_fields.specs.declared.refusals.WriteError.TheVariants as failures
-use Rattle.amqp_fields.specs.declared.refusals.WriteRefusal.TheVariants as whys
-use Rattle.amqp_fields.specs.Made.{Made, after, refuse_head}
+use Rattle.amqp_fields.specs.Made.{Made, after}
 use Rattle.amqp_fields.specs.MadeFrames.{at_head, made_frame, made_frames}
-use Rattle.amqp_fields.specs.Makes.{Gives, cut_long}
-use Rattle.amqp_fields.specs.Making.{Writes, made_whole}
-use Rattle.amqp_fields.proofs.Combined.{cut_most, cut_small}
-use Rattle.amqp_fields.proofs.EachMade.{Onward, begins, ends, steps, stops}
+use Rattle.amqp_fields.specs.Makes.{IsCounted}
+use Rattle.amqp_fields.specs.Making.{Writes}
 
 -- ---- heads
 
@@ -47,55 +41,9 @@ module _ (pool : List ℕ) (nodes : List Node) (m : ℕ) where
       small_after (at_head k (made_frame pool nodes m head)) (made_frames pool nodes m (k + 1) heads) n
       (never_at k (made_frame pool nodes m head) n) (never_small (k + 1) heads n) h
 
-  -- where the heads before and those left are known
-  pub record HeadsLeft (heads rest : List Head) (old new : List ℕ) (made : ℕ) : Type 0 where
-    pub few : length rest ≤ length heads
-    pub onward : Onward (made_frames pool nodes m 0 heads) (made_frames pool nodes m (length heads - length rest) rest) old new 0 made
-
-  -- before the first head nothing is made
-  pub heads_begin : (heads : List Head) (old : List ℕ) → HeadsLeft heads heads old old 0
-  heads_begin heads old =
-      let none : length heads - length heads ≡ 0 = omega arith in
-      record {
-        few = omega arith;
-        onward =
-            subst (λ k. Onward (made_frames pool nodes m 0 heads) (made_frames pool nodes m k heads) old old 0 0)
-            (sym none) (begins (made_frames pool nodes m 0 heads) old 0);
-      }
-
-  -- the frame of the next head is made after those before it
-  pub head_made : {heads rest others : List Head} {head : Head} {old mid new : List ℕ} {made n total : ℕ}
-      → HeadsLeft heads rest old mid made → rest ≡ head ∷ others
-      → Gives (made_frame pool nodes m head) mid new made n → total ≡ cut_long (made + n) → HeadsLeft heads others old new total
-  head_made {heads} {rest} {others} {head} {old} {mid} {new} {made} {n} {total} h is given sum =
-      let fits : made < 2 ^ 64 = subst (λ k. k < 2 ^ 64) (sym h.onward.are_put.count_is) (cut_most (length h.onward.done)) in
-      let k = length heads - length rest in
-      let size : length rest ≡ length others + 1 = ap length is ∙ omega arith in
-      let next : k + 1 ≡ length heads - length others = omega (arith, h.few, size) in
-      let one : Gives (at_head k (made_frame pool nodes m head)) mid new made n =
-      record { bytes = given.bytes; is = ap (at_head k) given.is; are_put = given.are_put } in
-      let there : made ≡ cut_long (0 + made) = grind (arith, nat_tests, fits) in
-      record {
-        few = omega (arith, h.few, size);
-        onward =
-            steps h.onward
-            (first_made k rest others head is ∙ ap (λ j. after (at_head k (made_frame pool nodes m head)) (made_frames pool nodes m j others)) next)
-            there one sum;
-      }
-
-  -- a refusal of a head is the first of all
-  pub head_refused : {heads rest others : List Head} {head : Head} {old mid : List ℕ} {made : ℕ} (bad : Refusal) (error : WriteError) (k : ℕ)
-      → HeadsLeft heads rest old mid made → rest ≡ head ∷ others → k ≡ length heads - length rest
-      → made_frame pool nodes m head ≡ Err bad → error ≡ failures.Refused k bad.node bad.why → made_frames pool nodes m 0 heads ≡ Err error
-  head_refused {heads} {rest} {others} {head} bad error k h is at refuses e =
-      stops error h.onward (first_made (length heads - length rest) rest others head is
-      ∙ ap (λ made. after (at_head (length heads - length rest) made) (made_frames pool nodes m (length heads - length rest + 1) others)) refuses
-      ∙ ap (λ j. Err (failures.Refused j bad.node bad.why)) (sym at) ∙ ap Err (sym e))
-
-  -- where no heads are left, all frames were made
-  pub heads_made : {heads rest : List Head} {old new : List ℕ} {made : ℕ} → HeadsLeft heads rest old new made
-      → length rest ≡ 0 → Gives (made_frames pool nodes m 0 heads) old new 0 made
-  heads_made {heads} {rest} h none = ends h.onward (no_heads (length heads - length rest) rest none)
+-- what a head is made of
+pub at_counted : {made : Made} {n : ℕ} (k : ℕ) → IsCounted made n → IsCounted (at_head k made) n
+at_counted k h = record { bytes = h.bytes; is = ap (at_head k) h.is; count_is = h.count_is }
 
 -- ---- what is returned
 
@@ -104,31 +52,3 @@ pub refused : (made : Result (List ℕ) WriteError) (old : List ℕ) (error : Wr
     → ((n : ℕ) → made ≡ Err (failures.TooSmall n) → ⊥) → made ≡ Err error → Writes made old old (Err error)
 refused made old (failures.Refused head place why) never h = (h, refl)
 refused made old (failures.TooSmall n) never h = absurd (never n h)
-
--- ---- contents that stand alone
-
-four : {made : Made} {old new : List ℕ} {at n : ℕ} (one : Gives made old new at n) → n < 2 ^ 32 → length one.bytes ≡ n
-four {made} {old} {new} {at} {n} one few = cut_small (length one.bytes) n (sym one.are_put.count_is) (omega (arith, few))
-
--- a content is made, where a length of four bytes counts its bytes
-pub whole_made : {made : Made} {old new : List ℕ} {at n : ℕ} → Gives made old new at n → n < 2 ^ 32 → Gives (at_head 0 (made_whole made)) old new at n
-whole_made {made} {old} {new} {at} {n} one few =
-    let short : is_too_long one.bytes ≡ false = grind (arith, nat_tests, four one few, few) in
-    record {
-      bytes = one.bytes;
-      is =
-          ap (λ m. at_head 0 (made_whole m)) one.is
-          ∙ ap (λ test. at_head 0 (if test then refuse_head whys.TooLong else Ok one.bytes)) short;
-      are_put = one.are_put;
-    }
-
--- else it is refused
-pub whole_long : {made : Made} {old new : List ℕ} {at n : ℕ} → Gives made old new at n → 2 ^ 32 ≤ n
-    → at_head 0 (made_whole made) ≡ Err (failures.Refused 0 None whys.TooLong)
-whole_long {made} {old} {new} {at} {n} one long =
-    let more : is_too_long one.bytes ≡ true = grind (arith, nat_tests, one.are_put.count_is, long) in
-    ap (λ m. at_head 0 (made_whole m)) one.is ∙ ap (λ test. at_head 0 (if test then refuse_head whys.TooLong else Ok one.bytes)) more
-
--- a refusal of a node is that of the content
-pub whole_refused : (made : Made) (bad : Refusal) → made ≡ Err bad → at_head 0 (made_whole made) ≡ Err (failures.Refused 0 bad.node bad.why)
-whole_refused made bad is = ap (λ m. at_head 0 (made_whole m)) is

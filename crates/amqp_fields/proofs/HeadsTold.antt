@@ -1,9 +1,9 @@
--- The heads that reading gives mean the frames that were read, where their spans are taken out of what was read.
+-- The heads that reading gives mean the frames that were read, and what is made of heads encodes the frames that they mean.
 use Rattle.std.proofs.Common.{◌≡◌, ℕ, suc, ◌+◌, ◌<◌, ◌≤◌, ◌^◌, Bool, true, List, [], ◌∷◌, ◌++◌, length, take, drop, append_assoc, append-nil, Option, Some}
-use Rattle.std.proofs.Common.{refl, sym, ap, subst, ◌∙◌, arith}
+use Rattle.std.proofs.Common.{refl, sym, ap, subst, ◌∙◌, arith, Result, Ok}
 use Rattle.std.proofs.lemmas.Bool.Decides.{nat_tests}
 use Rattle.std.proofs.lemmas.List.{drop-drop, drop_at, length-append, take_at}
-use Rattle.amqp_types.specs.Levels.{plain}
+use Rattle.amqp_types.specs.Levels.{plain, Level, strict}
 use Rattle.amqp_types.specs.Judging.{IsBytes, took}
 use Rattle.amqp_types.specs.Properties.{Property, properties}
 use Rattle.amqp_types.specs.PropertySpelling.{SpellsSet}
@@ -16,7 +16,7 @@ use Rattle.amqp_wire.specs.Fronts.{front, place}
 use Rattle.amqp_wire.specs.Looks.{payload_place}
 use Rattle.amqp_wire.specs.HeaderScan.{behind_type, judge_version, scan}
 use Rattle.amqp_wire.specs.Outlines.{outline_of}
-use Rattle.amqp_wire.specs.Spelling.{IsWithin, Spells, proto}
+use Rattle.amqp_wire.specs.Spelling.{IsWithin, Spells, proto, SpellsFrames}
 use Rattle.amqp_wire.proofs.Cuts.{front-got}
 use Rattle.amqp_wire.proofs.Encoded.{verdict-spells}
 use Rattle.amqp_wire.proofs.HeaderScan.{scan-exact}
@@ -25,12 +25,20 @@ use Rattle.amqp_wire.proofs.Spelled.{scan-beat, scan-body, scan-header, scan-met
 use Rattle.amqp_fields.specs.declared.head.Head as given
 use Rattle.amqp_fields.specs.declared.node.Node.{Node}
 use Rattle.amqp_fields.specs.Heads.{SayFrames, SaysFrame, head_of}
-use Rattle.amqp_fields.specs.MadeFrames.{is_held}
+use Rattle.amqp_fields.specs.MadeFrames.{is_held, made_frames}
 use Rattle.amqp_fields.specs.Meaning.{AreNodes, AreNodesOf, IsSpan, MeansField, fields_of, kinds_in, kinds_of}
 use Rattle.amqp_fields.specs.Meant.{IsMethod, TellFrames, TellsField, TellsFields, TellsFrame}
 use Rattle.amqp_fields.proofs.Answering.{listed_mean}
 use Rattle.amqp_fields.proofs.FramesGiven.{verdict_whole}
-use Rattle.amqp_fields.proofs.ReadMeant.{form_suits, read_meant}
+use Rattle.amqp_fields.proofs.SameNodes.{form_suits, read_meant}
+use Rattle.amqp_wire.specs.Canonical.{canon_frames}
+use Rattle.amqp_wire.proofs.Sequences.{one_sequence, sequence_front, sequence_place}
+use Rattle.amqp_wire.proofs.Strictness.{one_strict}
+use Rattle.amqp_fields.specs.declared.refusals.WriteError.{WriteError}
+use Rattle.amqp_fields.specs.Making.{RefusesFirst, Suits}
+use Rattle.amqp_fields.specs.WritingLaws.{CanonicalWhereKeysAscend, HeadsMeanOne, ReadIsWrittenAgain}
+use Rattle.amqp_fields.proofs.Ordered.{InOrder, plain_order}
+use Rattle.amqp_fields.proofs.MeantFramesMade.{frames_fit}
 
 -- ---- how many fields there are
 
@@ -39,7 +47,7 @@ slots_number [] bytes given h = ap length h.1
 slots_number (kept_slot form ∷ slots) bytes given h =
     let first = (form_suits form 0 h.front h.one h.first_is).1 in
     let rest = slots_number slots h.behind h.two h.second_is in
-    omega (arith, ap length h.joined, length-append h.one h.two, first, rest, length-append (kinds_of form) (kinds_in slots))
+    omega (arith, ap length h.joined, length-append h.one h.two, length-append (kinds_of form) (kinds_in slots))
 slots_number (reserved_slot form constant ∷ slots) bytes given h =
     let none : given ≡ h.two = h.joined ∙ ap (λ xs. xs ++ h.two) h.first_is.none in
     ap length none ∙ slots_number slots h.behind h.two h.second_is
@@ -61,7 +69,7 @@ unfolding scan behind_type judge_version
 scan_version m major minor revision = refl
 
 held_by : (head : given.Head) → head.channel < 2 ^ 16 → head.class_id < 2 ^ 16 → head.method_id < 2 ^ 16 → head.body_size < 2 ^ 64 → is_held head ≡ true
-held_by head channel class id size = grind (arith, nat_tests, channel, class, id, size)
+held_by head channel class id size = grind (arith, nat_tests)
 
 module _ (pool : List ℕ) (nodes : List Node) (start first count : ℕ) where
   abbrev HeadOf : Raw → Frame → given.Head
@@ -77,7 +85,7 @@ module _ (pool : List ℕ) (nodes : List Node) (start first count : ℕ) where
       let is : raw ≡ raw_as kinds.ProtocolHeader 0 (major ∷ minor ∷ revision ∷ []) =
       took_same raw _ n 8 (sym found ∙ ap (scan (Some m)) s ∙ scan_version (Some m) major minor revision) in
       let head = HeadOf (raw_as kinds.ProtocolHeader 0 (major ∷ minor ∷ revision ∷ [])) frame in
-      subst (λ r. TellsFrame pool nodes (HeadOf r frame) frame) (sym is)
+      rw is
       (held_by head (omega arith) (omega arith) (omega arith) (omega arith), (refl, refl, (refl, refl, refl), fields))
   typed_told m bytes raw n (Meth channel meth) s within found span few fields =
       let frame = Meth channel meth in
@@ -87,7 +95,7 @@ module _ (pool : List ℕ) (nodes : List Node) (start first count : ℕ) where
       let payload = s.spelled in
       let method : IsMethod meth =
       record { slots = payload.slots; known = payload.known; number = slots_number payload.slots payload.slot_bytes meth.items payload.slots_are } in
-      subst (λ r. TellsFrame pool nodes (HeadOf r frame) frame) (sym is)
+      rw is
       (held_by head s.is_framed.channel_fits payload.class_is.fits payload.id_is.fits (omega arith), (refl, refl, refl, refl, refl, method, fields))
   typed_told m bytes raw n (Head channel header) s within found span few fields =
       let frame = Head channel header in
@@ -100,27 +108,27 @@ module _ (pool : List ℕ) (nodes : List Node) (start first count : ℕ) where
       let number : length header.options ≡ length properties =
       ap (λ x. length x.options) parts.header_is
       ∙ set_number s.spelled.second_is.mask properties s.spelled.second_is.behind s.spelled.two s.spelled.second_is.set in
-      subst (λ r. TellsFrame pool nodes (HeadOf r frame) frame) (sym is)
+      rw is
       (held_by head s.is_framed.channel_fits class (omega arith) size, (refl, refl, refl, refl, refl, number, fields))
   typed_told m bytes raw n (Body channel content) s within found span few fields =
       let frame = Body channel content in
       let is : raw ≡ raw_as kinds.Body channel content = took_same raw _ n (length bytes) (sym found ∙ scan-body (Some m) bytes channel content s within) in
       let head = HeadOf (raw_as kinds.Body channel content) frame in
       let stands : IsSpan pool start (length content) content = subst (λ (r : Raw). IsSpan pool start (length r.payload) r.payload) is span in
-      subst (λ r. TellsFrame pool nodes (HeadOf r frame) frame) (sym is)
+      rw is
       (held_by head s.channel_fits (omega arith) (omega arith) (omega arith), (refl, refl, (refl, refl, refl), few refl, stands))
   typed_told m bytes raw n Beat s within found span few fields =
       let is : raw ≡ raw_as kinds.Heartbeat 0 s.payload =
       took_same raw _ n (length bytes) (sym found ∙ scan-beat (Some m) bytes 0 s.payload s.is_framed within) in
       let head = HeadOf (raw_as kinds.Heartbeat 0 s.payload) Beat in
-      subst (λ r. TellsFrame pool nodes (HeadOf r Beat) Beat) (sym is)
+      rw is
       (held_by head (omega arith) (omega arith) (omega arith) (omega arith), (refl, refl, (refl, refl, refl), few refl))
   typed_told m bytes raw n (BadBeat channel) s within found span few fields =
       let frame = BadBeat channel in
       let is : raw ≡ raw_as kinds.Heartbeat channel s.1.payload =
       took_same raw _ n (length bytes) (sym found ∙ scan-beat (Some m) bytes channel s.1.payload s.1.is_framed within) in
       let head = HeadOf (raw_as kinds.Heartbeat channel s.1.payload) frame in
-      subst (λ r. TellsFrame pool nodes (HeadOf r frame) frame) (sym is)
+      rw is
       (held_by head s.1.is_framed.channel_fits (omega arith) (omega arith) (omega arith), (refl, refl, s.0, (refl, refl, refl), few refl))
 
 -- ---- frames one after another
@@ -164,8 +172,8 @@ module _ (m : ℕ) (deep : Bool) (bytes : List ℕ) (fits : IsBytes bytes) where
     nodes_are = own_mean at first size head own says;
   }
 
-  -- a frame whose nodes stand among others
-  frame_told : (at first size : ℕ) (head : given.Head) (nodes before own more : List Node) → nodes ≡ before ++ (own ++ more)
+  -- a head and its nodes, which stand among others, mean the frame that they say
+  pub frame_told : (at first size : ℕ) (head : given.Head) (nodes before own more : List Node) → nodes ≡ before ++ (own ++ more)
       → length before ≡ first → (says : SaysFrame m deep bytes at first head own size) → TellsFrame bytes nodes head says.frame
   frame_told at first size head nodes before own more parts place says =
       let frame = says.frame in
@@ -225,3 +233,35 @@ module _ (m : ℕ) (deep : Bool) (bytes : List ℕ) (fits : IsBytes bytes) where
         told = (frame_told at first says.size head nodes before says.own (says.others ++ more) each there one, rest.told);
         nodes_are = (says.own, says.others, says.nodes_are, frame_nodes at first says.size head says.own one, rest.nodes_are);
       }
+
+-- what is made of heads encodes the frames that they mean
+pub made_encodes : (level : Level) (pool : List ℕ) (nodes : List Node) (heads : List given.Head) (m : ℕ) (bytes : List ℕ) (frames : List Frame) → IsBytes pool
+    → InOrder level pool nodes → m < 2 ^ 32 → made_frames pool nodes m 0 heads ≡ Ok bytes → TellFrames pool nodes heads frames
+    → SpellsFrames level (Some m) bytes frames
+made_encodes level pool nodes heads m bytes frames fits order few is told =
+    subst (λ (made : Result (List ℕ) WriteError). Suits (RefusesFirst level pool nodes m 0 heads frames) made (λ bs. SpellsFrames level (Some m) bs frames)) is
+    (frames_fit level pool fits nodes m order few 0 heads frames told)
+
+-- heads and nodes that are written mean one sequence of frames
+pub heads_mean_one : HeadsMeanOne
+heads_mean_one pool nodes heads m bytes fs gs fits few is one two =
+    one_sequence plain (Some m) bytes fs gs (made_encodes plain pool nodes heads m bytes fs fits plain_order few is one)
+    (made_encodes plain pool nodes heads m bytes gs fits plain_order few is two)
+
+-- what is made is canonical, where keys ascend and content that stands in the pool is canonical
+pub canonical_made : CanonicalWhereKeysAscend
+canonical_made pool nodes heads m bytes frames fits few keys content is meant =
+    let spelled = made_encodes strict pool nodes heads m bytes frames fits (record { is = (keys, content) }) few is meant in
+    (one_strict strict (Some m) bytes frames spelled).only bytes spelled
+
+-- what was read and is written again encodes the frames that were read
+pub written_again : ReadIsWrittenAgain
+written_again m k deep bytes heads nodes others used made fits few says is =
+    let told = heads_told m deep bytes fits (nodes ++ others) 0 0 used heads [] nodes others refl refl says in
+    let spelled = made_encodes plain bytes (nodes ++ others) heads k made told.frames fits plain_order few is told.told in
+    record {
+      read = record { frames = told.frames; count_is = told.count_is; sequence = told.sequence; after = told.after };
+      encodes = spelled;
+      whole = sequence_place plain (Some k) made told.frames spelled;
+      canonical = ap canon_frames (sequence_front plain (Some k) made told.frames spelled);
+    }

@@ -3,6 +3,8 @@ pub mod Pushing
 pub mod Strings
 pub mod Stepping
 pub mod Spans
+pub mod Agreeing
+pub mod Lying
 pub mod Groups
 pub mod ValuesFound
 pub mod PayloadSteps
@@ -25,6 +27,7 @@ pub mod FieldsMade
 pub mod FramesMade
 pub mod HeadsInLoops
 pub mod MadeOfParts
+pub mod GivenLengths
 pub mod SignedNumbers
 pub mod PropertiesMade
 pub mod Ends
@@ -34,16 +37,11 @@ pub mod QuickFrames
 pub mod ValuesTold
 pub mod FieldsTold
 pub mod FramesTold
-pub mod AtLevel
 pub mod Ordered
-pub mod GivenContent
 pub mod MeantValuesMade
 pub mod MeantFieldsMade
 pub mod MeantFramesMade
-pub mod CanonicalMade
+pub mod NoProperties
 pub mod Encoding
-pub mod ReadMeant
-pub mod OneSequence
-pub mod HeadsTold
 pub mod SameNodes
-pub mod WrittenAgain
+pub mod HeadsTold

@@ -1,12 +1,12 @@
 -- What is meant is made, unless a content is longer than four bytes count: parts, and values.
-use Rattle.std.proofs.Common.{◌≡◌, ℕ, zero, suc, ◌+◌, ◌-◌, ◌<◌, ◌^◌, ◌%◌, inl, inr, ℤ, Bool, true, false, List, [], ◌∷◌, ◌++◌, length, take, drop, Some, None}
+use Rattle.std.proofs.Common.{◌≡◌, ℕ, zero, suc, ◌+◌, ◌-◌, ◌<◌, ◌^◌, ◌%◌, inl, inr, ℤ, Bool, true, false, List, [], ◌∷◌, ◌++◌, length, Some, None}
 use Rattle.std.proofs.Common.{Result, Ok, Err, refl, sym, ap, subst, ◌∙◌, ◌≤◌, ◌⊎◌, append_assoc, arith, nat_lt, nat_le, if◌then◌else◌, Option}
 use Rattle.std.proofs.lemmas.Bool.Decides.{nat_tests}
 use Rattle.std.proofs.lemmas.Int.{of_z-to_z}
 use Rattle.std.proofs.lemmas.List.{length-append}
 use Rattle.std.proofs.lemmas.Str.{is_utf8-from_IsUtf8}
 use Rattle.std.specs.Int.{w64, cast_signed, cast_unsigned}
-use Rattle.std.specs.Str.{IsUtf8, is_utf8}
+use Rattle.std.specs.Str.{IsUtf8}
 use Rattle.amqp_types.specs.Levels.{Level}
 use Rattle.amqp_types.specs.Judging.{Fault, IsBytes}
 use Rattle.amqp_types.specs.Numbers.{NumberWidth, bytes1, bytes2, bytes4, bytes8, number_bytes, number_limit, width_of, SpellsNumber}
@@ -23,7 +23,6 @@ use Rattle.amqp_types.specs.ValueJudging.{filled, judge_entry, judge_value}
 use Rattle.amqp_types.specs.ValueSpelling.{SpellsArray, SpellsBehind, SpellsEach, SpellsEntry, SpellsTable, SpellsTagged, SpellsValue}
 use Rattle.amqp_types.specs.declared.tag.FieldTag.{FieldTag}
 use Rattle.amqp_types.specs.declared.tag.FieldTag.TheVariants as tag
-use Rattle.amqp_types.specs.declared.errors.ParserError.TheVariants as errors
 use Rattle.amqp_laws.proofs.Settling.{settles}
 use Rattle.amqp_laws.proofs.Tags.{tag_read}
 use Rattle.amqp_fields.specs.declared.node.Node.{Node}
@@ -32,19 +31,19 @@ use Rattle.amqp_fields.specs.declared.refusals.WriteRefusal.{WriteRefusal}
 use Rattle.amqp_fields.specs.declared.refusals.WriteRefusal.TheVariants as whys
 use Rattle.amqp_fields.specs.Canonical.{IsTableKind}
 use Rattle.amqp_fields.specs.Nodes.{StandsFirst}
-use Rattle.amqp_fields.specs.Made.{Made, Maker, Nested, after, closed, faulty, is_signed, made_alone, made_array, made_behind, made_each, made_entry}
+use Rattle.amqp_fields.specs.Made.{Made, Maker, Nested, after, closed, is_signed, made_alone, made_array, made_behind, made_each, made_entry}
 use Rattle.amqp_fields.specs.Made.{made_given, made_if, made_items, made_leaf, made_long, made_nested, made_number, made_signed, made_span, made_table}
-use Rattle.amqp_fields.specs.Made.{made_text, made_truth, made_value, nested_array, nested_table, own_index, refusal, refuse, span_in}
+use Rattle.amqp_fields.specs.Made.{made_text, made_value, nested_array, nested_table, own_index, refusal, refuse, span_in}
 use Rattle.amqp_fields.specs.Making.{HoldsBytes, IsLongIn, Suits}
 use Rattle.amqp_fields.specs.Meaning.{AreNodes, IsSpan}
-use Rattle.amqp_fields.specs.Meant.{Holds, HoldsTable, IsSigned, Tells, TellsAt, TellsEntry, TellsValue}
-use Rattle.amqp_fields.proofs.AtLevel.{tag_at_level, truth_at}
+use Rattle.amqp_fields.specs.Meant.{IsSigned, Tells, TellsAt, TellsEntry, TellsValue}
+use Rattle.amqp_fields.proofs.Ordered.{tag_at_level, truth_at}
 use Rattle.amqp_fields.proofs.EachMade.{each_next, each_none}
-use Rattle.amqp_fields.proofs.GivenContent.{array_at, table_at}
+use Rattle.amqp_fields.proofs.Ordered.{array_at, array_encoded, span_fits, table_at, table_encoded}
 use Rattle.amqp_fields.proofs.Ordered.{InOrder, Ordered, With, each_with, entries_once, order_inside}
 use Rattle.amqp_fields.proofs.SignedNumbers.{signed_bits}
 use Rattle.amqp_fields.proofs.ValuesMade.{value_parts}
-use Rattle.amqp_fields.proofs.ValuesTold.{array_encoded, span_fits, table_encoded}
+use Rattle.amqp_fields.proofs.ValuesTold.{HoldsEntries, HoldsValues, TellsTable}
 use Rattle.amqp_fields.proofs.MadeOfParts.{mod_small}
 
 -- ---- parts
@@ -57,99 +56,83 @@ pub record Fits (Why : Refusal → Type 0) (made : Made) (P : List ℕ → Type 
 pub ok_fits : {Why : Refusal → Type 0} {P : List ℕ → Type 0} (bytes : List ℕ) → P bytes → Fits Why (Ok bytes) P
 ok_fits bytes p = record { suits = p }
 
-after_suits : (Why : Refusal → Type 0) (a b : Made) (P Q R : List ℕ → Type 0) → ((x y : List ℕ) → P x → Q y → R (x ++ y))
-    → Suits Why a P → Suits Why b Q → Suits Why (after a b) R
-after_suits Why (Ok x) (Ok y) P Q R both p q = both x y p q
-after_suits Why (Ok x) (Err bad) P Q R both p q = q
-after_suits Why (Err bad) b P Q R both p q = p
-
 -- two makings fit, one after another, where each of them does
-pub after_fits : {Why : Refusal → Type 0} (a b : Made) {P Q R : List ℕ → Type 0}
+pub after_fits : {Why : Refusal → Type 0} {a b : Made} {P Q R : List ℕ → Type 0}
     → ((x y : List ℕ) → P x → Q y → R (x ++ y)) → Fits Why a P → Fits Why b Q → Fits Why (after a b) R
-after_fits {Why} a b {P} {Q} {R} both p q = record { suits = after_suits Why a b P Q R both p.suits q.suits }
-
-suits_into : (Why : Refusal → Type 0) (made : Made) (P Q : List ℕ → Type 0) → ((x : List ℕ) → P x → Q x) → Suits Why made P → Suits Why made Q
-suits_into Why (Ok x) P Q into p = into x p
-suits_into Why (Err bad) P Q into p = p
+after_fits {a = Ok x} {b = Ok y} both p q = record { suits = both x y p.suits q.suits }
+after_fits {a = Ok x} {b = Err bad} both p q = record { suits = q.suits }
+after_fits {a = Err bad} both p q = record { suits = p.suits }
 
 -- what is made is also such bytes
-pub fits_into : {Why : Refusal → Type 0} (made : Made) {P Q : List ℕ → Type 0} → ((x : List ℕ) → P x → Q x) → Fits Why made P → Fits Why made Q
-fits_into {Why} made {P} {Q} into p = record { suits = suits_into Why made P Q into p.suits }
-
-suits_for : (Why Reason : Refusal → Type 0) (made : Made) (P : List ℕ → Type 0)
-    → ((bad : Refusal) → Why bad → Reason bad) → Suits Why made P → Suits Reason made P
-suits_for Why Reason (Ok x) P into p = p
-suits_for Why Reason (Err bad) P into p = into bad p
+pub fits_into : {Why : Refusal → Type 0} {made : Made} {P Q : List ℕ → Type 0} → ((x : List ℕ) → P x → Q x) → Fits Why made P → Fits Why made Q
+fits_into {made = Ok x} into p = record { suits = into x p.suits }
+fits_into {made = Err bad} into p = record { suits = p.suits }
 
 -- what is refused is also refused for such a reason
-pub fits_for : {Why Reason : Refusal → Type 0} {P : List ℕ → Type 0} (made : Made)
+pub fits_for : {Why Reason : Refusal → Type 0} {P : List ℕ → Type 0} {made : Made}
     → ((bad : Refusal) → Why bad → Reason bad) → Fits Why made P → Fits Reason made P
-fits_for {Why} {Reason} {P} made into p = record { suits = suits_for Why Reason made P into p.suits }
+fits_for {made = Ok x} into p = record { suits = p.suits }
+fits_for {made = Err bad} into p = record { suits = into bad p.suits }
 
 -- a making fits where an equal one does
-pub as_fits : {Why : Refusal → Type 0} {P : List ℕ → Type 0} (made other : Made) → made ≡ other → Fits Why other P → Fits Why made P
-as_fits {Why} {P} made other is h = subst (λ m. Fits Why m P) (sym is) h
+pub as_fits : {Why : Refusal → Type 0} {P : List ℕ → Type 0} {made other : Made} → made ≡ other → Fits Why other P → Fits Why made P
+as_fits {Why} {P} is h = subst (λ m. Fits Why m P) (sym is) h
 
-if_fits : {Why : Refusal → Type 0} {P : List ℕ → Type 0} (test : Bool) (node : ℕ) (bytes : List ℕ)
+-- what is made where a test holds fits, where it holds
+pub if_fits : {Why : Refusal → Type 0} {P : List ℕ → Type 0} {test : Bool} (node : ℕ) (bytes : List ℕ)
     → test ≡ true → P bytes → Fits Why (made_if test node bytes) P
-if_fits {Why} {P} test node bytes is p = subst (λ t. Fits Why (made_if t node bytes) P) (sym is) (ok_fits bytes p)
+if_fits node bytes is p = as_fits (ap (λ t. made_if t node bytes) is) (ok_fits bytes p)
 
 -- a value with nothing inside it fits where its own bytes do
-pub alone_fits : {Why : Refusal → Type 0} {P : List ℕ → Type 0} (made : Made) (index : ℕ) (inside : List Node)
+pub alone_fits : {Why : Refusal → Type 0} {P : List ℕ → Type 0} {made : Made} {inside : List Node} (index : ℕ)
     → inside ≡ [] → Fits Why made P → Fits Why (made_alone made index inside) P
-alone_fits {Why} {P} made index inside none h = subst (λ ns. Fits Why (made_alone made index ns) P) (sym none) h
+alone_fits {made = made} index none h = as_fits (ap (made_alone made index) none) h
 
 -- a number of its width
-pub number_fits : {Why : Refusal → Type 0} (width : NumberWidth) (node number n : ℕ) → number ≡ n → n < number_limit width
+pub number_fits : {Why : Refusal → Type 0} {number n : ℕ} (width : NumberWidth) (node : ℕ) → number ≡ n → n < number_limit width
     → Fits Why (made_number width node number) (λ bytes. SpellsNumber width bytes n)
-number_fits width node number n is few =
+number_fits {number = number} {n = n} width node is few =
     let less : number < number_limit width = subst (λ k. k < number_limit width) (sym is) few in
-    if_fits {P = λ bytes. SpellsNumber width bytes n} (nat_lt number (number_limit width)) node (number_bytes width (number % number_limit width))
-    (grind (arith, nat_tests, less)) (record { fits = few; bytes_are = ap (number_bytes width) (mod_small width number less ∙ is) })
-
-long_by : (Why : Refusal → Type 0) (node : ℕ) (content : List ℕ) (test : Bool) → (2 ^ 32 ≤ length content → Why (refusal node whys.TooLong))
-    → is_too_long content ≡ test → Fits Why (if test then refuse node whys.TooLong else Ok (with_length content)) (λ bytes. SpellsLongString bytes content)
-long_by Why node content true long is = record { suits = long (grind (arith, nat_tests, is)) }
-long_by Why node content false long is = ok_fits (with_length content) (record { fits = grind (arith, nat_tests, is); bytes_are = refl })
+    if_fits {P = λ bytes. SpellsNumber width bytes n} node (number_bytes width (number % number_limit width))
+    (grind (arith, nat_tests)) (record { fits = few; bytes_are = ap (number_bytes width) (mod_small width number less ∙ is) })
 
 -- a length of 4 bytes and a content, which is refused where they do not hold its length
 pub long_fits : {Why : Refusal → Type 0} (node : ℕ) (content : List ℕ) → (2 ^ 32 ≤ length content → Why (refusal node whys.TooLong))
     → Fits Why (made_long node content) (λ bytes. SpellsLongString bytes content)
-long_fits {Why} node content long = long_by Why node content (is_too_long content) long refl
+long_fits {Why} node content long = by (is_too_long content) refl
+  where
+    by : (test : Bool) → is_too_long content ≡ test
+        → Fits Why (if test then refuse node whys.TooLong else Ok (with_length content)) (λ bytes. SpellsLongString bytes content)
+    by true is = record { suits = long (grind (arith, nat_tests)) }
+    by false is = ok_fits (with_length content) (record { fits = grind (arith, nat_tests); bytes_are = refl })
 
 -- a short string
 pub text_fits : {Why : Refusal → Type 0} (node : ℕ) (text : List ℕ) → length text < 256 → IsUtf8 text
     → Fits Why (made_text node text) (λ bytes. SpellsShortString bytes text)
-text_fits {Why} node text short valid =
-    let few : nat_lt 255 (length text) ≡ false = grind (arith, nat_tests, short) in
-    let P : Bool → Type 0 = λ test.
-    Fits Why (if test then refuse node whys.TooLong else (if is_utf8 text then Ok (short_string_bytes text) else faulty node errors.NotUtf8))
-    (λ bytes. SpellsShortString bytes text) in
-    let Q : Bool → Type 0 =
-    λ test. Fits Why (if test then Ok (short_string_bytes text) else faulty node errors.NotUtf8) (λ bytes. SpellsShortString bytes text) in
-    subst P (sym few)
-    (subst Q (sym (is_utf8-from_IsUtf8 text valid)) (ok_fits (short_string_bytes text) (record { fits = short; utf8 = valid; bytes_are = refl })))
+text_fits node text short valid =
+    let few : nat_lt 255 (length text) ≡ false = grind (arith, nat_tests) in
+    let made : made_text node text ≡ Ok (short_string_bytes text) = rw (few, is_utf8-from_IsUtf8 text valid) in
+    as_fits made (ok_fits (short_string_bytes text) (record { fits = short; utf8 = valid; bytes_are = refl }))
 
 -- what is made of a span of the pool
-pub span_fits_in : {Why : Refusal → Type 0} {P : List ℕ → Type 0} (make : List ℕ → Made) (node : ℕ) (pool content : List ℕ) (start count : ℕ)
+pub span_fits_in : {Why : Refusal → Type 0} {P : List ℕ → Type 0} {pool content : List ℕ} {start count : ℕ} (make : List ℕ → Made) (node : ℕ)
     → IsSpan pool start count content → Fits Why (make content) P → Fits Why (made_span make node (span_in pool start count)) P
-span_fits_in {Why} {P} make node pool content start count h made =
-    let within : nat_le (start + count) (length pool) ≡ true = grind (arith, nat_tests, h.within) in
-    let Q : Bool → Type 0 = λ test. Fits Why (made_span make node (if test then Some (take count (drop start pool)) else None)) P in
-    subst Q (sym within) (subst (λ bs. Fits Why (make bs) P) (sym h.bytes_are) made)
+span_fits_in {pool = pool} {content = content} {start = start} {count = count} make node h made =
+    let within : nat_le (start + count) (length pool) ≡ true = grind (arith, nat_tests) in
+    let is : made_span make node (span_in pool start count) ≡ make content = rw (within, h.bytes_are) in
+    as_fits is made
 
-given_fits : {Why : Refusal → Type 0} {A : Type 0} (node : ℕ) (content : List ℕ) (read : Result (List A) Fault) (things : List A)
+given_fits : {Why : Refusal → Type 0} {A : Type 0} {read : Result (List A) Fault} {things : List A} (node : ℕ) (content : List ℕ)
     → (2 ^ 32 ≤ length content → Why (refusal node whys.TooLong))
     → read ≡ Ok things → Fits Why (made_given node content read) (λ bytes. SpellsLongString bytes content)
-given_fits {Why} node content read things long is =
-    subst (λ r. Fits Why (made_given node content r) (λ bytes. SpellsLongString bytes content)) (sym is) (long_fits node content long)
+given_fits node content long is = as_fits (ap (made_given node content) is) (long_fits node content long)
 
-closed_fits : {Why : Refusal → Type 0} {P Q : List ℕ → Type 0} (node : ℕ) (made : Made)
+closed_fits : {Why : Refusal → Type 0} {P Q : List ℕ → Type 0} {made : Made} (node : ℕ)
     → ((content : List ℕ) → P content → 2 ^ 32 ≤ length content → Why (refusal node whys.TooLong))
     → ((content bytes : List ℕ) → P content → SpellsLongString bytes content → Q bytes) → Fits Why made P → Fits Why (closed node made) Q
-closed_fits node (Ok content) long into p =
-    fits_into (made_long node content) (λ bytes spelled. into content bytes p.suits spelled) (long_fits node content (long content p.suits))
-closed_fits node (Err bad) long into p = record { suits = p.suits }
+closed_fits {made = Ok content} node long into p =
+    fits_into (λ bytes spelled. into content bytes p.suits spelled) (long_fits node content (long content p.suits))
+closed_fits {made = Err bad} node long into p = record { suits = p.suits }
 
 -- ---- which node has a content that is too long
 
@@ -241,14 +224,14 @@ pub each_fits : {A : Type 0} (level : Level) (pool : List ℕ) (make : Maker) (M
     → (end : ℕ) (xs : List A) (nodes : List Node) → AreNodes Means xs nodes
     → Fits (IsLongBy level pool end nodes) (made_each make end 0 nodes) (λ bytes. SpellsEach Spells bytes xs)
 each_fits level pool make Means Spells one end [] nodes h =
-    as_fits (made_each make end 0 nodes) (Ok []) (ap (made_each make end 0) h ∙ each_none make end) (ok_fits [] refl)
+    as_fits (ap (made_each make end 0) h ∙ each_none make end) (ok_fits [] refl)
 each_fits level pool make Means Spells one end (x ∷ xs) nodes h =
     let first : StandsFirst nodes h.node h.inside h.others = record { nodes_are = h.nodes_are; inside_is = h.inside_is } in
     let rest_is : nodes ≡ (h.node ∷ h.inside) ++ h.others = h.nodes_are in
-    as_fits (made_each make end 0 nodes) (after (make (end - length h.others) h.node h.inside) (made_each make end 0 h.others)) (each_next make end first)
-    (after_fits (make (end - length h.others) h.node h.inside) (made_each make end 0 h.others) (λ a b p q. (a, b, refl, p, q))
-    (fits_for (make (end - length h.others) h.node h.inside) (λ bad why. group_long first why) (one (end - length h.others) h.node h.inside x h.means))
-    (fits_for (made_each make end 0 h.others) (λ bad why. behind_long (h.node ∷ h.inside) rest_is why)
+    as_fits (each_next make end first)
+    (after_fits (λ a b p q. (a, b, refl, p, q))
+    (fits_for (λ bad why. group_long first why) (one (end - length h.others) h.node h.inside x h.means))
+    (fits_for (λ bad why. behind_long (h.node ∷ h.inside) rest_is why)
     (each_fits level pool make Means Spells one end xs h.others h.rest)))
 
 -- ---- after a tag
@@ -266,15 +249,15 @@ module _ (level : Level) (pool : List ℕ) (nested : Nested) (depth : ℕ) (Arra
     truth_fits : (b : Bool) → node.number ≡ bit_of b → inside ≡ [] → Behind tag.Boolean (boolean_value b)
     unfolding made_behind made_leaf
     truth_fits true is none =
-        let low : node.number % 2 ^ 8 ≡ 1 = omega (arith, is) in
-        alone_fits (made_truth (own_index end inside) node.number) (own_index end inside) inside none
-        (if_fits (nat_lt node.number 2) (own_index end inside) (number_bytes bytes1 (node.number % 2 ^ 8))
-        (grind (arith, nat_tests, is)) (truth_at level true (number_bytes bytes1 (node.number % 2 ^ 8)) (ap (number_bytes bytes1) low)))
+        let low : node.number % 2 ^ 8 ≡ 1 = omega arith in
+        alone_fits _ none
+        (if_fits _ (number_bytes bytes1 (node.number % 2 ^ 8))
+        (grind (arith, nat_tests)) (truth_at level true (number_bytes bytes1 (node.number % 2 ^ 8)) (ap (number_bytes bytes1) low)))
     truth_fits false is none =
-        let low : node.number % 2 ^ 8 ≡ 0 = omega (arith, is) in
-        alone_fits (made_truth (own_index end inside) node.number) (own_index end inside) inside none
-        (if_fits (nat_lt node.number 2) (own_index end inside) (number_bytes bytes1 (node.number % 2 ^ 8))
-        (grind (arith, nat_tests, is)) (truth_at level false (number_bytes bytes1 (node.number % 2 ^ 8)) (ap (number_bytes bytes1) low)))
+        let low : node.number % 2 ^ 8 ≡ 0 = omega arith in
+        alone_fits _ none
+        (if_fits _ (number_bytes bytes1 (node.number % 2 ^ 8))
+        (grind (arith, nat_tests)) (truth_at level false (number_bytes bytes1 (node.number % 2 ^ 8)) (ap (number_bytes bytes1) low)))
 
     -- of the three that are shorter than 8 bytes
     signed_made : (width : NumberWidth) (n : ℤ) (bits : ℕ) → bits < number_limit width → n ≡ cast_signed (width_of width) bits
@@ -282,8 +265,8 @@ module _ (level : Level) (pool : List ℕ) (nested : Nested) (depth : ℕ) (Arra
         → Fits (IsLongAt level pool end node inside)
         (made_alone (made_signed width (own_index end inside) node.number) (own_index end inside) inside) (λ bytes. SpellsSigned width bytes n)
     signed_made width n bits few means none both =
-        alone_fits (made_signed width (own_index end inside) node.number) (own_index end inside) inside none
-        (if_fits (is_signed width node.number) (own_index end inside) (number_bytes width (node.number % number_limit width)) both.0
+        alone_fits _ none
+        (if_fits _ (number_bytes width (node.number % number_limit width)) both.0
         (record { bits = bits; spelled = record { fits = few; bytes_are = ap (number_bytes width) both.1 }; means = means }))
 
     as_bits : (width : NumberWidth) (n : ℤ) (h : IsSigned width node.number n) → node.number ≡ cast_unsigned w64 (cast_signed (width_of width) h.bits)
@@ -297,16 +280,16 @@ module _ (level : Level) (pool : List ℕ) (nested : Nested) (depth : ℕ) (Arra
     signed_fits long_int n h none = signed_made bytes4 n h.bits h.fits h.means none (signed_bits bytes4 h.bits node.number h.fits (as_bits bytes4 n h))
     signed_fits long_long_int n h none =
         let same : node.number ≡ h.bits = as_bits bytes8 n h ∙ of_z-to_z w64 h.bits h.fits in
-        alone_fits (made_number bytes8 (own_index end inside) node.number) (own_index end inside) inside none
-        (fits_into (made_number bytes8 (own_index end inside) node.number) (λ bytes spelled. record { bits = h.bits; spelled = spelled; means = h.means })
-        (number_fits bytes8 (own_index end inside) node.number h.bits same h.fits))
+        alone_fits _ none
+        (fits_into (λ bytes spelled. record { bits = h.bits; spelled = spelled; means = h.means })
+        (number_fits bytes8 _ same h.fits))
 
     unsigned_made : (width : NumberWidth) (n : ℕ) → node.number ≡ n → n < number_limit width → inside ≡ []
         → Fits (IsLongAt level pool end node inside)
         (made_alone (made_number width (own_index end inside) node.number) (own_index end inside) inside) (λ bytes. SpellsNumber width bytes n)
     unsigned_made width n is few none =
-        alone_fits (made_number width (own_index end inside) node.number)
-        (own_index end inside) inside none (number_fits width (own_index end inside) node.number n is few)
+        alone_fits
+        _ none (number_fits width _ is few)
 
     unsigned_fits : (kind : UnsignedKind) (n : ℕ) → n < number_limit (unsigned_width kind)
         → node.number ≡ n → inside ≡ [] → Behind (tag_of (unsigned_value kind n)) (unsigned_value kind n)
@@ -323,11 +306,11 @@ module _ (level : Level) (pool : List ℕ) (nested : Nested) (depth : ℕ) (Arra
         (made_alone (made_span (made_long (own_index end inside)) (own_index end inside) (span_in pool node.start node.length)) (own_index end inside) inside)
         (λ bytes. SpellsLongString bytes content)
     bytes_made content span none =
-        alone_fits (made_span (made_long (own_index end inside)) (own_index end inside) (span_in pool node.start node.length))
-        (own_index end inside) inside none
+        alone_fits
+        _ none
         (span_fits_in (made_long (own_index end inside))
-        (own_index end inside) pool content node.start node.length span
-        (long_fits (own_index end inside) content (own_long level pool end node inside content span none)))
+        _ span
+        (long_fits _ content (own_long level pool end node inside content span none)))
 
     bytes_fits : (kind : BytesKind) (content : List ℕ) → IsSpan pool node.start node.length content
         → inside ≡ [] → Behind (tag_of (bytes_value kind content)) (bytes_value kind content)
@@ -342,14 +325,14 @@ module _ (level : Level) (pool : List ℕ) (nested : Nested) (depth : ℕ) (Arra
     behind_fits (unsigned_value kind n) is h = unsigned_fits kind n h.0 h.1 h.2
     behind_fits (decimal_value scale n) is h =
         let index = own_index end inside in
-        alone_fits (after (made_number bytes1 index node.scale) (made_number bytes4 index node.number)) index inside h.4
-        (after_fits (made_number bytes1 index node.scale) (made_number bytes4 index node.number)
+        alone_fits _ h.4
+        (after_fits
         (λ a b p q. record { front = a; behind = b; one = scale; two = n; bytes_are = refl; first_is = p; second_is = q; joined = refl })
-        (number_fits bytes1 index node.scale scale h.2 h.0) (number_fits bytes4 index node.number n h.3 h.1))
+        (number_fits bytes1 _ h.2 h.0) (number_fits bytes4 _ h.3 h.1))
     behind_fits (bytes_value kind content) is h = bytes_fits kind content h.0 h.1
     behind_fits (array_value vs) is h = array_fits (items vs) is h
     behind_fits (table_value es) is h = table_fits (pairs es) is h
-    behind_fits void_value is h = alone_fits (Ok []) (own_index end inside) inside h (ok_fits [] refl)
+    behind_fits void_value is h = alone_fits _ h (ok_fits [] refl)
 
 -- a tag and its value
 value_by : {Why : Refusal → Type 0} (level : Level) (pool : List ℕ) (depth_left end : ℕ)
@@ -358,10 +341,9 @@ value_by : {Why : Refusal → Type 0} (level : Level) (pool : List ℕ) (depth_l
     → Fits Why (made_value pool depth_left end node inside) (λ bytes. SpellsTagged level Spelled bytes v)
 value_by level pool depth_left end node inside v Spelled kind h =
     let read : tag_at node.kind ≡ Some (tag_of v) = tag_read node.kind (tag_of v) (inl kind) in
-    as_fits (made_value pool depth_left end node inside)
-    (after (Ok (node.kind ∷ [])) (made_behind pool (made_nested pool depth_left) (tag_of v) end node inside))
+    as_fits
     (value_parts pool depth_left end node inside (tag_of v) read (sym kind))
-    (after_fits (Ok (node.kind ∷ [])) (made_behind pool (made_nested pool depth_left) (tag_of v) end node inside)
+    (after_fits
     {P = λ bytes. bytes ≡ node.kind ∷ []} {Q = λ bytes. Spelled bytes v}
     (λ a b p q. record { byte = node.kind; behind = b; bytes_are = ap (λ bs. bs ++ b) p; tag_is = tag_at_level level node.kind (tag_of v) kind; value_is = q })
     (ok_fits (node.kind ∷ []) refl) h)
@@ -378,9 +360,9 @@ module _ (level : Level) (pool : List ℕ) (fits : IsBytes pool) (depth_left : �
     unfolding made_entry
     entry_fits end node inside e h order =
         let index = own_index end inside in
-        after_fits (made_span (made_text index) index (span_in pool node.key_start node.key_length)) (value end node inside)
+        after_fits
         (λ a b p q. record { front = a; behind = b; one = e.0; two = e.1; bytes_are = refl; first_is = p; second_is = q; joined = refl })
-        (span_fits_in (made_text index) index pool e.0 node.key_start node.key_length h.key (text_fits index e.0 h.short h.utf8))
+        (span_fits_in (made_text index) _ h.key (text_fits _ e.0 h.short h.utf8))
         (one end node inside e.1 h.value order)
 
     -- values that nodes mean are made, one after another
@@ -402,23 +384,23 @@ module _ (level : Level) (pool : List ℕ) (fits : IsBytes pool) (depth_left : �
 
     pub array_fits_at : (end : ℕ) (node : Node) (inside : List Node) (vs : List FieldValue)
         → node.kind ≡ tag_byte tag.FieldArray → Ordered level pool node inside
-        → Holds (judge_value depth_left) (λ values nodes. AreNodes (TellsValue depth_left pool) values nodes) pool node inside vs
+        → HoldsValues depth_left pool node inside vs
         → Fits (IsLongAt level pool end node inside) (made_array pool depth_left value end node inside)
         (λ bytes. SpellsArray (SpellsValue level depth_left) bytes vs)
     unfolding made_items
     array_fits_at end node [] vs kind order h =
         let index = own_index end [] in
         let content_fits = span_fits pool h.content node.start node.length fits h.span in
-        span_fits_in (λ content. made_given index content (filled (judge_value depth_left) 0 content)) index pool h.content node.start node.length h.span
-        (fits_into (made_given index h.content (filled (judge_value depth_left) 0 h.content))
+        span_fits_in (λ content. made_given index content (filled (judge_value depth_left) 0 content)) _ h.span
+        (fits_into
         (λ bytes long.
         array_at depth_left h.content bytes long pool node h.span level vs order kind (array_encoded h.content bytes content_fits long depth_left vs h.fills))
-        (given_fits index h.content (filled (judge_value depth_left) 0 h.content) vs (own_long level pool end node [] h.content h.span refl) h.fills))
+        (given_fits _ h.content (own_long level pool end node [] h.content h.span refl) h.fills))
     array_fits_at end node (first ∷ others) vs kind order h =
-        closed_fits (own_index end (first ∷ others)) (made_each value end 0 (first ∷ others))
+        closed_fits _
         (λ content each long. inl (record { bad_is = refl; content = content; holds = (depth_left, inl (vs, h, each)); long = long }))
         (λ content bytes each long. record { inner = content; framed = long; each = each })
-        (fits_for (made_each value end 0 (first ∷ others)) (λ bad why. inr why)
+        (fits_for (λ bad why. inr why)
         (values_fit end vs (first ∷ others) (order_inside level pool node (first ∷ others) order.order) h))
 
     table_by : (bytes : List ℕ) (table entries : List Entry) → table ≡ settled entries
@@ -426,8 +408,7 @@ module _ (level : Level) (pool : List ℕ) (fits : IsBytes pool) (depth_left : �
     table_by bytes table entries is h = subst (λ es. SpellsTable level (SpellsValue level depth_left) bytes es) (sym is) h
 
     holds_table : (end : ℕ) (node : Node) (inside : List Node) (entries : List Entry) → IsTableKind node.kind → Ordered level pool node inside
-        → Holds (judge_entry (judge_value depth_left))
-        (λ entries nodes. AreNodes (TellsEntry (TellsValue depth_left pool) pool) entries nodes) pool node inside entries
+        → HoldsEntries depth_left pool node inside entries
         → Fits (IsLongAt level pool end node inside) (made_table pool depth_left value end node inside)
         (λ bytes. SpellsTable level (SpellsValue level depth_left) bytes (settled entries))
     unfolding made_items
@@ -435,15 +416,15 @@ module _ (level : Level) (pool : List ℕ) (fits : IsBytes pool) (depth_left : �
         let index = own_index end [] in
         let content_fits = span_fits pool h.content node.start node.length fits h.span in
         span_fits_in (λ content. made_given index content (filled (judge_entry (judge_value depth_left)) 0 content))
-        index pool h.content node.start node.length h.span
-        (fits_into (made_given index h.content (filled (judge_entry (judge_value depth_left)) 0 h.content))
+        _ h.span
+        (fits_into
         (λ bytes long.
         table_at depth_left h.content bytes long pool node h.span level (settled entries) order kind
         (table_encoded h.content bytes content_fits long depth_left entries h.fills))
-        (given_fits index h.content (filled (judge_entry (judge_value depth_left)) 0 h.content) entries
+        (given_fits _ h.content
         (own_long level pool end node [] h.content h.span refl) h.fills))
     holds_table end node (first ∷ others) entries kind order h =
-        closed_fits (own_index end (first ∷ others)) (made_each (made_entry pool value) end 0 (first ∷ others))
+        closed_fits _
         (λ content each long. inl (record { bad_is = refl; content = content; holds = (depth_left, inr (entries, h, each)); long = long }))
         (λ content bytes each long.
         record {
@@ -454,18 +435,16 @@ module _ (level : Level) (pool : List ℕ) (fits : IsBytes pool) (depth_left : �
           counts = settles entries;
           once = entries_once pool (TellsValue depth_left pool) level node (first ∷ others) entries order kind h;
         })
-        (fits_for (made_each (made_entry pool value) end 0 (first ∷ others)) (λ bad why. inr why)
+        (fits_for (λ bad why. inr why)
         (entries_fit end entries (first ∷ others) (order_inside level pool node (first ∷ others) order.order) h))
 
     -- a table that a node means is made
     pub table_fits_at : (end : ℕ) (node : Node) (inside : List Node) (table : List Entry) → IsTableKind node.kind → Ordered level pool node inside
-        → HoldsTable
-        (Holds (judge_entry (judge_value depth_left)) (λ entries nodes. AreNodes (TellsEntry (TellsValue depth_left pool) pool) entries nodes) pool node inside)
-        table
+        → TellsTable depth_left pool node inside table
         → Fits (IsLongAt level pool end node inside) (made_table pool depth_left value end node inside)
         (λ bytes. SpellsTable level (SpellsValue level depth_left) bytes table)
     table_fits_at end node inside table kind order h =
-        fits_into (made_table pool depth_left value end node inside)
+        fits_into
         (λ bytes spelled. table_by bytes table h.entries h.settles spelled) (holds_table end node inside h.entries kind order h.holds)
 
 -- ---- values
@@ -482,14 +461,12 @@ module _ (level : Level) (pool : List ℕ) (fits : IsBytes pool) where
   value_fits (suc depth_left) end node inside v h order =
       value_by level pool (suc depth_left) end node inside v (SpellsBehind level (suc depth_left) (SpellsValue level depth_left)) h.0
       (behind_fits level pool (Some (depth_left, made_value pool depth_left)) (suc depth_left)
-      (Holds (judge_value depth_left) (λ values nodes. AreNodes (TellsValue depth_left pool) values nodes) pool node inside)
-      (HoldsTable
-      (Holds (judge_entry (judge_value depth_left)) (λ entries nodes. AreNodes (TellsEntry (TellsValue depth_left pool) pool) entries nodes) pool node inside))
+      (HoldsValues depth_left pool node inside) (TellsTable depth_left pool node inside)
       (SpellsValue level depth_left) end node inside
       (λ vs kind a.
-      fits_into (made_array pool depth_left (made_value pool depth_left) end node inside) (λ bytes spelled. (omega arith, spelled))
+      fits_into (λ bytes spelled. (omega arith, spelled))
       (array_fits_at level pool fits depth_left (made_value pool depth_left) (value_fits depth_left) end node inside vs kind order a))
       (λ es kind a.
-      fits_into (made_table pool depth_left (made_value pool depth_left) end node inside) (λ bytes spelled. (omega arith, spelled))
+      fits_into (λ bytes spelled. (omega arith, spelled))
       (table_fits_at level pool fits depth_left (made_value pool depth_left) (value_fits depth_left) end node inside es (inr kind) order a))
       v h.0 h.1)

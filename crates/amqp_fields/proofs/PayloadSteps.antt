@@ -4,7 +4,7 @@ use Rattle.std.proofs.Common.{sym, ap, subst, ◌∙◌, arith, rules}
 use Rattle.std.proofs.lemmas.List.{length-drop}
 use Rattle.std.specs.Prelude.{option_copied, option_map}
 use Rattle.amqp_types.specs.Answers.{RefusesWhole}
-use Rattle.amqp_types.specs.Judging.{Fault, IsBytes, Judged, took, past, ◌>>=◌}
+use Rattle.amqp_types.specs.Judging.{Fault, IsBytes, took, past}
 use Rattle.amqp_types.specs.Methods.{Method, judge_payload, payload_bytes}
 use Rattle.amqp_types.specs.Tidiness.{is_tidy_payload}
 use Rattle.amqp_types.specs.Numbers.{bytes2, judge_number}
@@ -25,48 +25,38 @@ use Rattle.amqp_wire.specs.Verdicts.{all_of, decode_payload}
 use Rattle.amqp_wire.proofs.Judged.{method_all, method_refused, method_trailing}
 use Rattle.amqp_canonical.specs.Shapes.{slots_of}
 use Rattle.amqp_fields.specs.declared.node.Node.{Node}
-use Rattle.amqp_fields.specs.Listed.{listed_known, listed_method, listed_slots}
+use Rattle.amqp_fields.specs.Listed.{listed_method, listed_slots}
 use Rattle.amqp_fields.specs.Decoding.{IsNoMethod}
 use Rattle.amqp_fields.specs.Finding.{Counts}
 
-ids_then : (deep : Bool) (end count : ℕ) (payload fields : List ℕ) (class id : ℕ) (slots : Option (List meant.Slot)) (old new : List Node) (total : ℕ)
-    → judge_number bytes2 payload ≡ took class 2 → judge_number bytes2 (drop 2 payload) ≡ took id 2
-    → fields ≡ drop 2 (drop 2 payload) → slots_at class id ≡ slots
-    → Counts (listed_known deep end slots fields) old count new total → Counts (listed_method deep end payload) old count new total
-unfolding listed_method
-ids_then deep end count payload fields class id slots old new total one two behind at h =
-    let P : Judged ℕ → Type 0 = λ j.
-    Counts (j >>= λ c. judge_number bytes2 (drop c.1 payload) >>= λ i. listed_known deep end (slots_at c.0 i.0) (drop i.1 (drop c.1 payload)))
-    old count new total in
-    let Q : Judged ℕ → Type 0 = λ j. Counts (j >>= λ i. listed_known deep end (slots_at class i.0) (drop i.1 (drop 2 payload))) old count new total in
-    let R : List ℕ → Type 0 = λ bytes. Counts (listed_known deep end slots bytes) old count new total in
-    let S : Option (List meant.Slot) → Type 0 = λ o. Counts (listed_known deep end o (drop 2 (drop 2 payload))) old count new total in
-    subst P (sym one) (subst Q (sym two) (subst S (sym at) (subst R behind h)))
+-- the payload is a method with these fields, whose bytes stand after both ids
+pub record IsMethodAt (payload : List ℕ) (slots : List meant.Slot) (fields : List ℕ) : Type 0 where
+  pub class : ℕ
+  pub id : ℕ
+  pub class_is : judge_number bytes2 payload ≡ took class 2
+  pub id_is : judge_number bytes2 (drop 2 payload) ≡ took id 2
+  pub at : slots_at class id ≡ Some slots
+  pub fields_are : fields ≡ drop 2 (drop 2 payload)
 
 -- the fields of a method that is in the table are listed
-pub method_listed : (deep : Bool) (end count : ℕ) (payload fields : List ℕ) (class id : ℕ)
-    (shapes : Option (Bor (List Slot))) (found : Bor (List Slot)) (old new : List Node) (total : ℕ)
-    → judge_number bytes2 payload ≡ took class 2 → judge_number bytes2 (drop 2 payload) ≡ took id 2 → fields ≡ drop 2 (drop 2 payload)
-    → option_map slots_of (option_copied shapes) ≡ slots_at class id → shapes ≡ Some found
-    → Counts (listed_slots deep end 0 (slots_of found.now) fields) old count new total → Counts (listed_method deep end payload) old count new total
-method_listed deep end count payload fields class id shapes found old new total one two behind at is h =
-    ids_then deep end count payload fields class id (Some (slots_of found.now)) old new total one two behind
-    (sym at ∙ ap (λ o. option_map slots_of (option_copied o)) is) h
+pub method_listed : (deep : Bool) (end count : ℕ) (payload fields : List ℕ) (slots : List meant.Slot) (old new : List Node) (total : ℕ)
+    → IsMethodAt payload slots fields → Counts (listed_slots deep end 0 slots fields) old count new total
+    → Counts (listed_method deep end payload) old count new total
+unfolding listed_method
+method_listed deep end count payload fields slots old new total m h = rw (m.class_is, m.id_is, m.at, ← m.fields_are) h
 
 -- ---- methods decoded
 
+rest_size : {payload fields : List ℕ} {slots : List meant.Slot} → IsMethodAt payload slots fields → length fields ≡ length payload - 4
+rest_size {payload} m = ap length m.fields_are ∙ length-drop 2 (drop 2 payload) ∙ omega (arith, length-drop 2 payload)
+
 -- a payload whose fields fill it is judged as they are
-pub method_read : (payload fields : List ℕ) (class id : ℕ) (shapes : Option (Bor (List Slot))) (found : Bor (List Slot)) (j : Judgement) → IsBytes payload
-    → 4 ≤ length payload → judge_number bytes2 payload ≡ took class 2 → judge_number bytes2 (drop 2 payload) ≡ took id 2 → fields ≡ drop 2 (drop 2 payload)
-    → option_map slots_of (option_copied shapes) ≡ slots_at class id → shapes ≡ Some found
-    → j.used ≡ length fields → JudgesSlots (slots_of found.now) fields (Ok j)
+pub method_read : (payload fields : List ℕ) (slots : List meant.Slot) (j : Judgement) → IsBytes payload → IsMethodAt payload slots fields
+    → 4 ≤ length payload → j.used ≡ length fields → JudgesSlots slots fields (Ok j)
     → JudgesAll judge_payload payload_bytes is_tidy_payload payload (Ok (record { canonical = j.canonical; tidy = j.tidy }))
-method_read payload fields class id shapes found j fits some one two behind at is all h =
-    let size : length fields ≡ length payload - 4 = ap length behind ∙ length-drop 2 (drop 2 payload) ∙ ap (λ n. n - 2) (length-drop 2 payload) ∙ omega arith in
-    let slots : slots_at class id ≡ Some (slots_of found.now) = sym at ∙ ap (λ o. option_map slots_of (option_copied o)) is in
-    let P : List ℕ → Type 0 = λ bytes. JudgesSlots (slots_of found.now) bytes (Ok j) in
-    method_all payload (record { used = 2 + (2 + j.used); canonical = j.canonical; tidy = j.tidy }) fits
-    (omega (arith, all, size, some)) (payload_took payload class 2 id 2 (slots_of found.now) j fits one two slots (subst P behind h))
+method_read payload fields slots j fits m some all h =
+    method_all payload (record { used = 2 + (2 + j.used); canonical = j.canonical; tidy = j.tidy }) fits (omega (arith, rest_size m))
+    (payload_took payload m.class 2 m.id 2 slots j fits m.class_is m.id_is m.at (rw m.fields_are at h))
 
 -- ---- faults of methods
 
@@ -119,28 +109,19 @@ no_method payload class id shapes one two at is =
     unknown_by payload class id (rows_of class) one two (sym at ∙ ap (λ o. option_map slots_of (option_copied o)) is) refl
 
 -- nor one whose fields have a fault
-pub no_fields : (payload fields : List ℕ) (class id : ℕ) (shapes : Option (Bor (List Slot))) (found : Bor (List Slot)) (error : ParserError)
-    → judge_number bytes2 payload ≡ took class 2 → judge_number bytes2 (drop 2 payload) ≡ took id 2 → fields ≡ drop 2 (drop 2 payload)
-    → option_map slots_of (option_copied shapes) ≡ slots_at class id → shapes ≡ Some found
-    → JudgesSlots (slots_of found.now) fields (Err error) → IsNoMethod payload
-no_fields payload fields class id shapes found error one two behind at is h =
-    let slots : slots_at class id ≡ Some (slots_of found.now) = sym at ∙ ap (λ o. option_map slots_of (option_copied o)) is in
-    let P : List ℕ → Type 0 = λ bytes. JudgesSlots (slots_of found.now) bytes (Err error) in
-    fails_none payload error (payload_fails payload class 2 id 2 (slots_of found.now) error one two slots (subst P behind h))
+pub no_fields : (payload fields : List ℕ) (slots : List meant.Slot) (error : ParserError) → IsMethodAt payload slots fields
+    → JudgesSlots slots fields (Err error) → IsNoMethod payload
+no_fields payload fields slots error m h =
+    fails_none payload error (payload_fails payload m.class 2 m.id 2 slots error m.class_is m.id_is m.at (rw m.fields_are at h))
 
 -- nor one in which bytes are left after the fields
-pub more_fields : (payload fields : List ℕ) (class id : ℕ) (shapes : Option (Bor (List Slot))) (found : Bor (List Slot)) (j : Judgement) → IsBytes payload
-    → 4 ≤ length payload → judge_number bytes2 payload ≡ took class 2 → judge_number bytes2 (drop 2 payload) ≡ took id 2 → fields ≡ drop 2 (drop 2 payload)
-    → option_map slots_of (option_copied shapes) ≡ slots_at class id → shapes ≡ Some found
-    → j.used < length fields → JudgesSlots (slots_of found.now) fields (Ok j) → IsNoMethod payload
-more_fields payload fields class id shapes found j fits some one two behind at is less h m is_method =
-    let size : length fields ≡ length payload - 4 = ap length behind ∙ length-drop 2 (drop 2 payload) ∙ ap (λ n. n - 2) (length-drop 2 payload) ∙ omega arith in
-    let slots : slots_at class id ≡ Some (slots_of found.now) = sym at ∙ ap (λ o. option_map slots_of (option_copied o)) is in
-    let P : List ℕ → Type 0 = λ bytes. JudgesSlots (slots_of found.now) bytes (Ok j) in
+pub more_fields : (payload fields : List ℕ) (slots : List meant.Slot) (j : Judgement) → IsBytes payload → IsMethodAt payload slots fields
+    → 4 ≤ length payload → j.used < length fields → JudgesSlots slots fields (Ok j) → IsNoMethod payload
+more_fields payload fields slots j fits m some less h x is_method =
     let all =
-    method_trailing payload (record { used = 2 + (2 + j.used); canonical = j.canonical; tidy = j.tidy })
-    (omega (arith, less, size, some)) (payload_took payload class 2 id 2 (slots_of found.now) j fits one two slots (subst P behind h)) in
-    refused_none errors.TrailingBytes (all_of judge_payload payload) m all.0 all.1 is_method
+    method_trailing payload (record { used = 2 + (2 + j.used); canonical = j.canonical; tidy = j.tidy }) (omega (arith, rest_size m))
+    (payload_took payload m.class 2 m.id 2 slots j fits m.class_is m.id_is m.at (rw m.fields_are at h)) in
+    refused_none errors.TrailingBytes (all_of judge_payload payload) x all.0 all.1 is_method
 
 read_none : (channel : ℕ) (read : Result Method Fault) → ((m : Method) → read ≡ Ok m → ⊥) → (frame : Frame)
     → read_map (λ m. Meth channel m) read ≡ Ok frame → ⊥

@@ -7,9 +7,9 @@ use Rattle.std.specs.List.{list_all}
 use Rattle.std.proofs.lemmas.Bool.Decides.{nat_tests}
 use Rattle.std.proofs.lemmas.List.{length-append, length-drop}
 use Rattle.amqp_types.proofs.Took.{bind_took, value_took, count_took}
-use Rattle.amqp_types.specs.Judging.{Judged, Fault, took, unknown_class, unknown_method, ◌>>=◌}
+use Rattle.amqp_types.specs.Judging.{Fault, took, unknown_class, unknown_method, ◌>>=◌}
 use Rattle.amqp_types.specs.Numbers.{bytes2, bytes8, judge_number}
-use Rattle.amqp_types.specs.Flags.{flag_at}
+use Rattle.amqp_types.specs.Flags.{bit_of, flag_at}
 use Rattle.amqp_types.specs.Slots.{Item, number_item, Form, number_form, flags_form, short_string_form, long_string_form, table_form}
 use Rattle.amqp_types.specs.Slots.{Slot, kept_slot, reserved_slot}
 use Rattle.amqp_types.specs.SlotJudging.{judge_dropped, judge_form, judge_slots}
@@ -20,12 +20,15 @@ use Rattle.amqp_types.specs.Methods.{Method, method, known, judge_in_class, judg
 use Rattle.amqp_types.specs.ContentHeaders.{ContentHeader, header_of_parts, header_slots, judge_content_header}
 use Rattle.amqp_laws.proofs.SlotLaws.{both_true}
 use Rattle.amqp_fields.specs.declared.node.Node.{Node}
-use Rattle.amqp_fields.specs.Counting.{total}
+use Rattle.amqp_fields.specs.Counting.{method_count, set_at, set_count, total}
 use Rattle.amqp_fields.specs.Kinds.{kind_of}
 use Rattle.amqp_fields.specs.Listed.{field_count, listed_header, listed_known, listed_method, listed_option, listed_properties, listed_set, next_place}
 use Rattle.amqp_fields.specs.Meaning.{AreNodes, Field, MeansField, fields_from, kinds_in, kinds_of, set_field, set_fields}
-use Rattle.amqp_fields.proofs.Spans.{Stands, byte_below, number_took, stands_drop}
-use Rattle.amqp_fields.proofs.FieldsFound.{excess, form_found, nodes_append, slots_found, spare}
+use Rattle.amqp_fields.specs.Spans.{LieIn}
+use Rattle.amqp_fields.proofs.Spans.{byte_below, number_took}
+use Rattle.amqp_fields.proofs.Groups.{IsAt, at_drop}
+use Rattle.amqp_fields.proofs.FieldsFound.{AreFields, Found, excess, fields_then, form_found, found_both, found_make, found_none, from_count}
+use Rattle.amqp_fields.proofs.FieldsFound.{kinds_total, slots_found, spare}
 
 -- ---- properties
 
@@ -47,82 +50,54 @@ single_form short_string_form h = record { count = refl; kinds = refl; no_excess
 single_form long_string_form h = record { count = refl; kinds = refl; no_excess = refl }
 single_form table_form h = record { count = refl; kinds = refl; no_excess = refl }
 
--- what was listed of properties are the nodes of those that are set
-record IsSet (deep : Bool) (payload : List ℕ) (fields : List Field) (listed : Judged (List Node)) (size used : ℕ) : Type 0 where
-  nodes : List Node
-  is : listed ≡ took nodes used
-  means : AreNodes (MeansField deep payload) fields nodes
-  few : length nodes ≤ used
-  bound : used ≤ size
+-- properties that are set, by a mask, and their nodes
+pub record AreSet (deep : Bool) (payload : List ℕ) (fields : List Field) (count : ℕ) (nodes : List Node) (n : ℕ) : Type 0 where
+  pub number : length fields ≡ count
+  pub nodes_are : AreFields deep payload fields n nodes
 
 -- a list of length 1 is one item
 pub one_item : (items : List Item) → length items ≡ 1 → (item : Item) × (items ≡ item ∷ [])
-one_item [] h = absurd (omega (arith, h))
+one_item [] h = absurd (omega arith)
 one_item (item ∷ []) h = (item, refl)
-one_item (item ∷ other ∷ items) h = absurd (omega (arith, h))
+one_item (item ∷ other ∷ items) h = absurd (omega arith)
 
-option_found : (deep set : Bool) (payload bytes : List ℕ) (end place n : ℕ) (p : Property) (option : Option Item)
-    → place < 255 → gives_one p.form ≡ true → Stands payload end bytes → judge_optional set p.form bytes ≡ took option n
-    → IsSet deep payload (set_field place p option) (listed_option set deep end place p.form bytes) (length bytes) n
-unfolding judge_optional listed_option
-option_found deep false payload bytes end place n p option room single stands h =
-    let used = count_took None option 0 n h in
-    record {
-      nodes = [];
-      is = ap (took []) used;
-      means = subst (λ o. AreNodes (MeansField deep payload) (set_field place p o) []) (value_took None option 0 n h) refl;
-      few = omega arith;
-      bound = omega (arith, used);
-    }
-option_found deep true payload bytes end place n p option room single stands h =
-    let one = single_form p.form single in
-    let given = bind_took (judge_form p.form bytes) _ option n h in
-    let used : given.1 ≡ n = count_took (first_item given.0) option given.1 n given.3 in
-    let is : first_item given.0 ≡ option = value_took (first_item given.0) option given.1 n given.3 in
-    let found = form_found deep payload bytes end place given.1 p.form given.0 (omega (arith, room, one.count)) stands given.2 in
-    let item = one_item given.0 (found.number ∙ one.count) in
-    let fields : fields_from place (kinds_of p.form) given.0 ≡ set_field place p option =
-    ap (λ ks. fields_from place ks given.0) one.kinds ∙ ap (fields_from place (kind_of p.form ∷ [])) item.1
-    ∙ ap (set_field place p) (ap first_item (sym item.1) ∙ is) in
-    record {
-      nodes = found.nodes;
-      is = found.is ∙ ap (took found.nodes) used;
-      means = subst (λ fs. AreNodes (MeansField deep payload) fs found.nodes) fields found.means;
-      few = omega (arith, found.few, one.no_excess, used);
-      bound = omega (arith, found.bound, used);
-    }
+module _ (deep : Bool) (payload : List ℕ) (from to : ℕ) where
+  option_found : (set : Bool) (bytes : List ℕ) (place : ℕ) (p : Property) → place < 255 → gives_one p.form ≡ true → IsAt payload from to bytes
+      → Found (λ option. AreSet deep payload (set_field place p option) (bit_of set)) from to (length bytes) (judge_optional set p.form bytes)
+      (listed_option set deep to place p.form bytes)
+  unfolding judge_optional listed_option
+  option_found false bytes place p room single at = found_none None (record { number = refl; nodes_are = record { means = refl; few = omega arith } })
+  option_found true bytes place p room single at =
+      let one = single_form p.form single in
+      found_make (judge_form p.form bytes) _ first_item (form_found payload from to bytes at deep place p.form (omega arith))
+      (λ items nodes n are.
+      let item = one_item items (are.number ∙ one.count) in
+      let same : fields_from place (kinds_of p.form) items ≡ set_field place p (first_item items) =
+      ap (λ ks. fields_from place ks items) one.kinds ∙ ap (fields_from place (kind_of p.form ∷ [])) item.1
+      ∙ ap (λ xs. set_field place p (first_item xs)) (sym item.1) in
+      record {
+        number = ap (λ xs. length (set_field place p (first_item xs))) item.1;
+        nodes_are =
+            record { means = rw same at are.fields.means; few = omega arith };
+      })
 
-set_found : (deep : Bool) (mask : ℕ) (payload : List ℕ) (end : ℕ) (ps : List Property) (bytes : List ℕ) (place n : ℕ) (options : List (Option Item))
-    → place + length ps < 256 → list_all (λ p. gives_one p.form) ps ≡ true
-    → Stands payload end bytes → judge_set mask ps bytes ≡ took options n
-    → IsSet deep payload (set_fields place ps options) (listed_set mask deep end place ps bytes) (length bytes) n
-unfolding judge_set listed_set
-set_found deep mask payload end [] bytes place n options room single stands h =
-    let used = count_took [] options 0 n h in
-    record { nodes = []; is = ap (took []) used; means = refl; few = omega arith; bound = omega (arith, used) }
-set_found deep mask payload end (p ∷ ps) bytes place n options room single stands h =
-    let all = both_true (gives_one p.form) (list_all (λ q. gives_one q.form) ps) single in
-    let set = flag_at mask p.bit in
-    let one = bind_took (judge_optional set p.form bytes) _ options n h in
-    let two = bind_took (judge_set mask ps (drop one.1 bytes)) _ options n one.3 in
-    let used : one.1 + two.1 ≡ n = count_took (one.0 ∷ two.0) options (one.1 + two.1) n two.3 in
-    let is : one.0 ∷ two.0 ≡ options = value_took (one.0 ∷ two.0) options (one.1 + two.1) n two.3 in
-    let first = option_found deep set payload bytes end place one.1 p one.0 (omega (arith, room)) all.0 stands one.2 in
-    let rest =
-    set_found deep mask payload end ps (drop one.1 bytes) (place + 1) two.1 two.0
-    (omega (arith, room)) all.1 (stands_drop payload bytes end one.1 stands first.bound) two.2 in
-    let next : next_place place 1 ≡ place + 1 = byte_below (place + 1) (omega (arith, room)) in
-    record {
-      nodes = first.nodes ++ rest.nodes;
-      is = ap (λ j. j >>= λ x. listed_set mask deep end (next_place place 1) ps (drop x.1 bytes) >>= λ y. took (x.0 ++ y.0) (x.1 + y.1)) first.is
-          ∙ ap (λ q. listed_set mask deep end q ps (drop one.1 bytes) >>= λ y. took (first.nodes ++ y.0) (one.1 + y.1)) next
-          ∙ ap (λ j. j >>= λ y. took (first.nodes ++ y.0) (one.1 + y.1)) rest.is ∙ ap (took (first.nodes ++ rest.nodes)) used;
-      means =
-          subst (λ os. AreNodes (MeansField deep payload) (set_fields place (p ∷ ps) os) (first.nodes ++ rest.nodes)) is
-          (nodes_append (MeansField deep payload) (set_field place p one.0) (set_fields (place + 1) ps two.0) first.nodes rest.nodes first.means rest.means);
-      few = omega (arith, length-append first.nodes rest.nodes, first.few, rest.few, used);
-      bound = omega (arith, first.bound, rest.bound, length-drop one.1 bytes, used);
-    }
+  set_found : (mask : ℕ) (ps : List Property) (bytes : List ℕ) (place : ℕ) → place + length ps < 256 → list_all (λ p. gives_one p.form) ps ≡ true
+      → IsAt payload from to bytes → Found (λ options. AreSet deep payload (set_fields place ps options) (set_count mask ps)) from to (length bytes)
+      (judge_set mask ps bytes) (listed_set mask deep to place ps bytes)
+  unfolding judge_set listed_set
+  set_found mask [] bytes place room single at = found_none [] (record { number = refl; nodes_are = record { means = refl; few = omega arith } })
+  set_found mask (p ∷ ps) bytes place room single at =
+      let all = both_true (gives_one p.form) (list_all (λ q. gives_one q.form) ps) single in
+      let next : next_place place 1 ≡ place + 1 = byte_below (place + 1) (omega arith) in
+      let set = flag_at mask p.bit in
+      found_both {S = λ options. AreSet deep payload (set_fields (place + 1) ps options) (set_count mask ps)} bytes
+      (judge_optional set p.form) (judge_set mask ps) (λ option options. option ∷ options) (listed_option set deep to place p.form)
+      (listed_set mask deep to (next_place place 1) ps) (option_found set bytes place p (omega arith) all.0 at)
+      (λ n few. rw next (set_found mask ps (drop n bytes) (place + 1) (omega arith) all.1 (at_drop bytes n at few)))
+      (λ option nodes n options more m one two. record {
+        number = omega (arith, length-append (set_field place p option) (set_fields (place + 1) ps options));
+        nodes_are = fields_then one.nodes_are two.nodes_are (omega arith);
+      })
 
 -- no property is flags
 pub all_single : list_all (λ p. gives_one p.form) properties ≡ true
@@ -134,28 +109,44 @@ pub fourteen : length properties ≡ 14
 unfolding properties later_properties
 fourteen = refl
 
-properties_found : (deep : Bool) (payload : List ℕ) (end : ℕ) (bytes : List ℕ) (n : ℕ) (options : List (Option Item))
-    → Stands payload end bytes → judge_properties bytes ≡ took options n
-    → IsSet deep payload (set_fields 0 properties options) (listed_properties deep end bytes) (length bytes) n
+-- the nodes that are listed of a mask and what stands behind it are those of the properties that are set
+pub properties_found : (deep : Bool) (payload : List ℕ) (from to : ℕ) (bytes : List ℕ) → IsAt payload from to bytes
+    → Found (λ options. AreSet deep payload (set_fields 0 properties options) (set_at (judge_number bytes2 bytes))) from to (length bytes)
+    (judge_properties bytes) (listed_properties deep to bytes)
 unfolding judge_properties listed_properties
-properties_found deep payload end bytes n options stands h =
-    let mask = bind_took (judge_number bytes2 bytes) _ options n h in
-    let set = bind_took (judge_set mask.0 properties (drop mask.1 bytes)) _ options n mask.3 in
-    let used : mask.1 + set.1 ≡ n = count_took set.0 options (mask.1 + set.1) n set.3 in
-    let is : set.0 ≡ options = value_took set.0 options (mask.1 + set.1) n set.3 in
-    let front = number_took bytes2 bytes mask.0 mask.1 mask.2 in
-    let found =
-    set_found deep mask.0 payload end properties (drop mask.1 bytes) 0 set.1 set.0
-    (omega (arith, fourteen)) all_single (stands_drop payload bytes end mask.1 stands front.1) set.2 in
-    record {
-      nodes = found.nodes;
-      is =
-          ap (λ j. j >>= λ m. listed_set m.0 deep end 0 properties (drop m.1 bytes) >>= λ s. took s.0 (m.1 + s.1)) mask.2
-          ∙ ap (λ j. j >>= λ s. took s.0 (mask.1 + s.1)) found.is ∙ ap (took found.nodes) used;
-      means = subst (λ os. AreNodes (MeansField deep payload) (set_fields 0 properties os) found.nodes) is found.means;
-      few = omega (arith, found.few, used);
-      bound = omega (arith, found.bound, front.1, length-drop mask.1 bytes, used);
-    }
+properties_found deep payload from to bytes at = record {
+  there = λ options n e.
+      let mask = bind_took (judge_number bytes2 bytes) _ options n e in
+      let set = bind_took (judge_set mask.0 properties (drop mask.1 bytes)) _ options n mask.3 in
+      let used = count_took set.0 options (mask.1 + set.1) n set.3 in
+      let one = (behind mask.0 mask.1 mask.2).there set.0 set.1 set.2 in (
+        one.0,
+        ap (λ j. j >>= λ m. listed_set m.0 deep to 0 properties (drop m.1 bytes) >>= λ s. took s.0 (m.1 + s.1)) mask.2
+            ∙ ap (λ j. j >>= λ s. took s.0 (mask.1 + s.1)) one.1 ∙ ap (took one.0) used,
+        omega (arith, (front mask.0 mask.1 mask.2).1, length-drop mask.1 bytes),
+        subst (λ os. AreSet deep payload (set_fields 0 properties os) (set_at (judge_number bytes2 bytes)) one.0 n)
+            (value_took set.0 options (mask.1 + set.1) n set.3)
+            (record {
+              number = one.3.number ∙ sym (ap set_at mask.2);
+              nodes_are = record { means = one.3.nodes_are.means; few = omega arith };
+            }),
+      );
+  lies = λ nodes n e.
+      let mask = bind_took (judge_number bytes2 bytes) _ nodes n e in
+      let set = bind_took (listed_set mask.0 deep to 0 properties (drop mask.1 bytes)) _ nodes n mask.3 in
+      let used = count_took set.0 nodes (mask.1 + set.1) n set.3 in
+      let one = (behind mask.0 mask.1 mask.2).lies set.0 set.1 set.2 in
+      (subst (LieIn from to) (value_took set.0 nodes (mask.1 + set.1) n set.3) one.0, omega (arith, (front mask.0 mask.1 mask.2).1, length-drop mask.1 bytes));
+}
+  where
+    front : (mask n : ℕ) → judge_number bytes2 bytes ≡ took mask n → (n ≡ 2) × (n ≤ length bytes)
+    front mask n e = number_took bytes2 bytes mask n e
+
+    behind : (mask n : ℕ) → judge_number bytes2 bytes ≡ took mask n
+        → Found (λ options. AreSet deep payload (set_fields 0 properties options) (set_count mask properties)) from to (length (drop n bytes))
+        (judge_set mask properties (drop n bytes)) (listed_set mask deep to 0 properties (drop n bytes))
+    behind mask n e =
+        set_found deep payload from to mask properties (drop n bytes) 0 (omega (arith, fourteen)) all_single (at_drop bytes n at (front mask n e).1)
 
 -- ---- content headers
 
@@ -198,29 +189,35 @@ front_used bytes items n h =
     ∙ ap (λ (xs : List Item). xs ++ others.0) class_item ∙ item in
     let a = length-drop class.1 bytes in
     let b = length-drop weight.1 behind in (
-      omega (arith, used, class_used, class_size.0, others_used, weight_used, weight_count, weight_size.0, end_used, size_used, size_size.0),
-      omega (arith, used, class_used, class_size.1, others_used, weight_used, weight_count, weight_size.1, end_used, size_used, size_size.1, a, b),
-      λ set. subst (λ xs. (header_of_parts xs set).options ≡ set) two refl,
+      omega arith,
+      omega arith,
+      λ set. rw (← two),
     )
 
 -- the nodes that are listed of a content header are those of its properties that are set
-pub header_found : (deep : Bool) (bytes : List ℕ) (end : ℕ) (payload : List ℕ) (n : ℕ) (header : ContentHeader)
-    → Stands bytes end payload → judge_content_header payload ≡ took header n
-    → (nodes : List Node) × (k : ℕ) × (listed_header deep end payload ≡ took nodes k)
-    × AreNodes (MeansField deep bytes) (set_fields 0 properties header.options) nodes × (length nodes ≤ length payload)
+pub header_found : (deep : Bool) (bytes : List ℕ) (from to : ℕ) (payload : List ℕ) (n : ℕ) (header : ContentHeader)
+    → IsAt bytes from to payload → judge_content_header payload ≡ took header n
+    → (nodes : List Node) × (k : ℕ) × (listed_header deep to payload ≡ took nodes k)
+    × AreSet deep bytes (set_fields 0 properties header.options) (set_at (judge_number bytes2 (drop 12 payload))) nodes (length payload)
 unfolding judge_content_header listed_header
-header_found deep bytes end payload n header stands h =
+header_found deep bytes from to payload n header at h =
     let front = bind_took (judge_slots header_slots payload) _ header n h in
     let parts = front_used payload front.0 front.1 front.2 in
     let set = bind_took (judge_properties (drop front.1 payload)) _ header n front.3 in
     let is : header_of_parts front.0 set.0 ≡ header = value_took (header_of_parts front.0 set.0) header (front.1 + set.1) n set.3 in
-    let found = properties_found deep bytes end (drop front.1 payload) set.1 set.0 (stands_drop bytes payload end front.1 stands parts.1) set.2 in
+    let found = (properties_found deep bytes from to (drop front.1 payload) (at_drop payload front.1 at parts.1)).there set.0 set.1 set.2 in
     let options : set.0 ≡ header.options = sym (parts.2 set.0) ∙ ap (λ (x : ContentHeader). x.options) is in (
-      found.nodes,
+      found.0,
       set.1,
-      ap (λ k. listed_properties deep end (drop k payload)) (sym parts.0) ∙ found.is,
-      subst (λ os. AreNodes (MeansField deep bytes) (set_fields 0 properties os) found.nodes) options found.means,
-      omega (arith, found.few, found.bound, length-drop front.1 payload),
+      ap (λ k. listed_properties deep to (drop k payload)) (sym parts.0) ∙ found.1,
+      record {
+        number =
+            ap (λ os. length (set_fields 0 properties os)) (sym options) ∙ found.3.number ∙ ap (λ k. set_at (judge_number bytes2 (drop k payload))) parts.0;
+        nodes_are = record {
+          means = subst (λ os. AreNodes (MeansField deep bytes) (set_fields 0 properties os) found.0) options found.3.nodes_are.means;
+          few = omega (arith, length-drop front.1 payload);
+        };
+      },
     )
 
 -- ---- methods
@@ -245,7 +242,7 @@ looked_up {X = X} test id (row ∷ rows) found all h =
   where
     by_key : (here : Bool) → test row.1 ≡ true → (lookup (λ key. id == key) rows ≡ Some found → test found ≡ true)
         → cond here (Some row.1) (lookup (λ key. id == key) rows) ≡ Some found → test found ≡ true
-    by_key true one more h = let is : row.1 ≡ found = cc in subst (λ x. test x ≡ true) is one
+    by_key true one more h = let is : row.1 ≡ found = cc in rw is at one
     by_key false one more h = more h
 
 small_method : (rows : Option (List Row)) (id : ℕ) (slots : List Slot) → ((some : List Row) → rows ≡ Some some → are_small some ≡ true)
@@ -278,12 +275,12 @@ pub few_spare : (class id : ℕ) (slots : List Slot) → slots_at class id ≡ S
 few_spare class id slots h = (small_is slots (slots_small class id slots h)).1
 
 -- the nodes that are listed of a method are those of its fields
-pub method_found : (deep : Bool) (bytes : List ℕ) (end : ℕ) (payload : List ℕ) (n : ℕ) (m : Method)
-    → Stands bytes end payload → judge_payload payload ≡ took m n
-    → (nodes : List Node) × (k : ℕ) × (listed_method deep end payload ≡ took nodes k)
-    × AreNodes (MeansField deep bytes) (fields_from 0 (kinds_in (unwrap_or (slots_at m.class m.id) [])) m.items) nodes × (length nodes ≤ length payload)
+pub method_found : (deep : Bool) (bytes : List ℕ) (from to : ℕ) (payload : List ℕ) (n : ℕ) (m : Method)
+    → IsAt bytes from to payload → judge_payload payload ≡ took m n
+    → (nodes : List Node) × (k : ℕ) × (listed_method deep to payload ≡ took nodes k)
+    × AreSet deep bytes (fields_from 0 (kinds_in (unwrap_or (slots_at m.class m.id) [])) m.items) (method_count m.class m.id) nodes (length payload)
 unfolding judge_payload judge_in_class judge_method listed_method
-method_found deep bytes end payload n m all h =
+method_found deep bytes from to payload n m all h =
     let class = bind_took (judge_number bytes2 payload) _ m n h in
     let behind = drop class.1 payload in
     let inner = bind_took (judge_in_class class.0 behind) _ m n class.3 in
@@ -297,18 +294,27 @@ method_found deep bytes end payload n m all h =
     let small = small_is slots.0 (slots_small class.0 id.0 slots.0 at) in
     let class_size = number_took bytes2 payload class.0 class.1 class.2 in
     let id_size = number_took bytes2 behind id.0 id.1 id.2 in
-    let stands = stands_drop bytes behind end id.1 (stands_drop bytes payload end class.1 all class_size.1) id_size.1 in
-    let found = slots_found deep bytes end slots.0 fields 0 items.1 items.0 (omega (arith, small.0)) stands items.2 in
+    let found =
+    (slots_found deep bytes from to slots.0 fields 0 (omega arith) (at_drop behind id.1 (at_drop payload class.1 all class_size.1) id_size.1)).there
+    items.0 items.1 items.2 in
     let is : method class.0 id.0 items.0 ≡ m =
     value_took (method class.0 id.0 items.0) of_class.0 items.1 of_class.1 items.3
-    ∙ value_took of_class.0 inner.0 (id.1 + of_class.1) inner.1 of_class.3 ∙ value_took inner.0 m (class.1 + inner.1) n inner.3 in
-    let kinds : kinds_in slots.0 ≡ kinds_in (unwrap_or (slots_at class.0 id.0) []) = ap (λ o. kinds_in (unwrap_or o [])) (sym at) in
-    let means : AreNodes (MeansField deep bytes) (fields_from 0 (kinds_in (unwrap_or (slots_at class.0 id.0) [])) items.0) found.nodes =
-    subst (λ ks. AreNodes (MeansField deep bytes) (fields_from 0 ks items.0) found.nodes) kinds found.means in (
-      found.nodes,
+    ∙ value_took of_class.0 inner.0 (id.1 + of_class.1) inner.1 of_class.3 ∙ value_took inner.0 m (class.1 + inner.1) n inner.3 in (
+      found.0,
       items.1,
-      ap (λ j. j >>= λ c. judge_number bytes2 (drop c.1 payload) >>= λ i. listed_known deep end (slots_at c.0 i.0) (drop i.1 (drop c.1 payload))) class.2
-          ∙ ap (λ j. j >>= λ i. listed_known deep end (slots_at class.0 i.0) (drop i.1 behind)) id.2 ∙ ap (λ o. listed_known deep end o fields) at ∙ found.is,
-      subst (λ (x : Method). AreNodes (MeansField deep bytes) (fields_from 0 (kinds_in (unwrap_or (slots_at x.class x.id) [])) x.items) found.nodes) is means,
-      omega (arith, found.few, found.bound, small.1, class_size.0, class_size.1, id_size.0, id_size.1, length-drop class.1 payload, length-drop id.1 behind),
+      ap (λ j. j >>= λ c. judge_number bytes2 (drop c.1 payload) >>= λ i. listed_known deep to (slots_at c.0 i.0) (drop i.1 (drop c.1 payload))) class.2
+          ∙ ap (λ j. j >>= λ i. listed_known deep to (slots_at class.0 i.0) (drop i.1 behind)) id.2 ∙ ap (λ o. listed_known deep to o fields) at ∙ found.1,
+      subst
+          (λ (x : Method).
+          AreSet deep bytes (fields_from 0 (kinds_in (unwrap_or (slots_at x.class x.id) [])) x.items) (method_count x.class x.id) found.0 (length payload))
+          is
+          (subst (λ o. AreSet deep bytes (fields_from 0 (kinds_in (unwrap_or o [])) items.0) (total (unwrap_or o [])) found.0 (length payload))
+          (sym at) (record {
+            number = from_count 0 (kinds_in slots.0) items.0 (kinds_total slots.0 ∙ sym found.3.number) ∙ kinds_total slots.0;
+            nodes_are = record {
+              means = found.3.fields.means;
+              few =
+                  omega (arith, length-drop class.1 payload, length-drop id.1 behind);
+            };
+          })),
     )

@@ -38,9 +38,9 @@ grows_none s h = refl
 pub grows_more : (s t u : Listing) (xs ys : List Node) → Grows s t xs → Grows t u ys → Grows s u (xs ++ ys)
 grows_more s t u xs ys one two h =
     let size = length-append xs ys in
-    let first : t ≡ pushed_all s xs = one (omega (arith, size, h)) in
+    let first : t ≡ pushed_all s xs = one (omega arith) in
     let count : t.count ≡ s.count + length xs = ap (λ (l : Listing). l.count) first ∙ pushed_count s xs in
-    let second : u ≡ pushed_all t ys = two (omega (arith, size, h, count)) in
+    let second : u ≡ pushed_all t ys = two (omega arith) in
     second ∙ ap (λ l. pushed_all l ys) first ∙ sym (pushed_append s xs ys)
 
 -- ---- a node that is put in place of an earlier one
@@ -50,8 +50,8 @@ replaced : (s : Listing) (place : ℕ) (y : Node) (added : List Node) → place 
 unfolding pushed
 replaced s place y [] h = refl
 replaced s place y (node ∷ added) h =
-    replaced (pushed s node) place y added (omega (arith, h))
-    ∙ ap (λ (xs : List Node). pushed_all (listing xs (s.count + 1)) added) (set_comm s.nodes s.count place node y (λ e. omega (arith, h, e)))
+    replaced (pushed s node) place y added (omega arith)
+    ∙ ap (λ (xs : List Node). pushed_all (listing xs (s.count + 1)) added) (set_comm s.nodes s.count place node y (λ e. omega arith))
 
 -- a node of a list with other counts of what it holds
 held_there : (xs : List Node) (k inside items : ℕ) (node : Node)
@@ -65,7 +65,7 @@ kept_there : (s : Listing) (place : ℕ) (added : List Node) → place < s.count
 unfolding pushed
 kept_there s place [] h = refl
 kept_there s place (node ∷ added) h =
-    kept_there (pushed s node) place added (omega (arith, h)) ∙ get_or-set_other s.nodes s.count place node blank (λ e. omega (arith, h, e))
+    kept_there (pushed s node) place added (omega arith) ∙ get_or-set_other s.nodes s.count place node blank (λ e. omega arith)
 
 -- a node is put, then all that lies inside it, and then how many that is
 pub grows_held : (groups : List (List Node)) (count begun total items : ℕ) (node : Node) (a b c d : List Node)
@@ -73,9 +73,9 @@ pub grows_held : (groups : List (List Node)) (count begun total items : ℕ) (no
     → d ≡ set c count (held (get_or c count blank) (total - begun) items) → Grows (listing a count) (listing d total) (holding node groups)
 unfolding pushed
 grows_held groups count begun total items node a b c d one number all last h =
-    let first : listing b begun ≡ listing (set a count node) (count + 1) = one (omega (arith, h)) in
+    let first : listing b begun ≡ listing (set a count node) (count + 1) = one (omega arith) in
     let start : begun ≡ count + 1 = ap (λ (l : Listing). l.count) first in
-    let second : listing c total ≡ pushed_all (listing b begun) (joined groups) = all (omega (arith, h, start)) in
+    let second : listing c total ≡ pushed_all (listing b begun) (joined groups) = all (omega arith) in
     let third : listing c total ≡ pushed_all (listing (set a count node) (count + 1)) (joined groups) = second ∙ ap (λ l. pushed_all l (joined groups)) first in
     let size : total ≡ begun + length (joined groups) = ap (λ (l : Listing). l.count) second ∙ pushed_count (listing b begun) (joined groups) in
     let nodes : c ≡ (pushed_all (listing (set a count node) (count + 1)) (joined groups)).nodes = ap (λ (l : Listing). l.nodes) third in
@@ -85,7 +85,7 @@ grows_held groups count begun total items node a b c d one number all last h =
     let y = held (get_or (set a count node) count blank) inside (length groups) in
     let it : held (get_or c count blank) (total - begun) items ≡ y =
     ap (λ x. held x (total - begun) items) there
-    ∙ ap (λ n. held (get_or (set a count node) count blank) n items) {x = total - begun} {y = inside} (omega (arith, size))
+    ∙ ap (λ n. held (get_or (set a count node) count blank) n items) {x = total - begun} {y = inside} (omega arith)
     ∙ ap (λ n. held (get_or (set a count node) count blank) inside n) number in
     let put : listing d total ≡ listing (set c count y) total = ap (λ xs. listing xs total) (last ∙ ap (set c count) it) in
     put ∙ ap (λ (l : Listing). listing (set l.nodes count y) l.count) third

@@ -1,5 +1,5 @@
 -- Signed numbers of each width, in two's complement of 64 bits.
-use Rattle.std.proofs.Common.{◌≡◌, ℕ, suc, ◌*◌, ◌-◌, ◌<◌, ◌≤◌, ◌^◌, ◌%◌, ◌⊎◌, inl, inr, true, sym, ap, ◌∙◌, arith}
+use Rattle.std.proofs.Common.{◌≡◌, ℕ, suc, ◌*◌, ◌-◌, ◌<◌, ◌≤◌, ◌^◌, ◌%◌, inl, inr, true, sym, ap, ◌∙◌, arith}
 use Rattle.std.proofs.lemmas.Bool.Decides.{nat_tests}
 use Rattle.std.proofs.lemmas.Bool.{cases_lt}
 use Rattle.std.proofs.lemmas.Int.{to_z_pos}
@@ -24,16 +24,16 @@ high_bits bytes4 k below = ap (cast_unsigned w64) (to_z-neg w32 k below)
 high_bits bytes8 k below = ap (cast_unsigned w64) (to_z-neg w64 k below)
 
 low_rest : (width : NumberWidth) (n : ℕ) → n < half_limit width → n % number_limit width ≡ n
-low_rest bytes1 n few = omega (arith, few)
-low_rest bytes2 n few = omega (arith, few)
-low_rest bytes4 n few = omega (arith, few)
-low_rest bytes8 n few = omega (arith, few)
+low_rest bytes1 n few = omega arith
+low_rest bytes2 n few = omega arith
+low_rest bytes4 n few = omega arith
+low_rest bytes8 n few = omega arith
 
 high_rest : (width : NumberWidth) (k : ℕ) → k < half_limit width → (2 ^ 64 - suc k) % number_limit width ≡ number_limit width - suc k
-high_rest bytes1 k below = omega (arith, below)
-high_rest bytes2 k below = omega (arith, below)
-high_rest bytes4 k below = omega (arith, below)
-high_rest bytes8 k below = omega (arith, below)
+high_rest bytes1 k below = omega arith
+high_rest bytes2 k below = omega arith
+high_rest bytes4 k below = omega arith
+high_rest bytes8 k below = omega arith
 
 halves : (width : NumberWidth) → (number_limit width ≡ 2 * half_limit width) × (half_limit width ≤ 2 ^ 63)
 halves bytes1 = (omega arith, omega arith)
@@ -44,16 +44,18 @@ halves bytes8 = (omega arith, omega arith)
 -- ---- both ways
 
 -- a signed number that a width holds is the one that its lowest bits stand for
-pub signed_back : (width : NumberWidth) (n : ℕ) → (n < half_limit width) ⊎ ((2 ^ 64 - half_limit width ≤ n) × (n < 2 ^ 64))
-    → n ≡ cast_unsigned w64 (cast_signed (width_of width) (n % number_limit width))
-signed_back width n (inl few) = sym (ap (λ k. cast_unsigned w64 (cast_signed (width_of width) k)) (low_rest width n few) ∙ low_bits width n few)
-signed_back width n (inr most) =
-    let k = 2 ^ 64 - 1 - n in
-    let half = (halves width).1 in
-    let below : k < half_limit width = omega (arith, most.0, most.1, half) in
-    let back : 2 ^ 64 - suc k ≡ n = omega (arith, most.1) in
-    let rest : n % number_limit width ≡ number_limit width - suc k = ap (λ m. m % number_limit width) (sym back) ∙ high_rest width k below in
-    sym (ap (λ m. cast_unsigned w64 (cast_signed (width_of width) m)) rest ∙ high_bits width k below ∙ back)
+pub signed_back : (width : NumberWidth) (n : ℕ) → is_signed width n ≡ true → n ≡ cast_unsigned w64 (cast_signed (width_of width) (n % number_limit width))
+signed_back width n fits = elim (cases_lt n (half_limit width)) [
+  | inl few ↦ sym (ap (λ k. cast_unsigned w64 (cast_signed (width_of width) k)) (low_rest width n few) ∙ low_bits width n few)
+  | inr high ↦ (
+      let most : (2 ^ 64 - half_limit width ≤ n) × (n < 2 ^ 64) = (grind (arith, nat_tests), grind (arith, nat_tests)) in
+      let k = 2 ^ 64 - 1 - n in
+      let half = (halves width).1 in
+      let below : k < half_limit width = omega arith in
+      let back : 2 ^ 64 - suc k ≡ n = omega arith in
+      let rest : n % number_limit width ≡ number_limit width - suc k = ap (λ m. m % number_limit width) (sym back) ∙ high_rest width k below in
+      sym (ap (λ m. cast_unsigned w64 (cast_signed (width_of width) m)) rest ∙ high_bits width k below ∙ back))
+]
 
 -- the signed number that bits of a width stand for is one of the width, and has these lowest bits
 pub signed_bits : (width : NumberWidth) (bits number : ℕ) → bits < number_limit width
@@ -61,14 +63,14 @@ pub signed_bits : (width : NumberWidth) (bits number : ℕ) → bits < number_li
 signed_bits width bits number few is = elim (cases_lt bits (half_limit width)) [
   | inl low ↦ (
       let same : number ≡ bits = is ∙ low_bits width bits low in
-      (grind (arith, nat_tests, same, low), ap (λ n. n % number_limit width) same ∙ low_rest width bits low))
+      (grind (arith, nat_tests), ap (λ n. n % number_limit width) same ∙ low_rest width bits low))
   | inr high ↦ (
       let k = number_limit width - 1 - bits in
       let half = halves width in
-      let below : k < half_limit width = omega (arith, high, few, half.0) in
-      let back : number_limit width - suc k ≡ bits = omega (arith, few) in
+      let below : k < half_limit width = omega arith in
+      let back : number_limit width - suc k ≡ bits = omega arith in
       let same : number ≡ 2 ^ 64 - suc k = is ∙ ap (λ m. cast_unsigned w64 (cast_signed (width_of width) m)) (sym back) ∙ high_bits width k below in
-      let least : 2 ^ 64 - half_limit width ≤ number = omega (arith, same, below) in
-      let most : number < 2 ^ 64 = omega (arith, same, below, half.1) in
-      (grind (arith, nat_tests, least, most), ap (λ n. n % number_limit width) same ∙ high_rest width k below ∙ back))
+      let least : 2 ^ 64 - half_limit width ≤ number = omega arith in
+      let most : number < 2 ^ 64 = omega arith in
+      (grind (arith, nat_tests), ap (λ n. n % number_limit width) same ∙ high_rest width k below ∙ back))
 ]

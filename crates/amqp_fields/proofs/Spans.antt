@@ -1,5 +1,5 @@
 -- Where bytes stand in a payload: those of strings, keys, tables and arrays.
-use Rattle.std.proofs.Common.{◌≡◌, ℕ, zero, suc, ◌+◌, ◌-◌, ◌<◌, ◌≤◌, nat_lt, List, [], ◌∷◌, length, take, drop, refl, sym, ap, subst, ◌∙◌, arith}
+use Rattle.std.proofs.Common.{◌≡◌, ℕ, zero, suc, ◌+◌, ◌-◌, ◌<◌, ◌≤◌, nat_lt, List, [], ◌∷◌, length, take, drop, refl, sym, ap, ◌∙◌, arith}
 use Rattle.std.proofs.lemmas.Bool.Decides.{nat_tests}
 use Rattle.std.proofs.lemmas.List.{length-drop, length-take-le, drop-drop, drop-take, take-take, take_rest}
 use Rattle.amqp_types.proofs.Took.{bind_took, guard_took, value_took, count_took}
@@ -33,33 +33,32 @@ pub stands_part : (payload bytes : List ℕ) (end k n : ℕ) → Stands payload 
     → k + n ≤ length bytes → Stands payload (end - length (drop (k + n) bytes)) (take n (drop k bytes))
 stands_part payload bytes end k n h few =
     let rest : length (drop (k + n) bytes) ≡ length bytes - (k + n) = length-drop (k + n) bytes in
-    let size : length (take n (drop k bytes)) ≡ n = length-take-le n (drop k bytes) (omega (arith, length-drop k bytes, few)) in
+    let size : length (take n (drop k bytes)) ≡ n = length-take-le n (drop k bytes) (omega (arith, length-drop k bytes)) in
     let start = end - length bytes in
     let m = length bytes - k in
     let whole : drop k bytes ≡ take m (drop (start + k) payload) =
-    ap (drop k) (sym h.is ∙ ap (λ l. take l (drop start payload)) {x = length bytes} {y = k + m} (omega (arith, few)))
+    ap (drop k) (sym h.is ∙ ap (λ l. take l (drop start payload)) {x = length bytes} {y = k + m} (omega arith))
     ∙ drop-take k m (drop start payload) ∙ ap (take m) (drop-drop k start payload) in
-    let place : end - length (drop (k + n) bytes) - length (take n (drop k bytes)) ≡ start + k = omega (arith, rest, size, few, h.fits) in
+    let place : end - length (drop (k + n) bytes) - length (take n (drop k bytes)) ≡ start + k = omega arith in
     record {
-      within = omega (arith, h.within);
-      fits = omega (arith, rest, size, few, h.fits);
+      within = omega arith;
+      fits = omega arith;
       is = ap (λ l. take l (drop (end - length (drop (k + n) bytes) - length (take n (drop k bytes))) payload)) size ∙ ap (λ s. take n (drop s payload)) place
-          ∙ sym (ap (take n) whole ∙ take-take n m (drop (start + k) payload) (omega (arith, few)));
+          ∙ sym (ap (take n) whole ∙ take-take n m (drop (start + k) payload) (omega arith));
     }
 
 -- the bytes after so many
 pub stands_drop : (payload bytes : List ℕ) (end k : ℕ) → Stands payload end bytes → k ≤ length bytes → Stands payload end (drop k bytes)
 stands_drop payload bytes end k h few =
-    let part = stands_part payload bytes end k (length bytes - k) h (omega (arith, few)) in
-    let none : end - length (drop (k + (length bytes - k)) bytes) ≡ end = omega (arith, length-drop (k + (length bytes - k)) bytes, few) in
-    let P : ℕ → Type 0 = λ e. Stands payload e (take (length bytes - k) (drop k bytes)) in
-    subst (Stands payload end) (take_rest bytes k) (subst P none part)
+    let part = stands_part payload bytes end k (length bytes - k) h (omega arith) in
+    let none : end - length (drop (k + (length bytes - k)) bytes) ≡ end = omega (arith, length-drop (k + (length bytes - k)) bytes) in
+    rw (none, take_rest) at part
 
 -- ---- as spans
 
 -- bytes that stand in the payload are a span of it
 pub span_of : (payload bytes : List ℕ) (end : ℕ) → Stands payload end bytes → IsSpan payload (end - length bytes) (length bytes) bytes
-span_of payload bytes end h = record { within = omega (arith, h.within, h.fits); bytes_are = h.is }
+span_of payload bytes end h = record { within = omega arith; bytes_are = h.is }
 
 -- a place that a byte holds is not cut
 pub byte_below : (n : ℕ) → n < 256 → cut_byte n ≡ n
@@ -77,9 +76,8 @@ pub record IsPart (bytes content : List ℕ) (front used : ℕ) : Type 0 where
 pub part_stands : (payload bytes content : List ℕ) (end front used : ℕ) → Stands payload end bytes
     → IsPart bytes content front used → Stands payload (end - length (drop used bytes)) content
 part_stands payload bytes content end front used h part =
-    let stands = stands_part payload bytes end front (length content) h (omega (arith, part.used_is, part.within)) in
-    let P : ℕ → Type 0 = λ u. Stands payload (end - length (drop u bytes)) (take (length content) (drop front bytes)) in
-    subst (Stands payload (end - length (drop used bytes))) (sym part.is) (subst P (sym part.used_is) stands)
+    let stands = stands_part payload bytes end front (length content) h (omega arith) in
+    rw (← part.used_is, ← part.is) at stands
 
 -- a number takes as many bytes as its width
 pub number_took : (width : NumberWidth) (bytes : List ℕ) (x n : ℕ) → judge_number width bytes ≡ took x n → (n ≡ byte_count width) × (n ≤ length bytes)
@@ -100,13 +98,13 @@ long_part bytes content used h =
     let room : one.0 ≤ length (drop one.1 bytes) = let e = test.0 in grind (arith, nat_tests) in
     let size : length content ≡ one.0 = ap length (sym is) ∙ length-take-le one.0 (drop one.1 bytes) room in
     record {
-      used_is = omega (arith, count, size, front.0);
-      within = omega (arith, count, room, length-drop one.1 bytes, front.1);
+      used_is = omega arith;
+      within = omega (arith, length-drop one.1 bytes);
       is = sym is ∙ ap (λ k. take k (drop one.1 bytes)) (sym size) ∙ ap (λ k. take (length content) (drop k bytes)) front.0;
     }
 
 front_of : (bytes : List ℕ) (k : ℕ) → k ≡ length (key_in bytes) → 1 + k ≤ length bytes → key_in bytes ≡ take k (drop 1 bytes)
-front_of [] k is few = absurd (omega (arith, few))
+front_of [] k is few = absurd (omega arith)
 front_of (n ∷ bytes) k is few = sym (ap (λ j. take j bytes) is ∙ take_length n bytes)
   where
     take_length : (n : ℕ) (xs : List ℕ) → take (length (take n xs)) xs ≡ take n xs
@@ -120,7 +118,7 @@ short_part bytes text used h =
     let parts = text_parts bytes text used h in
     let size : length text ≡ length (key_in bytes) = ap length parts.0 in
     record {
-      used_is = omega (arith, parts.1, size);
-      within = omega (arith, parts.1, parts.3);
-      is = parts.0 ∙ front_of bytes (length text) size (omega (arith, size, parts.3));
+      used_is = omega arith;
+      within = omega arith;
+      is = parts.0 ∙ front_of bytes (length text) size (omega arith);
     }

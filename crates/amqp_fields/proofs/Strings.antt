@@ -1,6 +1,6 @@
 -- What strings are listed as: by what stands at the front of the bytes.
 use Rattle.std.proofs.Common.{◌≡◌, ℕ, ◌+◌, ◌-◌, ◌≤◌, ◌<◌, Bool, true, false, cond, List, [], ◌∷◌, length, get_or, take, drop, refl, sym}
-use Rattle.std.proofs.Common.{ap, subst, ◌∙◌, one-add, arith}
+use Rattle.std.proofs.Common.{ap, ◌∙◌, one-add, arith}
 use Rattle.std.specs.Prelude.{nat_lt}
 use Rattle.std.specs.Str.{is_utf8}
 use Rattle.std.proofs.lemmas.Bool.Decides.{nat_tests}
@@ -81,7 +81,7 @@ short_listed end label node i text rest at count more old new is after place one
         let behind : rest ≡ drop n i = after ∙ sym k.rest_is in
         let it : node ≡ spanned label (end_before end (drop n i)) key =
         one ∙ ap (λ e. spanned label e text) (place ∙ ap (λ (xs : List ℕ). end - length xs) behind) ∙ ap (spanned label (end_before end (drop n i))) same in
-        (omega (arith, k.used_is, ap length same), subst (λ (x : Node). Grows (listing old count) (listing new more) (x ∷ [])) it h)
+        (omega (arith, ap length same), rw it at h)
 
 -- a long string takes 4 bytes more than it has
 pub long_size : (i content : List ℕ) (used : ℕ) → judge_long_string i ≡ took content used → used ≡ 4 + length content
@@ -94,11 +94,9 @@ pub long_listed : (end : ℕ) (label node : Node) (i content : List ℕ) (used c
     → Lists (listed_span judge_long_string end label i) old count new (record { used = used; count = more })
 unfolding listed_span
 long_listed end label node i content used count more old new is one h =
-    let P : Judged (List ℕ) → Type 0 =
-    λ j. Lists (j >>= λ x. took (spanned label (end_before end (drop x.1 i)) x.0 ∷ []) x.1) old count new (record { used = used; count = more }) in
     let place : end - (length i - (4 + length content)) ≡ end_before end (drop used i) = omega (arith, long_size i content used is, length-drop used i) in
     let it : node ≡ spanned label (end_before end (drop used i)) content = one ∙ ap (λ e. spanned label e content) place in
-    subst P (sym is) (refl, subst (λ (x : Node). Grows (listing old count) (listing new more) (x ∷ [])) it h)
+    rw is (refl, rw it at h)
 
 -- where nothing was read, nothing needs to be listed
 pub unlisted : (judge : Judge (List ℕ)) (end : ℕ) (label : Node) (i : List ℕ) (old new : List Node) (count : ℕ) (step : Step)

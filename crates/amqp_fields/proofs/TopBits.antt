@@ -1,6 +1,8 @@
 -- The properties that a mask has, from its highest bit on.
 use Rattle.std.proofs.Common.{◌≡◌, ℕ, zero, suc, ◌+◌, ◌-◌, ◌*◌, ◌^◌, ◌<◌, ◌≤◌, eqb, Bool, true, false, List, [], ◌∷◌, ◌++◌, length, get_or, drop, map}
 use Rattle.std.proofs.Common.{refl, sym, ap, subst, ◌∙◌, arith}
+use Rattle.std.proofs.Math.Seq.{drop-cons}
+use Rattle.std.proofs.Math.ListN.{drop_of_length-le}
 use Rattle.std.proofs.lemmas.List.{get_or-map}
 use Rattle.amqp_canonical.specs.declared.shapes.Form.{Form}
 use Rattle.amqp_canonical.specs.Shapes.{form_of, property_of}
@@ -16,7 +18,8 @@ use Rattle.amqp_fields.specs.Listing.{listing}
 use Rattle.amqp_fields.proofs.Counted.{shapes_few}
 use Rattle.amqp_fields.proofs.PayloadsFound.{fourteen}
 use Rattle.amqp_fields.proofs.Pushing.{grows_none}
-use Rattle.amqp_fields.proofs.SlotSteps.{first, next_is, skipped, unskipped}
+use Rattle.amqp_fields.proofs.SlotSteps.{first}
+use Rattle.amqp_fields.proofs.Spans.{byte_below}
 
 -- the highest bit of a mask, and the others
 pub record HasTop (mask bit others : ℕ) : Type 0 where
@@ -30,8 +33,8 @@ top_set mask bit others h =
 
 above_top : (mask bit others k : ℕ) → HasTop mask bit others → bit < k → flag_at mask k ≡ false
 above_top mask bit others k h up =
-    ap (λ m. flag_at m k) h.parts ∙ ap (λ n. eqb n 1) (bit_at_cat_high 1 bit others k h.below (omega (arith, up)))
-    ∙ ap (λ n. eqb n 1) (bit_at_above 1 1 (k - bit) (omega arith) (omega (arith, up)))
+    ap (λ m. flag_at m k) h.parts ∙ ap (λ n. eqb n 1) (bit_at_cat_high 1 bit others k h.below (omega arith))
+    ∙ ap (λ n. eqb n 1) (bit_at_above 1 1 (k - bit) (omega arith) (omega arith))
 
 not_others : (mask bit others k : ℕ) → HasTop mask bit others → bit ≤ k → flag_at others k ≡ false
 not_others mask bit others k h up = ap (λ n. eqb n 1) (bit_at_above others bit k h.below up)
@@ -48,10 +51,32 @@ all_fall : Falls 16 properties
 unfolding properties later_properties
 all_fall = (refl, (refl, (refl, (refl, (refl, (refl, (refl, (refl, (refl, (refl, (refl, (refl, (refl, (refl, tt))))))))))))))
 
-bit_at_place : (ps : List Property) (k top : ℕ) (p : Property) → Falls top ps → k < length ps → (get_or ps k p).bit + 1 + k ≡ top
-bit_at_place [] k top p falls some = absurd (omega (arith, some))
-bit_at_place (q ∷ ps) zero top p falls some = omega (arith, falls.0)
-bit_at_place (q ∷ ps) (suc k) top p falls some = omega (arith, falls.0, bit_at_place ps k q.bit p falls.1 (omega (arith, some)))
+falls_drop : (ps : List Property) (k top : ℕ) → Falls top ps → k ≤ length ps → Falls (top - k) (drop k ps)
+falls_drop ps zero top falls few = subst (λ t. Falls t ps) {x = top} {y = top - 0} (omega arith) falls
+falls_drop [] (suc k) top falls few = absurd (omega arith)
+falls_drop (p ∷ ps) (suc k) top falls few =
+    subst (λ t. Falls t (drop k ps)) {x = p.bit - k} {y = top - suc k} (omega arith) (falls_drop ps k p.bit falls.1 (omega arith))
+
+nothing_first : (j : Judged (List Node)) → (j >>= λ y. took ([] ++ y.0) (0 + y.1)) ≡ j
+nothing_first (took added n) = ap (took added) {x = 0 + n} {y = n} (omega arith)
+nothing_first past = refl
+nothing_first (fault bad) = refl
+
+-- properties that the mask does not have are passed
+passed : (mask k : ℕ) (deep : Bool) (end place top : ℕ) (ps : List Property) (bytes : List ℕ) → Falls top ps → k ≤ length ps → place + k < 256
+    → ((b : ℕ) → top ≤ b + k → flag_at mask b ≡ false) → listed_set mask deep end place ps bytes ≡ listed_set mask deep end (place + k) (drop k ps) bytes
+unfolding listed_set listed_option
+passed mask zero deep end place top ps bytes falls few room off = ap (λ n. listed_set mask deep end n ps bytes) {x = place} {y = place + 0} (omega arith)
+passed mask (suc k) deep end place top [] bytes falls few room off = absurd (omega arith)
+passed mask (suc k) deep end place top (p ∷ ps) bytes falls few room off =
+    ap
+    (λ b. listed_option b deep end place p.form bytes
+    >>= λ x. listed_set mask deep end (next_place place 1) ps (drop x.1 bytes) >>= λ y. took (x.0 ++ y.0) (x.1 + y.1))
+    (off p.bit (omega arith))
+    ∙ nothing_first (listed_set mask deep end (next_place place 1) ps bytes)
+    ∙ ap (λ n. listed_set mask deep end n ps bytes) (byte_below (place + 1) (omega arith))
+    ∙ passed mask k deep end (place + 1) p.bit ps bytes falls.1 (omega arith) (omega arith) (λ b up. off b (omega arith))
+    ∙ ap (λ n. listed_set mask deep end n (drop k ps) bytes) {x = place + 1 + k} {y = place + suc k} (omega arith)
 
 behind : (j : Judged (List Node)) (f g : Judge (List Node)) (bytes : List ℕ) → ((xs : List ℕ) → f xs ≡ g xs)
     → (j >>= λ x. f (drop x.1 bytes) >>= λ y. took (x.0 ++ y.0) (x.1 + y.1)) ≡ (j >>= λ x. g (drop x.1 bytes) >>= λ y. took (x.0 ++ y.0) (x.1 + y.1))
@@ -65,72 +90,34 @@ lower : (mask bit others top : ℕ) (deep : Bool) (end place : ℕ) (ps : List P
 unfolding listed_set listed_option
 lower mask bit others top deep end place [] bytes h down falls = refl
 lower mask bit others top deep end place (p ∷ ps) bytes h down falls =
-    let same : flag_at others p.bit ≡ flag_at mask p.bit = sym (same_below mask bit others p.bit h (omega (arith, falls.0, down))) in
+    let same : flag_at others p.bit ≡ flag_at mask p.bit = sym (same_below mask bit others p.bit h (omega arith)) in
     ap
     (λ b. listed_option b deep end place p.form bytes
     >>= λ x. listed_set others deep end (next_place place 1) ps (drop x.1 bytes) >>= λ y. took (x.0 ++ y.0) (x.1 + y.1))
     same
     ∙ behind (listed_option (flag_at mask p.bit) deep end place p.form bytes)
     (listed_set others deep end (next_place place 1) ps) (listed_set mask deep end (next_place place 1) ps) bytes
-    (λ xs. lower mask bit others p.bit deep end (next_place place 1) ps xs h (omega (arith, falls.0, down)) falls.1)
+    (λ xs. lower mask bit others p.bit deep end (next_place place 1) ps xs h (omega arith) falls.1)
 
--- where the property of the highest bit stands, it is listed, and then those of the others
-top_from : (mask bit others top : ℕ) (deep : Bool) (end place k : ℕ) (ps : List Property)
-    (p : Property) (i rest : List ℕ) (old mid new : List Node) (count total : ℕ) (step : Step)
-    → HasTop mask bit others → Falls top ps → k < length ps → (get_or ps k p).bit ≡ bit → place + length ps < 256
-    → Lists (listed_form deep end (place + k) (get_or ps k p).form i) old count mid step → rest ≡ drop step.used i
-    → Counts (listed_set others deep end place ps rest) mid step.count new total → Counts (listed_set mask deep end place ps i) old count new total
+-- the property of the highest bit is listed, and then those of the others
+top_first : (mask bit others : ℕ) (deep : Bool) (end place : ℕ) (p : Property)
+    (ps : List Property) (i rest : List ℕ) (old mid new : List Node) (count total : ℕ)
+    (step : Step) → HasTop mask bit others → Falls (suc bit) (p ∷ ps) → place + 1 < 256 → Lists (listed_form deep end place p.form i) old count mid step
+    → rest ≡ drop step.used i → Counts (listed_set others deep end (place + 1) ps rest) mid step.count new total
+    → Counts (listed_set mask deep end place (p ∷ ps) i) old count new total
 unfolding listed_set listed_option
-top_from mask bit others top deep end place k [] p i rest old mid new count total step h falls some is few one e all = absurd (omega (arith, some))
-top_from mask bit others top deep end place zero (q ∷ ps) p i rest old mid new count total step h falls some is few one e all =
-    let next : place + 1 ≡ next_place place 1 = next_is place (length (q ∷ ps)) (omega arith) few in
-    let on : flag_at mask q.bit ≡ true = ap (flag_at mask) is ∙ top_set mask bit others h in
-    let off : flag_at others q.bit ≡ false = not_others mask bit others q.bit h (omega (arith, is)) in
-    let F : ℕ → Type 0 = λ n. Lists (listed_form deep end n q.form i) old count mid step in
-    let P : Bool → Type 0 = λ b.
-    Counts
-    (listed_option b deep end place q.form i >>= λ x. listed_set mask deep end (next_place place 1) ps (drop x.1 i) >>= λ y. took (x.0 ++ y.0) (x.1 + y.1))
-    old count new total in
-    let Q : Bool → Type 0 = λ b.
-    Counts
-    (listed_option b deep end place q.form rest
-    >>= λ x. listed_set others deep end (next_place place 1) ps (drop x.1 rest) >>= λ y. took (x.0 ++ y.0) (x.1 + y.1))
-    mid step.count new total in
-    let left : Counts (listed_set others deep end (next_place place 1) ps rest) mid step.count new total =
-    unskipped (listed_set others deep end (next_place place 1) ps rest) mid new step.count total (subst Q off all) in
-    let R : Judged (List Node) → Type 0 = λ j. Counts j mid step.count new total in
-    subst P (sym on) (first (listed_form deep end place q.form i) (listed_set mask deep end (next_place place 1) ps)
-    i rest old mid new count total step (subst F {x = place + 0} {y = place} (omega arith) one) e
-    (subst R (lower mask bit others q.bit deep end (next_place place 1) ps rest h (omega (arith, is)) falls.1) left))
-top_from mask bit others top deep end place (suc k) (q ∷ ps) p i rest old mid new count total step h falls some is few one e all =
-    let next : place + 1 ≡ next_place place 1 = next_is place (length (q ∷ ps)) (omega arith) few in
-    let up : bit < q.bit = let below = bit_at_place ps k q.bit p falls.1 (omega (arith, some)) in omega (arith, below, is) in
-    let off : flag_at mask q.bit ≡ false = above_top mask bit others q.bit h up in
-    let out : flag_at others q.bit ≡ false = not_others mask bit others q.bit h (omega (arith, up)) in
-    let P : Bool → Type 0 = λ b.
-    Counts
-    (listed_option b deep end place q.form i >>= λ x. listed_set mask deep end (next_place place 1) ps (drop x.1 i) >>= λ y. took (x.0 ++ y.0) (x.1 + y.1))
-    old count new total in
-    let Q : Bool → Type 0 = λ b.
-    Counts
-    (listed_option b deep end place q.form rest
-    >>= λ x. listed_set others deep end (next_place place 1) ps (drop x.1 rest) >>= λ y. took (x.0 ++ y.0) (x.1 + y.1))
-    mid step.count new total in
-    let left : Counts (listed_set others deep end (next_place place 1) ps rest) mid step.count new total =
-    unskipped (listed_set others deep end (next_place place 1) ps rest) mid new step.count total (subst Q out all) in
-    let S : ℕ → Type 0 = λ n. Counts (listed_set others deep end n ps rest) mid step.count new total in
-    let T : ℕ → Type 0 = λ n. Counts (listed_set mask deep end n ps i) old count new total in
-    let F : ℕ → Type 0 = λ n. Lists (listed_form deep end n (get_or ps k p).form i) old count mid step in
-    let below =
-    top_from mask bit others q.bit deep end (place + 1) k ps p i rest old mid new count total step h falls.1 (omega (arith, some)) is
-    (omega (arith, few)) (subst F {x = place + suc k} {y = place + 1 + k} (omega arith) one) e (subst S (sym next) left) in
-    subst P (sym off) (skipped (listed_set mask deep end (next_place place 1) ps i) old new count total (subst T next below))
+top_first mask bit others deep end place p ps i rest old mid new count total step h falls few one e all =
+    let is : p.bit ≡ bit = omega arith in
+    let same = lower mask bit others p.bit deep end (place + 1) ps rest h (omega arith) falls.1 in
+    rw (is, top_set mask bit others h)
+    (first (listed_form deep end place p.form i) (listed_set mask deep end (next_place place 1) ps) i rest old mid new count total step one e
+    (rw (same, ← byte_below (place + 1) few) at all))
 
 -- ---- by their shapes
 
 two_up : (mask bit : ℕ) → 4 ≤ mask → mask < 2 * 2 ^ bit → 2 ≤ bit
-two_up mask zero some below = absurd (omega (arith, some, below))
-two_up mask (suc zero) some below = absurd (omega (arith, some, below))
+two_up mask zero some below = absurd (omega (arith, below))
+two_up mask (suc zero) some below = absurd (omega (arith, below))
 two_up mask (suc (suc bit)) some below = omega arith
 
 -- a highest bit above bits 1 and 0 has the shape of a property
@@ -148,61 +135,34 @@ top_listed mask bit others deep end shapes other i rest old mid new count total 
     let k = 15 - bit in
     let p = property_of other in
     let up = two_up mask bit some high in
-    let there : k < length properties = omega (arith, fourteen, up) in
-    let is : (get_or properties k p).bit ≡ bit = let at = bit_at_place properties k 16 p all_fall there in omega (arith, at, few) in
+    let there : k < length properties = omega (arith, fourteen) in
+    let top : HasTop mask bit others = record { parts = omega arith; below = omega arith } in
+    let cut = drop-cons properties k p there in
     let same : get_or properties k p ≡ property_of (get_or shapes k other) =
-    ap (λ ps. get_or ps k p) (sym are) ∙ get_or-map property_of shapes k other p (omega (arith, shapes_few shapes are, up)) in
-    let top : HasTop mask bit others = record { parts = omega (arith, left, low); below = omega (arith, left, low, high) } in
-    let G : Property → Type 0 = λ q. Lists (listed_form deep end k q.form i) old count mid step in
-    let F : ℕ → Type 0 = λ n. Lists (listed_form deep end n (get_or properties k p).form i) old count mid step in
-    top_from mask bit others 16 deep end 0 k properties p i rest old mid new count total step top all_fall there is
-    (omega (arith, fourteen)) (subst F {x = k} {y = 0 + k} (omega arith) (subst G (sym same) one)) e all
-
--- none of these properties is in the mask
-abbrev AllOff : ℕ → List Property → Type 0
-AllOff mask [] = Unit {0}
-AllOff mask (p ∷ ps) = (flag_at mask p.bit ≡ false) × AllOff mask ps
-
-none_set : (mask : ℕ) (deep : Bool) (end place : ℕ) (ps : List Property) (i : List ℕ) (old : List Node) (count : ℕ)
-    → AllOff mask ps → Counts (listed_set mask deep end place ps i) old count old count
-unfolding listed_set listed_option
-none_set mask deep end place [] i old count off = grows_none (listing old count)
-none_set mask deep end place (p ∷ ps) i old count off =
-    let P : Bool → Type 0 = λ b.
-    Counts
-    (listed_option b deep end place p.form i >>= λ x. listed_set mask deep end (next_place place 1) ps (drop x.1 i) >>= λ y. took (x.0 ++ y.0) (x.1 + y.1))
-    old count old count in
-    subst P (sym off.0)
-    (skipped (listed_set mask deep end (next_place place 1) ps i) old old count count (none_set mask deep end (next_place place 1) ps i old count off.1))
-
-abbrev Up : List Property → Type 0
-Up [] = Unit {0}
-Up (p ∷ ps) = (2 ≤ p.bit) × Up ps
-
-all_up : Up properties
-unfolding properties later_properties
-all_up = (
-  omega arith,
-  (
-    omega arith,
-    (
-      omega arith,
-      (
-        omega arith,
-        (
-          omega arith,
-          (omega arith, (omega arith, (omega arith, (omega arith, (omega arith, (omega arith, (omega arith, (omega arith, (omega arith, tt))))))))),
-        ),
-      ),
-    ),
-  ),
-)
-
-all_off : (mask : ℕ) (ps : List Property) → mask < 4 → Up ps → AllOff mask ps
-all_off mask [] small up = tt
-all_off mask (p ∷ ps) small up = (ap (λ n. eqb n 1) (bit_at_above mask 2 p.bit small up.0), all_off mask ps small up.1)
+    ap (λ ps. get_or ps k p) (sym are) ∙ get_or-map property_of shapes k other p (omega (arith, shapes_few shapes are)) in
+    let falls : Falls (suc bit) (get_or properties k p ∷ drop (suc k) properties) =
+    subst (Falls (suc bit)) cut
+    (subst (λ t. Falls t (drop k properties)) {x = 16 - k} {y = suc bit} (omega arith) (falls_drop properties k 16 all_fall (omega arith))) in
+    let mine =
+    passed mask k deep end 0 16 properties i all_fall (omega arith) (omega (arith, fourteen))
+    (λ b far. above_top mask bit others b top (omega arith))
+    ∙ ap (λ n. listed_set mask deep end n (drop k properties) i) {x = 0 + k} {y = k} (omega arith) ∙ ap (λ ps. listed_set mask deep end k ps i) cut in
+    let theirs =
+    passed others (suc k) deep end 0 16 properties rest all_fall (omega arith) (omega (arith, fourteen))
+    (λ b far. not_others mask bit others b top (omega arith))
+    ∙ ap (λ n. listed_set others deep end n (drop (suc k) properties) rest) {x = 0 + suc k} {y = k + 1} (omega arith) in
+    let F : Property → Type 0 = λ q. Lists (listed_form deep end k q.form i) old count mid step in
+    rw mine
+    (top_first mask bit others deep end k (get_or properties k p) (drop (suc k) properties) i rest old mid new count total step top falls
+    (omega (arith, fourteen)) (subst F (sym same) one) e (rw theirs at all))
 
 -- no property has bit 1 or 0
 pub none_listed : (mask : ℕ) (deep : Bool) (end : ℕ) (i : List ℕ) (old : List Node) (count : ℕ)
     → mask < 4 → Counts (listed_set mask deep end 0 properties i) old count old count
-none_listed mask deep end i old count small = none_set mask deep end 0 properties i old count (all_off mask properties small all_up)
+unfolding listed_set
+none_listed mask deep end i old count small =
+    let all =
+    passed mask 14 deep end 0 16 properties i all_fall (omega (arith, fourteen)) (omega arith)
+    (λ b far. ap (λ n. eqb n 1) (bit_at_above mask 2 b small (omega arith)))
+    ∙ ap (λ ps. listed_set mask deep end 14 ps i) (drop_of_length-le properties {i = 14} (omega (arith, fourteen))) in
+    rw all (grows_none (listing old count))

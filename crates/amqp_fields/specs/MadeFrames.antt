@@ -1,12 +1,15 @@
 -- The bytes that heads and nodes make, or the first head or node that is refused,
 -- from left to right.
-use Rattle.std.specs.Prelude.{ℕ, ◌+◌, ◌==◌, ◌&&◌, nat_lt, nat_le, Bool, if◌then◌else◌, List, []}
-use Rattle.std.specs.Prelude.{◌∷◌, ◌++◌, length, take, drop, Option, Some, None, Result, Ok, Err}
+use Rattle.std.specs.Prelude.{ℕ, ◌+◌, ◌==◌, ◌&&◌, ◌||◌, nat_lt, nat_le, Bool, if◌then◌else◌, List}
+use Rattle.std.specs.Prelude.{[], ◌∷◌, ◌++◌, length, take, drop, Option, Some, None, Result, Ok}
+use Rattle.std.specs.Prelude.{Err}
 use Rattle.amqp_types.specs.Numbers.{bytes2, bytes8, number_bytes}
 use Rattle.amqp_types.specs.Slots.{Slot}
 use Rattle.amqp_types.specs.Rows.{Row, rows_of, slots_at}
 use Rattle.amqp_types.specs.Constants.{protocol_byte, method_byte, header_byte, body_byte}
 use Rattle.amqp_types.specs.Constants.{heartbeat_byte, protocol_mark}
+use Rattle.amqp_types.specs.Tags.{tag_byte}
+use Rattle.amqp_types.specs.declared.tag.FieldTag.TheVariants as tag
 use Rattle.amqp_types.specs.declared.errors.ParserError.{ParserError}
 use Rattle.amqp_types.specs.declared.errors.ParserError.TheVariants as errors
 use Rattle.amqp_wire.specs.Spelling.{framed}
@@ -113,11 +116,30 @@ made_around m head (Ok payload) =
     else Ok (framed head.frame_type head.channel payload)
 made_around m head (Err bad) = Err bad
 
--- a frame, by its type
+-- nothing lies inside a table or an array, by the kind of a field or the tag of a value: its
+-- content stands in the pool as bytes
+abbrev pub is_given : Node → Bool
+is_given node =
+    (node.inside == 0)
+    && ((node.kind == 8)
+    || ((node.kind == tag_byte tag.FieldArray) || (node.kind == tag_byte tag.FieldTable)))
+
+-- how many bytes such contents of some nodes have
+unfoldable pub given_length : List Node → ℕ
+given_length [] = 0
+given_length (node ∷ nodes) = (if is_given node then node.length else 0) + given_length nodes
+
+-- those of the nodes of a head alone have more than m bytes
+abbrev pub are_beyond : ℕ → List Node → Head → Bool
+are_beyond m nodes head = nat_lt m (given_length (take head.nodes (drop head.first nodes)))
+
+-- a frame, by its type; where contents that are given as bytes alone are too large, the payload is
+-- not looked at
 unfoldable pub made_typed : List ℕ → List Node → ℕ → Head → Made
 made_typed pool nodes m head =
     if head.frame_type == protocol_byte then made_version pool nodes head
-    else made_around m head (made_payload pool nodes head)
+    else (if are_beyond m nodes head then refuse_head whys.TooLarge
+    else made_around m head (made_payload pool nodes head))
 
 -- its numbers are within the widths of their members, as those of each head of a program are
 abbrev pub is_held : Head → Bool

@@ -1,50 +1,58 @@
--- What calls return that put bytes where a buffer has room for them.
+-- What calls return that count what is made, or look at its parts.
 use Rattle.std.specs.Prelude.{◌≡◌, ◌≤◌, ◌<◌, ◌^◌, ◌+◌, ℕ, nat_lt, if◌then◌else◌, Bool, List, []}
 use Rattle.std.specs.Prelude.{◌∷◌, true, false, length, drop, Result, Ok, Err}
 use Rattle.amqp_types.specs.Flags.{flags_byte}
-use Rattle.amqp_types.specs.Numbers.{bytes4, number_bytes}
-use Rattle.amqp_types.specs.Constants.{end_byte}
-use Rattle.amqp_types.specs.Writing.{written}
 use Rattle.amqp_types.specs.Properties.{Property, properties}
-use Rattle.amqp_wire.specs.Spelling.{head}
+use Rattle.amqp_types.specs.Slots.{Form}
 use Rattle.amqp_fields.specs.declared.node.Node.{Node}
 use Rattle.amqp_fields.specs.declared.refusals.Refusal.{Refusal}
-use Rattle.amqp_fields.specs.declared.refusals.WriteRefusal.TheVariants as whys
-use Rattle.amqp_fields.specs.Made.{refusal, refusal_of_head}
-use Rattle.amqp_fields.specs.MadeFields.{is_field}
+use Rattle.amqp_fields.specs.Made.{Made, Maker, made_array, made_entry, made_long, made_table}
+use Rattle.amqp_fields.specs.Made.{made_text, made_value}
+use Rattle.amqp_fields.specs.MadeFields.{group_size, is_field, is_next, made_field}
+use Rattle.amqp_fields.specs.MadeFrames.{is_given}
 
 -- as 8 bytes hold it, or the greatest number that they hold
 abbrev pub cut_long : ℕ → ℕ
 cut_long n = if nat_lt n 18446744073709551615 then n else 18446744073709551615
 
--- bytes were counted, and put where the buffer has room for them
-pub record ArePut (old new : List ℕ) (at : ℕ) (bytes : List ℕ) (count : ℕ) : Type 0 where
-  pub count_is : count ≡ cut_long (length bytes)
-  pub same_length : length new ≡ length old
-  pub put : length old < 2 ^ 64 → at + length bytes ≤ length old → new ≡ written old at bytes
-
--- these bytes were made, and put where the buffer has room for them
-pub record Gives {E : Type 0} (made : Result (List ℕ) E)
-    (old new : List ℕ) (at count : ℕ) : Type 0 where
+-- what was made has so many bytes
+pub record IsCounted {E : Type 0} (made : Result (List ℕ) E) (count : ℕ) : Type 0 where
   pub bytes : List ℕ
   pub is : made ≡ Ok bytes
-  pub are_put : ArePut old new at bytes count
+  pub count_is : count ≡ cut_long (length bytes)
 
--- what was made, or the refusal
-abbrev pub Makes : {E : Type 0} → Result (List ℕ) E → List ℕ → List ℕ → ℕ → Result ℕ E → Type 0
-Makes made old new at (Ok count) = Gives made old new at count
-Makes made old new at (Err bad) = made ≡ Err bad
+-- how many bytes are made, or the refusal
+abbrev pub Measures : {E : Type 0} → Result (List ℕ) E → Result ℕ E → Type 0
+Measures made (Ok count) = IsCounted made count
+Measures made (Err bad) = made ≡ Err bad
 
--- a length was put in front of so many bytes, and both are counted
-pub record IsClosed (length : ℕ) (old new : List ℕ) (at count : ℕ) : Type 0 where
-  pub fits : length < 2 ^ 32
-  pub are_put : ArePut old new at (number_bytes bytes4 length) 4
-  pub count_is : count ≡ 4 + length
+-- a short string, or else a long one
+abbrev pub made_string : Bool → ℕ → List ℕ → Made
+made_string true = made_text
+made_string false = made_long
 
--- the same, or 4 bytes do not hold it
-abbrev pub Closes : ℕ → ℕ → List ℕ → List ℕ → ℕ → Result ℕ Refusal → Type 0
-Closes node length old new at (Ok count) = IsClosed length old new at count
-Closes node length old new at (Err bad) = (2 ^ 32 ≤ length) × (bad ≡ refusal node whys.TooLong)
+-- an entry, or else a value
+abbrev pub made_item : Bool → List ℕ → ℕ → Maker
+made_item true pool depth_left = made_entry pool (made_value pool depth_left)
+made_item false pool depth_left = made_value pool depth_left
+
+-- a table of entries, or else an array of values
+abbrev pub made_group : Bool → List ℕ → ℕ → Maker
+made_group true pool depth_left = made_table pool depth_left (made_value pool depth_left)
+made_group false pool depth_left = made_array pool depth_left (made_value pool depth_left)
+
+-- the property at a place, where the first of the nodes is at it
+abbrev pub made_property : List ℕ → ℕ → ℕ → Form → List Node → Made
+made_property pool end place form nodes =
+    if is_next place nodes then made_field pool end place form nodes else Ok []
+
+-- how many of the nodes it has, with those inside them
+abbrev pub property_nodes : ℕ → List Node → ℕ
+property_nodes place nodes = if is_next place nodes then group_size nodes else 0
+
+-- the content of a table or an array that a node gives as bytes: how many they are
+abbrev pub given_bytes : Node → ℕ
+given_bytes node = if is_given node then node.length else 0
 
 -- the node is this property, at a place or after it
 pub record IsProperty (place : ℕ) (node : Node) (p : Property) : Type 0 where
@@ -71,20 +79,3 @@ pub record IsFlagsByte (read : Result (List Bool) Refusal) (count byte : ℕ) : 
 abbrev pub MakesFlags : Result (List Bool) Refusal → ℕ → Result ℕ Refusal → Type 0
 MakesFlags read count (Ok byte) = IsFlagsByte read count byte
 MakesFlags read count (Err bad) = read ≡ Err bad
-
--- type, channel and length were put in front of a payload of so many bytes, and the
--- end byte after it
-pub record IsSurrounded (type channel payload m : ℕ)
-    (old new : List ℕ) (at count : ℕ) : Type 0 where
-  pub within : payload ≤ m
-  pub mid : List ℕ
-  pub front : ArePut old mid at (head type channel payload) 7
-  pub ended : ArePut mid new (cut_long (cut_long (at + 7) + payload)) (end_byte ∷ []) 1
-  pub count_is : count ≡ payload + 8
-
--- the same, or the payload is longer than m bytes
-abbrev pub Surrounds : ℕ → ℕ → ℕ → ℕ → List ℕ → List ℕ → ℕ → Result ℕ Refusal → Type 0
-Surrounds type channel payload m old new at (Ok count) =
-    IsSurrounded type channel payload m old new at count
-Surrounds type channel payload m old new at (Err bad) =
-    (m < payload) × (bad ≡ refusal_of_head whys.TooLarge)

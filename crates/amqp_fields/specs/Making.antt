@@ -19,7 +19,7 @@ use Rattle.amqp_fields.specs.declared.refusals.WriteError.TheVariants as failure
 use Rattle.amqp_fields.specs.declared.refusals.WriteRefusal.{WriteRefusal}
 use Rattle.amqp_fields.specs.declared.refusals.WriteRefusal.TheVariants as whys
 use Rattle.amqp_fields.specs.Made.{Made, made_each, made_entry, made_value, refuse_head}
-use Rattle.amqp_fields.specs.MadeFrames.{at_head, made_frames, made_payload}
+use Rattle.amqp_fields.specs.MadeFrames.{at_head, given_length, made_frames, made_payload}
 use Rattle.amqp_fields.specs.Makes.{cut_long}
 use Rattle.amqp_fields.specs.Meaning.{AreNodes, IsSpan}
 use Rattle.amqp_fields.specs.Meant.{TellFrames, TellsEntry, TellsValue}
@@ -166,13 +166,22 @@ pub record IsTooLarge (level : Level) (pool : List ℕ) (nodes : List Node) (m :
   pub index_is : index ≡ None
   pub because_is : because ≡ whys.TooLarge
 
--- a head whose frame is meant is refused: for one of its nodes, or for its payload
+-- a head is refused, since contents that its nodes have in the pool as bytes have more than m bytes
+pub record AreTooLarge (nodes : List Node) (m : ℕ) (head : given.Head)
+    (index : Option ℕ) (because : WriteRefusal) : Type 0 where
+  pub large : m < given_length (take head.nodes (drop head.first nodes))
+  pub index_is : index ≡ None
+  pub because_is : because ≡ whys.TooLarge
+
+-- a head whose frame is meant is refused: for one of its nodes, for its payload, or for contents in
+-- it that are given as bytes
 abbrev pub RefusesHead : Level → List ℕ → List Node
     → ℕ → given.Head → Frame → Option ℕ → WriteRefusal → Type 0
 RefusesHead level pool nodes m head frame index because =
     IsLongIn level pool (head.first + head.nodes) (take head.nodes (drop head.first nodes))
     index because
-    ⊎ IsTooLarge level pool nodes m head frame index because
+    ⊎ (IsTooLarge level pool nodes m head frame index because
+    ⊎ AreTooLarge nodes m head index because)
 
 -- This one of the heads from the k-th on is the first that is refused: those before it are made,
 -- and encode their frames.

@@ -51,3 +51,7 @@ pub record StandsFirst (nodes : List Node) (node : Node) (inside others : List N
 abbrev pub PassesEnd : List Node → Type 0
 PassesEnd nodes =
     (node : Node) (others : List Node) → nodes ≡ node ∷ others → length others < node.inside
+
+-- something lies inside the first node, where there is one
+abbrev pub NoneAlone : List Node → Type 0
+NoneAlone nodes = (node : Node) (others : List Node) → nodes ≡ node ∷ others → 0 < node.inside

@@ -1,11 +1,19 @@
--- What the quick walk leaves: a place after what was made, or none, where nothing is known.
+-- What the quick walk leaves: a place after what was made, or none.
 use Rattle.std.specs.Prelude.{◌≡◌, ◌≤◌, ◌<◌, ◌^◌, ◌+◌, ◌-◌, ℕ, Bool, true, List, []}
-use Rattle.std.specs.Prelude.{◌∷◌, length, Result, Ok}
+use Rattle.std.specs.Prelude.{◌∷◌, length, if◌then◌else◌, Result, Ok}
 use Rattle.amqp_types.specs.Numbers.{bytes4, number_bytes}
 use Rattle.amqp_types.specs.Constants.{end_byte}
+use Rattle.amqp_types.specs.Slots.{Form, table_form}
 use Rattle.amqp_types.specs.Writing.{written}
 use Rattle.amqp_wire.specs.Spelling.{head}
-use Rattle.amqp_fields.specs.Made.{Made}
+use Rattle.amqp_fields.specs.declared.node.Node.{Node}
+use Rattle.amqp_fields.specs.Made.{Made, misfit}
+use Rattle.amqp_fields.specs.MadeFields.{is_field}
+use Rattle.amqp_fields.specs.Nodes.{NoneAlone, PassesEnd}
+
+-- no place: the greatest number of 8 bytes
+abbrev pub nowhere : ℕ
+nowhere = 18446744073709551615
 
 -- bytes were made, which end at a place; where they are put, from a place of the buffer on, they
 -- stand in it
@@ -18,13 +26,41 @@ pub record IsLaid {E : Type 0} (puts : Bool) (made : Result (List ℕ) E)
   pub within : puts ≡ true → at ≤ length old → end ≤ length old
   pub put : puts ≡ true → at ≤ length old → new ≡ written old at bytes
 
--- the same, where the place after them is one
-abbrev pub Lays : {E : Type 0} → Bool → Result (List ℕ) E → List ℕ → List ℕ → ℕ → ℕ → Type 0
-Lays puts made old new at end = end < 18446744073709551615 → IsLaid puts made old new at end
+-- Bytes are made, and have room from a place on: they end before the greatest number and not beyond
+-- a limit, and where they are put, within the buffer.
+pub record HaveRoom {E : Type 0} (puts : Bool) (limit : ℕ) (made : Result (List ℕ) E)
+    (old : List ℕ) (at : ℕ) : Type 0 where
+  pub bytes : List ℕ
+  pub is : made ≡ Ok bytes
+  pub few : at + length bytes < nowhere
+  pub until : at + length bytes ≤ limit
+  pub within : puts ≡ true → at + length bytes ≤ length old
 
--- of these bytes
-abbrev pub LaysBytes : Bool → List ℕ → List ℕ → List ℕ → ℕ → ℕ → Type 0
-LaysBytes puts bytes old new at end = let made : Made = Ok bytes in Lays puts made old new at end
+-- where it is tested what is made, a place says that bytes are made and laid; and bytes that are
+-- made and have room are laid
+pub record LaysUntil {E : Type 0} (tests puts : Bool) (limit : ℕ) (made : Result (List ℕ) E)
+    (old new : List ℕ) (at end : ℕ) : Type 0 where
+  pub sound : tests ≡ true → end < nowhere → IsLaid puts made old new at end
+  pub complete : HaveRoom puts limit made old at → IsLaid puts made old new at end
+
+-- the same without a limit
+abbrev pub Lays : {E : Type 0} → Bool → Bool → Result (List ℕ) E
+    → List ℕ → List ℕ → ℕ → ℕ → Type 0
+Lays tests puts made old new at end = LaysUntil tests puts nowhere made old new at end
+
+-- the same of these bytes
+abbrev pub LaysBytes : Bool → Bool → List ℕ → List ℕ → List ℕ → ℕ → ℕ → Type 0
+LaysBytes tests puts bytes old new at end =
+    let made : Made = Ok bytes in Lays tests puts made old new at end
+
+-- these bytes are laid
+abbrev pub AreLaid : Bool → List ℕ → List ℕ → List ℕ → ℕ → ℕ → Type 0
+AreLaid puts bytes old new at end = let made : Made = Ok bytes in IsLaid puts made old new at end
+
+-- they have room
+abbrev pub BytesFit : Bool → List ℕ → List ℕ → ℕ → Type 0
+BytesFit puts bytes old at =
+    let made : Made = Ok bytes in HaveRoom puts nowhere made old at
 
 -- a length stands in front of what ends at a place
 pub record IsFronted (puts : Bool) (start end : ℕ)
@@ -32,13 +68,14 @@ pub record IsFronted (puts : Bool) (start end : ℕ)
   pub place_is : result ≡ end
   pub fits : end - start < 2 ^ 32
   pub front : ℕ
-  pub laid : IsLaid puts
-      (let made : Made = Ok (number_bytes bytes4 (end - start)) in made) old new at front
+  pub laid : AreLaid puts (number_bytes bytes4 (end - start)) old new at front
 
--- the same, where the place is one
-abbrev pub Fronts : Bool → ℕ → ℕ → List ℕ → List ℕ → ℕ → ℕ → Type 0
-Fronts puts start end old new at result =
-    result < 18446744073709551615 → IsFronted puts start end old new at result
+-- the same, where the place is one; and it is where the length has room
+pub record Fronts (tests puts : Bool) (start end : ℕ)
+    (old new : List ℕ) (at result : ℕ) : Type 0 where
+  pub sound : tests ≡ true → result < nowhere → IsFronted puts start end old new at result
+  pub complete : end - start < 2 ^ 32 → BytesFit puts (number_bytes bytes4 (end - start)) old at
+      → IsFronted puts start end old new at result
 
 -- type, channel and length stand in front of what was made from a place to another one, and the end
 -- byte after it
@@ -47,14 +84,27 @@ pub record IsEnclosed (puts : Bool) (type channel start end m : ℕ)
   pub fits : end - start ≤ m
   pub mid : List ℕ
   pub front : ℕ
-  pub laid : IsLaid puts
-      (let made : Made = Ok (head type channel (end - start)) in made) old mid at front
-  pub ended : LaysBytes puts (end_byte ∷ []) mid new end result
+  pub laid : AreLaid puts (head type channel (end - start)) old mid at front
+  pub ended : AreLaid puts (end_byte ∷ []) mid new end result
 
--- the same, where the place is one
-abbrev pub Encloses : Bool → ℕ → ℕ → ℕ → ℕ → ℕ → List ℕ → List ℕ → ℕ → ℕ → Type 0
-Encloses puts type channel start end m old new at result =
-    result < 18446744073709551615 → IsEnclosed puts type channel start end m old new at result
+-- the same, where the place is one; and they do where they have room
+pub record Encloses (tests puts : Bool) (type channel start end m : ℕ)
+    (old new : List ℕ) (at result : ℕ) : Type 0 where
+  pub sound : tests ≡ true → result < nowhere
+      → IsEnclosed puts type channel start end m old new at result
+  pub complete : end - start ≤ m → BytesFit puts (head type channel (end - start)) old at
+      → BytesFit puts (end_byte ∷ []) old end
+      → IsEnclosed puts type channel start end m old new at result
+
+-- what a node makes, where it is of the kind and at the place of a field
+abbrev pub placed : ℕ → Form → Node → ℕ → Made → Made
+placed place form node index made = if is_field place form node then made else misfit index
+
+-- the first node with those inside it is no field that is encoded so: only in a table something may
+-- lie inside
+abbrev pub NoGroup : Form → List Node → Type 0
+NoGroup table_form nodes = PassesEnd nodes
+NoGroup form nodes = NoneAlone nodes
 
 -- where as many bytes are made as a buffer has, it is these bytes
 abbrev pub IsWhole : {E : Type 0} → Result (List ℕ) E → List ℕ → List ℕ → Type 0

@@ -1,30 +1,43 @@
-//! Bytes that are counted, or put, in one walk that says of a refusal only that there is one: so most frames are made.
+//! Bytes that are counted, or put, in one walk that says of a refusal only that there is one: so all frames are made. What was
+//! tested once is put without those tests.
 
-ghost use Rattle.std.specs.Prelude.{◌≡◌, ◌≤◌, ◌<◌, ◌*◌, Bool, true, false, length, drop};
+ghost use Rattle.std.specs.Prelude.{◌≡◌, ◌≤◌, ◌<◌, ◌*◌, Bool, true, false, length};
+ghost use Rattle.std.specs.Prelude.{if◌then◌else◌};
+ghost use Rattle.std.specs.Str.{IsAscii, is_utf8};
 ghost use Rattle.amqp_types.specs.Strings.{short_string_bytes};
 ghost use Rattle.amqp_fields.specs.Made.{made_if, made_long, made_span, made_text, span_in};
 ghost use Rattle.amqp_fields.specs.Quick.{Fronts, Lays, LaysBytes};
 
 use crate::few::{put_ends, put_few};
-use crate::putting::{has_room, plus, span};
+use crate::parts::{has_room, plus, span};
 use amqp_canonical::{eights_are_ascii, fours_are_ascii, is_text};
 use amqp_types::put_bytes;
 
-/// No place: nothing is known of what is made.
+/// No place: what is to be made is refused, or has no room.
 pub(crate) const NONE: usize = usize::MAX;
 
-/// Whether bytes are put in a buffer, or counted alone.
+/// What becomes of bytes that are made.
 pub trait Sink {
-    /// Whether they are put.
+    /// Whether they are put in a buffer, or counted alone.
     ghost puts: { Bool };
+
+    /// Whether it is tested what they are made of. Else it was before: of what is refused nothing is known then.
+    ghost tests: { Bool };
 
     /// Whether they are put.
     fn is_putting() -> bool
         ensures { result ≡ puts };
+
+    /// Whether it is tested what they are made of.
+    fn is_testing() -> bool
+        ensures { result ≡ tests };
 }
 
-/// They are counted.
+/// They are tested and counted.
 pub struct Counting {}
+
+/// They are tested and put.
+pub struct Trying {}
 
 /// They are put.
 pub struct Putting {}
@@ -32,25 +45,55 @@ pub struct Putting {}
 impl Sink for Counting {
     ghost puts = { false };
 
+    ghost tests = { true };
+
     #[inline(always)]
     fn is_putting() -> bool {
         false
+    }
+
+    #[inline(always)]
+    fn is_testing() -> bool {
+        true
+    }
+}
+
+impl Sink for Trying {
+    ghost puts = { true };
+
+    ghost tests = { true };
+
+    #[inline(always)]
+    fn is_putting() -> bool {
+        true
+    }
+
+    #[inline(always)]
+    fn is_testing() -> bool {
+        true
     }
 }
 
 impl Sink for Putting {
     ghost puts = { true };
 
+    ghost tests = { false };
+
     #[inline(always)]
     fn is_putting() -> bool {
         true
+    }
+
+    #[inline(always)]
+    fn is_testing() -> bool {
+        false
     }
 }
 
 /// Counts or puts bytes of a number, and returns the place after them; none where there is no room.
 #[inline(always)]
 pub(crate) fn lay<S: Sink>(buf: &mut [u8], at: usize, bytes: &[u8]) -> usize
-    ensures { LaysBytes S.puts bytes.now buf.old buf.new at result }
+    ensures { LaysBytes S.tests S.puts bytes.now buf.old buf.new at result }
 {
     if !S::is_putting() {
         return plus(at, bytes.len());
@@ -64,7 +107,7 @@ pub(crate) fn lay<S: Sink>(buf: &mut [u8], at: usize, bytes: &[u8]) -> usize
 /// The same of bytes of a string.
 #[inline(always)]
 pub(crate) fn lay_bytes<S: Sink>(buf: &mut [u8], at: usize, bytes: &[u8]) -> usize
-    ensures { LaysBytes S.puts bytes.now buf.old buf.new at result }
+    ensures { LaysBytes S.tests S.puts bytes.now buf.old buf.new at result }
 {
     if !S::is_putting() {
         return plus(at, bytes.len());
@@ -84,13 +127,12 @@ pub(crate) fn lay_if<S: Sink>(
     holds: bool,
     bytes: &[u8],
 ) -> usize
-    ensures { Lays S.puts (made_if holds index bytes.now) buf.old buf.new at result }
+    ensures { Lays S.tests S.puts (made_if holds index bytes.now) buf.old buf.new at result }
 {
-    if holds {
-        lay::<S>(buf, at, bytes)
-    } else {
-        NONE
+    if S::is_testing() && !holds {
+        return NONE;
     }
+    lay::<S>(buf, at, bytes)
 }
 
 /// A length of 1 byte, and bytes of which there are N to 2 N.
@@ -99,7 +141,7 @@ fn lay_ends<S: Sink, const N: usize>(buf: &mut [u8], at: usize, text: &[u8]) -> 
     requires many { N ≤ length text.now }
     requires few { length text.now ≤ 2 * N }
     requires short { length text.now < 256 }
-    ensures { LaysBytes S.puts (short_string_bytes text.now) buf.old buf.new at result }
+    ensures { LaysBytes S.tests S.puts (short_string_bytes text.now) buf.old buf.new at result }
 {
     if !S::is_putting() {
         return plus(at, 1 + text.len());
@@ -111,31 +153,68 @@ fn lay_ends<S: Sink, const N: usize>(buf: &mut [u8], at: usize, text: &[u8]) -> 
     put_ends::<N>(buf, place, text)
 }
 
+/// Whether eight to sixteen bytes are ASCII, where it is tested.
+#[inline(always)]
+fn are_eights<S: Sink>(text: &[u8]) -> bool
+    requires many { 8 ≤ length text.now }
+    requires few { length text.now ≤ 16 }
+    ensures { result ≡ true → S.tests ≡ true → IsAscii text.now }
+{
+    if S::is_testing() {
+        return eights_are_ascii(text);
+    }
+    true
+}
+
+/// The same of four to eight.
+#[inline(always)]
+fn are_fours<S: Sink>(text: &[u8]) -> bool
+    requires many { 4 ≤ length text.now }
+    requires few { length text.now ≤ 8 }
+    ensures { result ≡ true → S.tests ≡ true → IsAscii text.now }
+{
+    if S::is_testing() {
+        return fours_are_ascii(text);
+    }
+    true
+}
+
+/// Whether bytes are UTF-8, where it is tested.
+#[inline(always)]
+fn is_fit<S: Sink>(text: &[u8]) -> bool
+    ensures { result ≡ (if S.tests then is_utf8 text.now else true) }
+{
+    if S::is_testing() {
+        return is_text(text);
+    }
+    true
+}
+
 /// A length of 1 byte, and any text. Apart, since most are short and ASCII.
 #[inline(never)]
 fn lay_any_text<S: Sink>(buf: &mut [u8], at: usize, index: usize, text: &[u8]) -> usize
-    ensures { Lays S.puts (made_text index text.now) buf.old buf.new at result }
+    ensures { Lays S.tests S.puts (made_text index text.now) buf.old buf.new at result }
 {
     if text.len() > 255 {
         return NONE;
     }
-    if !is_text(text) {
+    if !is_fit::<S>(text) {
         return NONE;
     }
     let place = lay::<S>(buf, at, &[text.len() as u8]);
-    lay::<S>(buf, place, text)
+    lay_bytes::<S>(buf, place, text)
 }
 
 /// A length of 1 byte, and a text, of which most have eight to sixteen bytes.
 #[inline(always)]
 fn lay_short<S: Sink>(buf: &mut [u8], at: usize, index: usize, text: &[u8]) -> usize
-    ensures { Lays S.puts (made_text index text.now) buf.old buf.new at result }
+    ensures { Lays S.tests S.puts (made_text index text.now) buf.old buf.new at result }
 {
     let n = text.len();
-    if 8 <= n && n <= 16 && eights_are_ascii(text) {
+    if 8 <= n && n <= 16 && are_eights::<S>(text) {
         return lay_ends::<S, 8>(buf, at, text);
     }
-    if 4 <= n && n <= 7 && fours_are_ascii(text) {
+    if 4 <= n && n <= 7 && are_fours::<S>(text) {
         return lay_ends::<S, 4>(buf, at, text);
     }
     lay_any_text::<S>(buf, at, index, text)
@@ -143,8 +222,8 @@ fn lay_short<S: Sink>(buf: &mut [u8], at: usize, index: usize, text: &[u8]) -> u
 
 /// A length of 4 bytes, and bytes.
 #[inline(always)]
-fn lay_long<S: Sink>(buf: &mut [u8], at: usize, index: usize, bytes: &[u8]) -> usize
-    ensures { Lays S.puts (made_long index bytes.now) buf.old buf.new at result }
+pub(crate) fn lay_long<S: Sink>(buf: &mut [u8], at: usize, index: usize, bytes: &[u8]) -> usize
+    ensures { Lays S.tests S.puts (made_long index bytes.now) buf.old buf.new at result }
 {
     if bytes.len() > u32::MAX as usize {
         return NONE;
@@ -163,7 +242,7 @@ pub(crate) fn lay_text<S: Sink>(
     start: u32,
     count: u32,
 ) -> usize
-    ensures { Lays S.puts
+    ensures { Lays S.tests S.puts
         (made_span (made_text index) index (span_in pool.now start count))
         buf.old buf.new at result }
 {
@@ -183,7 +262,7 @@ pub(crate) fn lay_long_string<S: Sink>(
     start: u32,
     count: u32,
 ) -> usize
-    ensures { Lays S.puts
+    ensures { Lays S.tests S.puts
         (made_span (made_long index) index (span_in pool.now start count))
         buf.old buf.new at result }
 {
@@ -196,7 +275,7 @@ pub(crate) fn lay_long_string<S: Sink>(
 /// A length of 4 bytes in front of what was made from a place to another one, which is returned.
 #[inline(always)]
 pub(crate) fn lay_length<S: Sink>(buf: &mut [u8], at: usize, start: usize, end: usize) -> usize
-    ensures { Fronts S.puts start end buf.old buf.new at result }
+    ensures { Fronts S.tests S.puts start end buf.old buf.new at result }
 {
     let n = end.saturating_sub(start);
     if n > u32::MAX as usize {

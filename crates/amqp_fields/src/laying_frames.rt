@@ -1,19 +1,19 @@
-//! Frames that heads and nodes mean, counted or put in the walk of `laying`. Protocol headers are not made here.
+//! Frames that heads and nodes mean, counted or put in the walk of `laying`.
 
 ghost use Rattle.std.specs.Prelude.{◌≡◌};
 ghost use Rattle.amqp_wire.specs.Spelling.{head as frame_front};
 ghost use Rattle.amqp_fields.specs.MadeFrames.{header_front, made_beat, made_body, made_frame};
 ghost use Rattle.amqp_fields.specs.MadeFrames.{made_frames, made_header, made_method};
-ghost use Rattle.amqp_fields.specs.MadeFrames.{made_payload, made_typed};
-ghost use Rattle.amqp_fields.specs.Quick.{Encloses, Lays, LaysBytes};
+ghost use Rattle.amqp_fields.specs.MadeFrames.{made_payload, made_typed, made_version};
+ghost use Rattle.amqp_fields.specs.Quick.{Encloses, Lays, LaysBytes, LaysUntil};
 
 use crate::head::Head;
 use crate::laying::{NONE, Sink, lay, lay_bytes};
 use crate::laying_fields::{lay_properties, lay_slots};
 use crate::making::first_head;
-use crate::making_frames::{has_no_ids, head_held, id_bytes, nodes_end, nodes_of};
 use crate::node::Node;
-use crate::putting::{has_room, plus, span};
+use crate::parts::{has_no_ids, has_room, head_held, id_bytes, nodes_end, nodes_of, plus, span};
+use crate::payloads::version_shapes;
 use amqp_canonical::shapes_of;
 use amqp_types::{
     FRAME_BODY, FRAME_END, FRAME_HEADER, FRAME_HEARTBEAT, FRAME_METHOD, PROTOCOL_BYTE, put_bytes,
@@ -23,8 +23,16 @@ use amqp_types::{
 /// The payload of a method.
 #[inline(always)]
 #[tactic(auto, unfolding(crate::specs::MadeFrames::made_method))]
-fn lay_method<S: Sink>(buf: &mut [u8], at: usize, pool: &[u8], nodes: &[Node], head: &Head) -> usize
-    ensures { Lays S.puts (made_method pool.now nodes.now head.now) buf.old buf.new at result }
+fn lay_method<S: Sink>(
+    buf: &mut [u8],
+    at: usize,
+    pool: &[u8],
+    nodes: &[Node],
+    head: &Head,
+    limit: usize,
+) -> usize
+    ensures { LaysUntil S.tests S.puts limit
+        (made_method pool.now nodes.now head.now) buf.old buf.new at result }
 {
     let shapes = match shapes_of(head.class_id, head.method_id) {
         Some(shapes) => shapes,
@@ -39,13 +47,13 @@ fn lay_method<S: Sink>(buf: &mut [u8], at: usize, pool: &[u8], nodes: &[Node], h
     };
     let end = nodes_end(head);
     let front = lay::<S>(buf, at, &id_bytes(head));
-    lay_slots::<S>(buf, front, pool, end, shapes, own)
+    lay_slots::<S>(buf, front, pool, end, shapes, own, limit)
 }
 
 /// What stands in front of the properties of a content header.
 #[inline(always)]
 fn lay_front<S: Sink>(buf: &mut [u8], at: usize, head: &Head) -> usize
-    ensures { LaysBytes S.puts (header_front head.now) buf.old buf.new at result }
+    ensures { LaysBytes S.tests S.puts (header_front head.now) buf.old buf.new at result }
 {
     if !S::is_putting() {
         return plus(at, 12);
@@ -61,8 +69,16 @@ fn lay_front<S: Sink>(buf: &mut [u8], at: usize, head: &Head) -> usize
 /// The payload of a content header, with a weight of 0.
 #[inline(always)]
 #[tactic(auto, unfolding(crate::specs::MadeFrames::made_header))]
-fn lay_header<S: Sink>(buf: &mut [u8], at: usize, pool: &[u8], nodes: &[Node], head: &Head) -> usize
-    ensures { Lays S.puts (made_header pool.now nodes.now head.now) buf.old buf.new at result }
+fn lay_header<S: Sink>(
+    buf: &mut [u8],
+    at: usize,
+    pool: &[u8],
+    nodes: &[Node],
+    head: &Head,
+    limit: usize,
+) -> usize
+    ensures { LaysUntil S.tests S.puts limit
+        (made_header pool.now nodes.now head.now) buf.old buf.new at result }
 {
     if head.method_id != 0 {
         return NONE;
@@ -73,14 +89,14 @@ fn lay_header<S: Sink>(buf: &mut [u8], at: usize, pool: &[u8], nodes: &[Node], h
     };
     let end = nodes_end(head);
     let front = lay_front::<S>(buf, at, head);
-    lay_properties::<S>(buf, front, pool, end, own)
+    lay_properties::<S>(buf, front, pool, end, own, limit)
 }
 
 /// The payload of a body, which stands in the pool.
 #[inline(always)]
 #[tactic(auto, unfolding(crate::specs::MadeFrames::made_body))]
 fn lay_body<S: Sink>(buf: &mut [u8], at: usize, pool: &[u8], head: &Head) -> usize
-    ensures { Lays S.puts (made_body pool.now head.now) buf.old buf.new at result }
+    ensures { Lays S.tests S.puts (made_body pool.now head.now) buf.old buf.new at result }
 {
     if !has_no_ids(head) || head.nodes != 0 {
         return NONE;
@@ -95,7 +111,7 @@ fn lay_body<S: Sink>(buf: &mut [u8], at: usize, pool: &[u8], head: &Head) -> usi
 #[inline(always)]
 #[tactic(auto, unfolding(crate::specs::MadeFrames::made_beat))]
 fn lay_beat<S: Sink>(buf: &mut [u8], at: usize, head: &Head) -> usize
-    ensures { Lays S.puts (made_beat head.now) buf.old buf.new at result }
+    ensures { Lays S.tests S.puts (made_beat head.now) buf.old buf.new at result }
 {
     if !has_no_ids(head) || head.nodes != 0 {
         return NONE;
@@ -103,7 +119,32 @@ fn lay_beat<S: Sink>(buf: &mut [u8], at: usize, head: &Head) -> usize
     lay::<S>(buf, at, &[])
 }
 
-/// The payload of a frame that is no protocol header.
+/// A protocol header: its mark, and three numbers.
+#[inline(never)]
+#[tactic(auto, unfolding(crate::specs::MadeFrames::made_version))]
+fn lay_version<S: Sink>(
+    buf: &mut [u8],
+    at: usize,
+    pool: &[u8],
+    nodes: &[Node],
+    head: &Head,
+) -> usize
+    ensures { Lays S.tests S.puts (made_version pool.now nodes.now head.now)
+        buf.old buf.new at result }
+{
+    if !has_no_ids(head) || head.channel != 0 {
+        return NONE;
+    }
+    let own = match nodes_of(nodes, head) {
+        Some(own) => own,
+        None => return NONE,
+    };
+    let end = nodes_end(head);
+    let mark = lay::<S>(buf, at, b"AMQP\0");
+    lay_slots::<S>(buf, mark, pool, end, version_shapes(), own, NONE)
+}
+
+/// The payload of a frame that is no protocol header. Contents in it that stand in the pool do not go beyond a limit.
 #[inline(always)]
 #[tactic(auto, unfolding(crate::specs::MadeFrames::made_payload))]
 fn lay_payload<S: Sink>(
@@ -112,12 +153,14 @@ fn lay_payload<S: Sink>(
     pool: &[u8],
     nodes: &[Node],
     head: &Head,
+    limit: usize,
 ) -> usize
-    ensures { Lays S.puts (made_payload pool.now nodes.now head.now) buf.old buf.new at result }
+    ensures { LaysUntil S.tests S.puts limit
+        (made_payload pool.now nodes.now head.now) buf.old buf.new at result }
 {
     match head.frame_type {
-        FRAME_METHOD => lay_method::<S>(buf, at, pool, nodes, head),
-        FRAME_HEADER => lay_header::<S>(buf, at, pool, nodes, head),
+        FRAME_METHOD => lay_method::<S>(buf, at, pool, nodes, head, limit),
+        FRAME_HEADER => lay_header::<S>(buf, at, pool, nodes, head, limit),
         FRAME_BODY => lay_body::<S>(buf, at, pool, head),
         FRAME_HEARTBEAT => lay_beat::<S>(buf, at, head),
         _ => NONE,
@@ -127,7 +170,8 @@ fn lay_payload<S: Sink>(
 /// Type, channel and length.
 #[inline(always)]
 fn lay_head<S: Sink>(buf: &mut [u8], at: usize, frame_type: u8, channel: u16, n: u32) -> usize
-    ensures { LaysBytes S.puts (frame_front frame_type channel n) buf.old buf.new at result }
+    ensures { LaysBytes S.tests S.puts
+        (frame_front frame_type channel n) buf.old buf.new at result }
 {
     if !S::is_putting() {
         return plus(at, 7);
@@ -150,7 +194,7 @@ fn enclose<S: Sink>(
     end: usize,
     max_payload: u32,
 ) -> usize
-    ensures { Encloses S.puts head.now.frame_type head.now.channel
+    ensures { Encloses S.tests S.puts head.now.frame_type head.now.channel
         start end max_payload buf.old buf.new at result }
 {
     let n = end.saturating_sub(start);
@@ -174,14 +218,15 @@ fn lay_typed<S: Sink>(
     head: &Head,
     max_payload: u32,
 ) -> usize
-    ensures { Lays S.puts (made_typed pool.now nodes.now max_payload head.now)
+    ensures { Lays S.tests S.puts (made_typed pool.now nodes.now max_payload head.now)
         buf.old buf.new at result }
 {
     if head.frame_type == PROTOCOL_BYTE {
-        return NONE;
+        return lay_version::<S>(buf, at, pool, nodes, head);
     }
     let start = plus(at, 7);
-    let end = lay_payload::<S>(buf, start, pool, nodes, head);
+    let limit = plus(start, max_payload as usize);
+    let end = lay_payload::<S>(buf, start, pool, nodes, head, limit);
     enclose::<S>(buf, at, head, start, end, max_payload)
 }
 
@@ -196,15 +241,15 @@ fn lay_frame<S: Sink>(
     head: &Head,
     max_payload: u32,
 ) -> usize
-    ensures { Lays S.puts (made_frame pool.now nodes.now max_payload head.now)
+    ensures { Lays S.tests S.puts (made_frame pool.now nodes.now max_payload head.now)
         buf.old buf.new at result }
 {
     head_held(head);
     lay_typed::<S>(buf, at, pool, nodes, head, max_payload)
 }
 
-/// Frames one after another, from the front of a buffer on. Returns how many bytes they have; none where one is refused, or is
-/// not made here, or the buffer has no room.
+/// Frames one after another, from the front of a buffer on. Returns how many bytes they have; none where one is refused, or the
+/// buffer has no room.
 #[inline(never)]
 pub(crate) fn lay_frames<S: Sink>(
     buf: &mut [u8],
@@ -213,7 +258,7 @@ pub(crate) fn lay_frames<S: Sink>(
     heads: &[Head],
     max_payload: u32,
 ) -> usize
-    ensures { Lays S.puts (made_frames pool.now nodes.now max_payload 0 heads.now)
+    ensures { Lays S.tests S.puts (made_frames pool.now nodes.now max_payload 0 heads.now)
         buf.old buf.new 0 result }
 {
     let mut rest = heads;

@@ -1,19 +1,20 @@
 //! Values, arrays and tables that nodes mean, counted or put in the walk of `laying`.
 #![tactic(auto, unfolding(crate::specs::Made::made_leaf, crate::specs::Made::made_behind, crate::specs::Made::made_items, crate::specs::Made::made_entry))]
 
-ghost use Rattle.std.specs.Prelude.{◌≡◌, ◌%◌};
+ghost use Rattle.std.specs.Prelude.{◌%◌};
 ghost use Rattle.amqp_types.specs.Numbers.{bytes1, bytes2, bytes4, bytes8};
 ghost use Rattle.amqp_types.specs.Numbers.{number_bytes, number_limit};
-ghost use Rattle.amqp_fields.specs.Made.{made_array, made_behind, made_each, made_if, made_number};
-ghost use Rattle.amqp_fields.specs.Made.{made_entry, made_leaf, made_nested, made_table};
-ghost use Rattle.amqp_fields.specs.Made.{made_value};
-ghost use Rattle.amqp_fields.specs.Quick.{Lays};
+ghost use Rattle.amqp_types.specs.ValueJudging.{judge_entry, judge_value};
+ghost use Rattle.amqp_fields.specs.Made.{after, made_array, made_behind, made_content, made_each};
+ghost use Rattle.amqp_fields.specs.Made.{made_entry, made_if, made_leaf, made_nested, made_number};
+ghost use Rattle.amqp_fields.specs.Made.{made_table, made_value};
+ghost use Rattle.amqp_fields.specs.Quick.{Lays, LaysUntil};
 
-use crate::laying::{NONE, Sink, lay, lay_if, lay_length, lay_long_string, lay_text};
-use crate::making_values::is_signed;
+use crate::contents::{judge_entries, judge_values};
+use crate::laying::{NONE, Sink, lay, lay_if, lay_length, lay_long, lay_long_string, lay_text};
 use crate::node::Node;
 use crate::node_groups::{first_group, index_of, own_index};
-use crate::putting::plus;
+use crate::parts::{has_room, is_signed, plus, span};
 use amqp_types::FieldTag;
 
 /// The lowest byte of a number, where a test holds.
@@ -25,7 +26,8 @@ pub(crate) fn lay_octet<S: Sink>(
     holds: bool,
     number: u64,
 ) -> usize
-    ensures { Lays S.puts (made_if holds index (number_bytes bytes1 (number % number_limit bytes1)))
+    ensures { Lays S.tests S.puts
+        (made_if holds index (number_bytes bytes1 (number % number_limit bytes1)))
         buf.old buf.new at result }
 {
     let low = (number % 0x100) as u8;
@@ -41,7 +43,8 @@ pub(crate) fn lay_two<S: Sink>(
     holds: bool,
     number: u64,
 ) -> usize
-    ensures { Lays S.puts (made_if holds index (number_bytes bytes2 (number % number_limit bytes2)))
+    ensures { Lays S.tests S.puts
+        (made_if holds index (number_bytes bytes2 (number % number_limit bytes2)))
         buf.old buf.new at result }
 {
     let low = (number % 0x1_0000) as u16;
@@ -57,7 +60,8 @@ pub(crate) fn lay_four<S: Sink>(
     holds: bool,
     number: u64,
 ) -> usize
-    ensures { Lays S.puts (made_if holds index (number_bytes bytes4 (number % number_limit bytes4)))
+    ensures { Lays S.tests S.puts
+        (made_if holds index (number_bytes bytes4 (number % number_limit bytes4)))
         buf.old buf.new at result }
 {
     let low = (number % 0x1_0000_0000) as u32;
@@ -67,12 +71,83 @@ pub(crate) fn lay_four<S: Sink>(
 /// A number of 8 bytes.
 #[inline(always)]
 pub(crate) fn lay_eight<S: Sink>(buf: &mut [u8], at: usize, index: usize, number: u64) -> usize
-    ensures { Lays S.puts (made_number bytes8 index number) buf.old buf.new at result }
+    ensures { Lays S.tests S.puts (made_number bytes8 index number) buf.old buf.new at result }
 {
     lay_if::<S>(buf, at, index, true, &number.to_be_bytes())
 }
 
-/// What has a tag, and is neither an array nor a table. Decimals are not made here.
+/// A scale and an unsigned number.
+#[inline(always)]
+fn lay_decimal<S: Sink>(buf: &mut [u8], at: usize, index: usize, scale: u8, number: u64) -> usize
+    ensures { Lays S.tests S.puts
+        (after (made_number bytes1 index scale) (made_number bytes4 index number))
+        buf.old buf.new at result }
+{
+    let place = lay_octet::<S>(buf, at, index, (scale as u64) < 0x100, scale as u64);
+    lay_four::<S>(buf, place, index, number < 0x1_0000_0000, number)
+}
+
+/// The content of a table that stands in the pool, where it does not go beyond a limit: it is judged only then.
+fn lay_given_entries<S: Sink>(
+    buf: &mut [u8],
+    at: usize,
+    pool: &[u8],
+    index: usize,
+    node: &Node,
+    depth_left: usize,
+    limit: usize,
+) -> usize
+    ensures { LaysUntil S.tests S.puts limit
+        (made_content (judge_entry (judge_value depth_left)) pool.now index node.now)
+        buf.old buf.new at result }
+{
+    let content = match span(pool, node.start, node.length) {
+        Some(content) => content,
+        None => return NONE,
+    };
+    if S::is_testing() {
+        let end = if S::is_putting() { buf.len() } else { limit };
+        if !has_room(end, plus(at, 4), content.len()) {
+            return NONE;
+        }
+        if judge_entries(content, depth_left).is_err() {
+            return NONE;
+        }
+    }
+    lay_long::<S>(buf, at, index, content)
+}
+
+/// The same of an array.
+fn lay_given_values<S: Sink>(
+    buf: &mut [u8],
+    at: usize,
+    pool: &[u8],
+    index: usize,
+    node: &Node,
+    depth_left: usize,
+    limit: usize,
+) -> usize
+    ensures { LaysUntil S.tests S.puts limit
+        (made_content (judge_value depth_left) pool.now index node.now)
+        buf.old buf.new at result }
+{
+    let content = match span(pool, node.start, node.length) {
+        Some(content) => content,
+        None => return NONE,
+    };
+    if S::is_testing() {
+        let end = if S::is_putting() { buf.len() } else { limit };
+        if !has_room(end, plus(at, 4), content.len()) {
+            return NONE;
+        }
+        if judge_values(content, depth_left).is_err() {
+            return NONE;
+        }
+    }
+    lay_long::<S>(buf, at, index, content)
+}
+
+/// What has a tag, and is neither an array nor a table.
 #[inline(always)]
 fn lay_leaf<S: Sink>(
     buf: &mut [u8],
@@ -82,7 +157,8 @@ fn lay_leaf<S: Sink>(
     node: &Node,
     tag: FieldTag,
 ) -> usize
-    ensures { Lays S.puts (made_leaf pool.now index node.now tag) buf.old buf.new at result }
+    ensures { Lays S.tests S.puts
+        (made_leaf pool.now index node.now tag) buf.old buf.new at result }
 {
     let number = node.number;
     match tag {
@@ -103,8 +179,9 @@ fn lay_leaf<S: Sink>(
         FieldTag::LongString | FieldTag::ByteArray => {
             lay_long_string::<S>(buf, at, pool, index, node.start, node.length)
         }
+        FieldTag::DecimalValue => lay_decimal::<S>(buf, at, index, node.scale, number),
         FieldTag::Void => lay::<S>(buf, at, &[]),
-        FieldTag::DecimalValue | FieldTag::FieldArray | FieldTag::FieldTable => NONE,
+        FieldTag::FieldArray | FieldTag::FieldTable => NONE,
     }
 }
 
@@ -120,8 +197,10 @@ fn lay_value<S: Sink>(
     node: &Node,
     inside: &[Node],
     depth_left: usize,
+    limit: usize,
 ) -> usize
-    ensures { Lays S.puts (made_value pool.now depth_left end node.now inside.now)
+    ensures { LaysUntil S.tests S.puts limit
+        (made_value pool.now depth_left end node.now inside.now)
         buf.old buf.new at result }
 {
     match FieldTag::from_byte(node.kind) {
@@ -130,7 +209,7 @@ fn lay_value<S: Sink>(
                 return NONE;
             }
             let place = lay::<S>(buf, at, &[node.kind]);
-            lay_after_tag::<S>(buf, place, pool, end, node, inside, tag, depth_left)
+            lay_after_tag::<S>(buf, place, pool, end, node, inside, tag, depth_left, limit)
         }
         None => NONE,
     }
@@ -148,16 +227,35 @@ fn lay_after_tag<S: Sink>(
     inside: &[Node],
     tag: FieldTag,
     depth_left: usize,
+    limit: usize,
 ) -> usize
-    ensures { Lays S.puts
+    ensures { LaysUntil S.tests S.puts limit
         (made_behind pool.now (made_nested pool.now depth_left) tag end node.now inside.now)
         buf.old buf.new at result }
 {
     match tag {
         FieldTag::FieldArray if depth_left == 0 => NONE,
-        FieldTag::FieldArray => lay_array::<S>(buf, at, pool, end, node, inside, depth_left - 1),
+        FieldTag::FieldArray => lay_array::<S>(
+            buf,
+            at,
+            pool,
+            end,
+            node,
+            inside,
+            depth_left - 1,
+            limit,
+        ),
         FieldTag::FieldTable if depth_left == 0 => NONE,
-        FieldTag::FieldTable => lay_table::<S>(buf, at, pool, end, node, inside, depth_left - 1),
+        FieldTag::FieldTable => lay_table::<S>(
+            buf,
+            at,
+            pool,
+            end,
+            node,
+            inside,
+            depth_left - 1,
+            limit,
+        ),
         leaf => {
             if inside.is_empty() {
                 lay_leaf::<S>(buf, at, pool, own_index(end, inside), node, leaf)
@@ -168,7 +266,8 @@ fn lay_after_tag<S: Sink>(
     }
 }
 
-/// An array, in whose values tables and arrays may nest `depth_left` deep. Content that stands in the pool is not made here.
+/// An array, in whose values tables and arrays may nest `depth_left` deep: its content as it stands in the pool, where
+/// nothing lies inside it, and else the values inside it.
 #[cycle(lay)]
 #[inline(always)]
 fn lay_array<S: Sink>(
@@ -179,17 +278,18 @@ fn lay_array<S: Sink>(
     node: &Node,
     inside: &[Node],
     depth_left: usize,
+    limit: usize,
 ) -> usize
-    ensures { Lays S.puts
+    ensures { LaysUntil S.tests S.puts limit
         (made_array pool.now depth_left (made_value pool.now depth_left) end node.now inside.now)
         buf.old buf.new at result }
 {
-    let _node = *node;
     if inside.is_empty() {
-        return NONE;
+        let index = own_index(end, inside);
+        return lay_given_values::<S>(buf, at, pool, index, node, depth_left, limit);
     }
     let start = plus(at, 4);
-    let place = lay_values::<S>(buf, start, pool, end, inside, depth_left);
+    let place = lay_values::<S>(buf, start, pool, end, inside, depth_left, limit);
     lay_length::<S>(buf, at, start, place)
 }
 
@@ -204,17 +304,18 @@ pub(crate) fn lay_table<S: Sink>(
     node: &Node,
     inside: &[Node],
     depth_left: usize,
+    limit: usize,
 ) -> usize
-    ensures { Lays S.puts
+    ensures { LaysUntil S.tests S.puts limit
         (made_table pool.now depth_left (made_value pool.now depth_left) end node.now inside.now)
         buf.old buf.new at result }
 {
-    let _node = *node;
     if inside.is_empty() {
-        return NONE;
+        let index = own_index(end, inside);
+        return lay_given_entries::<S>(buf, at, pool, index, node, depth_left, limit);
     }
     let start = plus(at, 4);
-    let place = lay_entries::<S>(buf, start, pool, end, inside, depth_left);
+    let place = lay_entries::<S>(buf, start, pool, end, inside, depth_left, limit);
     lay_length::<S>(buf, at, start, place)
 }
 
@@ -227,8 +328,10 @@ pub(crate) fn lay_values<S: Sink>(
     end: usize,
     nodes: &[Node],
     depth_left: usize,
+    limit: usize,
 ) -> usize
-    ensures { Lays S.puts (made_each (made_value pool.now depth_left) end 0 nodes.now)
+    ensures { LaysUntil S.tests S.puts limit
+        (made_each (made_value pool.now depth_left) end 0 nodes.now)
         buf.old buf.new at result }
 {
     let mut rest = nodes;
@@ -239,7 +342,7 @@ pub(crate) fn lay_values<S: Sink>(
             None => return NONE,
         };
         let last = index_of(end, next);
-        place = lay_value::<S>(buf, place, pool, last, node, inside, depth_left);
+        place = lay_value::<S>(buf, place, pool, last, node, inside, depth_left, limit);
         rest = next;
     }
     place
@@ -254,8 +357,9 @@ pub(crate) fn lay_entries<S: Sink>(
     end: usize,
     nodes: &[Node],
     depth_left: usize,
+    limit: usize,
 ) -> usize
-    ensures { Lays S.puts
+    ensures { LaysUntil S.tests S.puts limit
         (made_each (made_entry pool.now (made_value pool.now depth_left)) end 0 nodes.now)
         buf.old buf.new at result }
 {
@@ -267,7 +371,7 @@ pub(crate) fn lay_entries<S: Sink>(
             None => return NONE,
         };
         let last = index_of(end, next);
-        place = lay_entry::<S>(buf, place, pool, last, node, inside, depth_left);
+        place = lay_entry::<S>(buf, place, pool, last, node, inside, depth_left, limit);
         rest = next;
     }
     place
@@ -284,13 +388,14 @@ fn lay_entry<S: Sink>(
     node: &Node,
     inside: &[Node],
     depth_left: usize,
+    limit: usize,
 ) -> usize
-    ensures { Lays S.puts
+    ensures { LaysUntil S.tests S.puts limit
         (made_entry pool.now (made_value pool.now depth_left) end node.now inside.now)
         buf.old buf.new at result }
 {
     let index = own_index(end, inside);
     let length = node.key_length as u32;
     let place = lay_text::<S>(buf, at, pool, index, node.key_start, length);
-    lay_value::<S>(buf, place, pool, end, node, inside, depth_left)
+    lay_value::<S>(buf, place, pool, end, node, inside, depth_left, limit)
 }

@@ -9,7 +9,6 @@ ghost use Rattle.amqp_wire.specs.Frames.{Frame};
 ghost use Rattle.amqp_wire.specs.Spelling.{SpellsFrames};
 ghost use Rattle.amqp_fields.specs.Canonical.{AreCanonicalInOrder};
 ghost use Rattle.amqp_fields.specs.MadeFrames.{made_frames};
-ghost use Rattle.amqp_fields.specs.Makes.{Makes};
 ghost use Rattle.amqp_fields.specs.Quick.{IsWhole, Lays};
 ghost use Rattle.amqp_fields.specs.Making.{EncodesEntries, EncodesFrames, EncodesUnless};
 ghost use Rattle.amqp_fields.specs.Making.{EncodesValues, RefusesFirst, RefusesLong};
@@ -18,14 +17,12 @@ ghost use Rattle.amqp_fields.specs.Making.{Writes, made_alone, made_entries, mad
 ghost use Rattle.amqp_fields.specs.Meant.{TellFrames};
 
 use crate::head::Head;
-use crate::laying::{Counting, NONE, Putting, Sink};
+use crate::laying::{Counting, NONE, Putting, Sink, Trying};
 use crate::laying_frames::lay_frames;
 use crate::laying_values::{lay_entries, lay_values};
-use crate::making_frames::make_frame;
-use crate::making_values::{make_entries, make_values};
+use crate::measuring::{LONGEST, measure_content, measure_frames};
 use crate::node::Node;
-use crate::putting::plus;
-use crate::refusals::{Refusal, WriteError, WriteRefusal};
+use crate::refusals::WriteError;
 use amqp_types::{INNER_DEPTH, are_bytes, put_bytes};
 
 /// How many bytes are made beside the buffer of one frame or two, where a refusal leaves nothing: most messages have no more
@@ -44,20 +41,6 @@ const SOME_HEADS: usize = 48;
 
 const SOME_NODES: usize = 256;
 
-/// The most bytes of a content, which a length of 4 bytes counts.
-const LONGEST: usize = u32::MAX as usize;
-
-/// A refusal within the frame of a head.
-fn within(head: usize, bad: Refusal) -> WriteError
-    ensures { result ≡ WriteError.Refused head bad.node bad.why }
-{
-    WriteError::Refused {
-        head,
-        node: bad.node,
-        why: bad.why,
-    }
-}
-
 /// The first of some heads, and the others.
 #[inline(always)]
 pub(crate) fn first_head(heads: &[Head]) -> Option<(&Head, &[Head])>
@@ -70,68 +53,12 @@ pub(crate) fn first_head(heads: &[Head]) -> Option<(&Head, &[Head])>
     }
 }
 
-/// Frames one after another, from the front of a buffer on, as far as it has room. Returns how many bytes they have, or the
-/// greatest number.
-#[inline(never)]
-fn make_frames(
-    buf: &mut [u8],
-    pool: &[u8],
-    nodes: &[Node],
-    heads: &[Head],
-    max_payload: u32,
-) -> Result<usize, WriteError>
-    ensures { Makes (made_frames pool.now nodes.now max_payload 0 heads.now)
-        buf.old buf.new 0 result }
-{
-    let mut rest = heads;
-    let mut made = 0;
-    while !rest.is_empty() {
-        let (head, others) = match first_head(rest) {
-            Some(found) => found,
-            None => return Ok(made),
-        };
-        match make_frame(buf, made, pool, nodes, head, max_payload) {
-            Ok(n) => made = plus(made, n),
-            Err(bad) => return Err(within(heads.len() - rest.len(), bad)),
-        }
-        rest = others;
-    }
-    Ok(made)
-}
-
-/// Writes frames, or says why not: whatever they are. Split for the proof.
-#[inline(never)]
-fn fill_any(
-    out: &mut [u8],
-    pool: &[u8],
-    nodes: &[Node],
-    heads: &[Head],
-    max_payload: u32,
-) -> Result<usize, WriteError>
-    ensures { Writes (made_frames pool.now nodes.now max_payload 0 heads.now)
-        out.old out.new result }
-{
-    let needed = match make_frames(&mut [], pool, nodes, heads, max_payload) {
-        Ok(needed) => needed,
-        Err(error) => return Err(error),
-    };
-    if needed > out.len() {
-        return Err(WriteError::TooSmall {
-            needed: needed as u64,
-        });
-    }
-    make_frames(out, pool, nodes, heads, max_payload)
-}
-
 /// Fills a buffer with frames that have as many bytes.
 fn fill_front(front: &mut [u8], pool: &[u8], nodes: &[Node], heads: &[Head], max_payload: u32)
     ensures { IsWhole (made_frames pool.now nodes.now max_payload 0 heads.now)
         front.old front.new }
 {
-    if lay_frames::<Putting>(front, pool, nodes, heads, max_payload) == front.len() {
-        return;
-    }
-    let _filled = make_frames(front, pool, nodes, heads, max_payload);
+    lay_frames::<Putting>(front, pool, nodes, heads, max_payload);
 }
 
 /// Writes frames that are counted first.
@@ -148,7 +75,12 @@ fn fill_many(
 {
     let needed = lay_frames::<Counting>(&mut [], pool, nodes, heads, max_payload);
     if needed == NONE {
-        return fill_any(out, pool, nodes, heads, max_payload);
+        return match measure_frames(pool, nodes, heads, max_payload) {
+            Ok(needed) => Err(WriteError::TooSmall {
+                needed: needed as u64,
+            }),
+            Err(error) => Err(error),
+        };
     }
     if needed > out.len() {
         return Err(WriteError::TooSmall {
@@ -173,7 +105,7 @@ fn fill_beside<const N: usize>(
         out.old out.new result }
 {
     let mut beside = [0; N];
-    let needed = lay_frames::<Putting>(&mut beside, pool, nodes, heads, max_payload);
+    let needed = lay_frames::<Trying>(&mut beside, pool, nodes, heads, max_payload);
     if needed > N {
         return fill_many(out, pool, nodes, heads, max_payload);
     }
@@ -238,42 +170,15 @@ pub fn write_frames(
     fill_frames(out, pool, nodes, heads, max_payload)
 }
 
-/// Entries, or else values, one after another, as far as a buffer has room, and how many bytes they have, or that they are too
-/// many.
-#[tactic(auto, using(crate::proofs::HeadsInLoops::whole_made, crate::proofs::HeadsInLoops::whole_long, crate::proofs::HeadsInLoops::whole_refused))]
-fn make_content(
-    buf: &mut [u8],
-    nodes: &[Node],
-    pool: &[u8],
-    entries: bool,
-) -> Result<usize, WriteError>
-    ensures { Makes (made_alone entries pool.now nodes.now) buf.old buf.new 0 result }
-{
-    let made = if entries {
-        make_entries(buf, 0, pool, nodes.len(), nodes, INNER_DEPTH)
-    } else {
-        make_values(buf, 0, pool, nodes.len(), nodes, INNER_DEPTH)
-    };
-    match made {
-        Ok(n) => {
-            if n > LONGEST {
-                return Err(within(0, Refusal::of_head(WriteRefusal::TooLong)));
-            }
-            Ok(n)
-        }
-        Err(bad) => Err(within(0, bad)),
-    }
-}
-
-/// The same in the walk of `laying`: how many bytes they have; none where one is refused, or is not made there, or the buffer has
-/// no room, or they are too many.
+/// Entries, or else values, one after another, from the front of a buffer on. Returns how many bytes they have; none where one is
+/// refused, or they are too many, or the buffer has no room.
 fn lay_content<S: Sink>(buf: &mut [u8], nodes: &[Node], pool: &[u8], entries: bool) -> usize
-    ensures { Lays S.puts (made_alone entries pool.now nodes.now) buf.old buf.new 0 result }
+    ensures { Lays S.tests S.puts (made_alone entries pool.now nodes.now) buf.old buf.new 0 result }
 {
     let made = if entries {
-        lay_entries::<S>(buf, 0, pool, nodes.len(), nodes, INNER_DEPTH)
+        lay_entries::<S>(buf, 0, pool, nodes.len(), nodes, INNER_DEPTH, LONGEST)
     } else {
-        lay_values::<S>(buf, 0, pool, nodes.len(), nodes, INNER_DEPTH)
+        lay_values::<S>(buf, 0, pool, nodes.len(), nodes, INNER_DEPTH, LONGEST)
     };
     if made > LONGEST {
         return NONE;
@@ -281,36 +186,11 @@ fn lay_content<S: Sink>(buf: &mut [u8], nodes: &[Node], pool: &[u8], entries: bo
     made
 }
 
-/// Writes entries, or else values, or says why not: whatever they are. Split for the proof.
-#[inline(never)]
-fn fill_content_any(
-    out: &mut [u8],
-    nodes: &[Node],
-    pool: &[u8],
-    entries: bool,
-) -> Result<usize, WriteError>
-    ensures { Writes (made_alone entries pool.now nodes.now) out.old out.new result }
-{
-    let needed = match make_content(&mut [], nodes, pool, entries) {
-        Ok(needed) => needed,
-        Err(error) => return Err(error),
-    };
-    if needed > out.len() {
-        return Err(WriteError::TooSmall {
-            needed: needed as u64,
-        });
-    }
-    make_content(out, nodes, pool, entries)
-}
-
 /// Fills a buffer with entries, or else values, that have as many bytes.
 fn fill_content_front(front: &mut [u8], nodes: &[Node], pool: &[u8], entries: bool)
     ensures { IsWhole (made_alone entries pool.now nodes.now) front.old front.new }
 {
-    if lay_content::<Putting>(front, nodes, pool, entries) == front.len() {
-        return;
-    }
-    let _filled = make_content(front, nodes, pool, entries);
+    lay_content::<Putting>(front, nodes, pool, entries);
 }
 
 /// Writes entries, or else values, or says why not. They are counted first.
@@ -324,7 +204,12 @@ fn fill_content(
 {
     let needed = lay_content::<Counting>(&mut [], nodes, pool, entries);
     if needed == NONE {
-        return fill_content_any(out, nodes, pool, entries);
+        return match measure_content(nodes, pool, entries) {
+            Ok(needed) => Err(WriteError::TooSmall {
+                needed: needed as u64,
+            }),
+            Err(error) => Err(error),
+        };
     }
     if needed > out.len() {
         return Err(WriteError::TooSmall {

@@ -2,7 +2,7 @@
 
 ghost use Rattle.std.specs.Prelude.{◌≡◌, ◌-◌, length, drop, None, IfSome};
 ghost use Rattle.amqp_fields.specs.Made.{own_index};
-ghost use Rattle.amqp_fields.specs.Nodes.{PassesEnd, StandsFirst};
+ghost use Rattle.amqp_fields.specs.Nodes.{NoneAlone, PassesEnd, StandsFirst};
 
 use crate::node::Node;
 
@@ -30,8 +30,9 @@ pub(crate) fn first_group(nodes: &[Node]) -> Option<(&Node, &[Node], &[Node])>
 /// The same where nothing lies inside the first one; there is nothing where something does.
 #[inline(always)]
 pub(crate) fn first_alone(nodes: &[Node]) -> Option<(&Node, &[Node], &[Node])>
-    ensures { IfSome result
+    ensures found { IfSome result
         (λ group. StandsFirst nodes.now group.0.now group.1.now group.2.now) }
+    ensures none { result ≡ None → NoneAlone nodes.now }
 {
     match nodes {
         [] => None,

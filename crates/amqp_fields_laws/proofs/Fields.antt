@@ -1,8 +1,8 @@
 -- Fields that were read are made, those that are reserved as their constants, and are read again as the same nodes.
 use Rattle.std.proofs.Common.{◌≡◌, ℕ, suc, ◌+◌, ◌-◌, ◌<◌, ◌≤◌, ◌==◌, nat_lt, nat_le, Bool, true, false, not, List, [], ◌∷◌, ◌++◌, length, map, take}
-use Rattle.std.proofs.Common.{drop, Ok, inl, refl, sym, ap, ap₂, subst, ◌∙◌, arith, if◌then◌else◌}
+use Rattle.std.proofs.Common.{drop, Ok, inl, refl, sym, ap, subst, ◌∙◌, arith}
 use Rattle.std.proofs.lemmas.Bool.Decides.{nat_tests}
-use Rattle.std.proofs.lemmas.List.{drop_at, length-append, length-drop, length-take-le, take_at}
+use Rattle.std.proofs.lemmas.List.{drop_at, length-append, length-take-le, take_at}
 use Rattle.amqp_types.specs.Levels.{plain, strict}
 use Rattle.amqp_types.specs.Judging.{Judge, Judged, IsBytes, took, ◌>>=◌}
 use Rattle.amqp_types.specs.FormLaws.{IsLawful}
@@ -24,16 +24,17 @@ use Rattle.amqp_laws.proofs.SlotLaws.{both_true, constant_strict, form_is_plain,
 use Rattle.amqp_fields.specs.declared.node.Node.{Node}
 use Rattle.amqp_fields.specs.Nodes.{numbered}
 use Rattle.amqp_fields.specs.Listed.{kept_count, listed_bits, listed_entry, listed_form, listed_slot, listed_slots, listed_value, next_place, placed}
-use Rattle.amqp_fields.specs.Made.{after, made_entry, made_given, made_items, made_long, made_value, misfit, own_index}
-use Rattle.amqp_fields.specs.MadeFields.{flag_before, flags_in, flags_made, group_size, is_field, is_flag, made_field, made_form, made_kept}
+use Rattle.amqp_fields.specs.Made.{made_given, made_items, made_long, own_index}
+use Rattle.amqp_fields.specs.MadeFields.{flags_in, is_next, flags_made, group_size, is_field, is_flag, made_field, made_form, made_kept}
 use Rattle.amqp_fields.specs.MadeFields.{made_plain, made_slot, made_slots, node_count}
 use Rattle.amqp_fields.proofs.FieldsFound.{flags_length, spare}
 use Rattle.amqp_fields.proofs.MeantFieldsMade.{IsOne}
 use Rattle.amqp_fields.proofs.Spans.{Stands, stands_drop}
 use Rattle.amqp_fields.proofs.ValuesFound.{IsFresh, Keeps, map_took}
-use Rattle.amqp_fields_laws.proofs.Items.{items_round}
-use Rattle.amqp_fields_laws.proofs.Leaves.{long_round, number_round, same_number, short_round, span_made}
-use Rattle.amqp_fields_laws.proofs.Twins.{AreSame, IsRound, IsTwin, alike_itself, both_again, both_same, none_same, one_same, stands_fit}
+use Rattle.amqp_fields_laws.proofs.Values.{items_round}
+use Rattle.amqp_fields_laws.proofs.Twins.{long_round, number_round, same_number, short_round, span_made}
+use Rattle.amqp_fields_laws.proofs.Twins.{AreSame, IsMade, IsRound, alike_itself, as_made, both_made, made_into, both_same, none_made, none_same, one_same}
+use Rattle.amqp_fields_laws.proofs.Twins.{stands_fit}
 use Rattle.amqp_fields_laws.proofs.Values.{entry_round, table_content, value_round}
 
 -- a field that is not read yet is fresh
@@ -49,14 +50,9 @@ pub field_made : (pool : List ℕ) (end place : ℕ) (form : Form) (node : Node)
 unfolding made_field
 field_made pool end place form node inside more inside_is keeps =
     let others = inside ++ more in
-    let within : nat_lt (length others) node.inside ≡ false = grind (arith, nat_tests, inside_is, length-append inside more) in
-    let is : is_field place form node ≡ true = grind (arith, nat_tests, keeps.kind, keeps.place) in
-    let made = made_form pool form (end - length (drop node.inside others)) node (take node.inside others) in
-    ap
-    (λ test. if test then misfit (end - length (node ∷ others)) else (if is_field place form node then made else misfit (end - length (node ∷ others)))) within
-    ∙ ap (λ test. if test then made else misfit (end - length (node ∷ others))) is
-    ∙ ap₂ (λ bs cs. made_form pool form (end - length bs) node cs)
-    (drop_at inside more node.inside (sym inside_is)) (take_at inside more node.inside (sym inside_is))
+    let within : nat_lt (length others) node.inside ≡ false = grind (arith, nat_tests, length-append inside more) in
+    let is : is_field place form node ≡ true = grind (arith, nat_tests) in
+    rw (within, is, drop_at inside more node.inside (sym inside_is), take_at inside more node.inside (sym inside_is))
 
 -- a field with those inside it is passed
 pub group_passed : (node : Node) (inside more : List Node) → node.inside ≡ length inside
@@ -65,32 +61,27 @@ group_passed node inside more is =
     ap (λ k. drop k (node ∷ (inside ++ more))) {x = 1 + node.inside} {y = suc (length inside)} (omega (arith, is)) ∙ drop_at inside more (length inside) refl
 
 module _ (pool : List ℕ) (fits : IsBytes pool) where
+  -- The nodes of a field that is no flags make it, whatever nodes come after them.
+  pub record MakesField (place : ℕ) (form : Form) (nodes : List Node) (made : List ℕ) : Type 0 where
+    pub is : (end : ℕ) (more : List Node) → made_field pool end place form (nodes ++ more) ≡ Ok made
+    pub passed : (more : List Node) → drop (group_size (nodes ++ more)) (nodes ++ more) ≡ more
+    pub next : (at : ℕ) (more : List Node) → is_next at (nodes ++ more) ≡ (place == at)
+
   -- a field of a form that was read is made, and is read again
   abbrev pub IsField : Bool → ℕ → Form → Judged (List Node) → ℕ → ℕ → Type 0
   IsField deep place form listed size used =
-      IsRound (not deep) pool (Keeps (placed place form)) (made_form pool form)
-      (placed place form) listed (λ e twin bs. listed_form deep e place form bs) size used
+      IsMade (not deep) pool (MakesField place form) listed (λ e bs. listed_form deep e place form bs) size used
 
-  -- what is listed again behind the node of a field
-  fixed : (deep : Bool) (place : ℕ) (form : Form) {size used : ℕ} {listed : Judged (List Node)} {relisted : ℕ → Node → Judge (List Node)}
-      → ((e : ℕ) (bs : List ℕ) → relisted e (placed place form) bs ≡ listed_form deep e place form bs)
-      → IsRound (not deep) pool (Keeps (placed place form)) (made_form pool form) (placed place form) listed relisted size used
-      → IsField deep place form listed size used
-  fixed deep place form {size} {used} {listed} {relisted} same round = record {
-    node = round.node;
-    inside = round.inside;
-    is = round.is;
-    inside_is = round.inside_is;
-    keeps = round.keeps;
-    made = round.made;
-    made_is = round.made_is;
-    made_size = round.made_size;
-    bound = round.bound;
-    again = λ other rest e twin alike stands.
-        let label = placed place form in
-        let again = round.again other rest e label (alike_itself pool other label (fresh_field place form) refl) stands in
-        record { nodes = again.nodes; is = sym (same e (round.made ++ rest)) ∙ again.is; same = again.same };
-  }
+  -- a field, by its node and those inside it
+  of_round : {alone : Bool} {listed : Judged (List Node)} {relisted : ℕ → Node → Judge (List Node)} {size used : ℕ} (place : ℕ) (form : Form)
+      → IsRound alone pool (Keeps (placed place form)) (made_form pool form) (placed place form) listed relisted size used
+      → IsMade alone pool (MakesField place form) listed (λ e. relisted e (placed place form)) size used
+  of_round place form round = as_made round (fresh_field place form) refl (record {
+    is = λ e more.
+        field_made pool e place form round.node round.inside more round.inside_is round.keeps ∙ round.made_is (e - length more);
+    passed = λ more. group_passed round.node round.inside more round.inside_is;
+    next = λ at more. ap (λ k. k == at) round.keeps.place;
+  })
 
   -- each form but flags
   pub form_round : (deep : Bool) (form : Form) → IsOne form → (end place : ℕ) (bytes : List ℕ) (items : List Item) (n : ℕ) → Stands pool end bytes
@@ -100,35 +91,33 @@ module _ (pool : List ℕ) (fits : IsBytes pool) where
   form_round deep (number_form width) one end place bytes items n stands h =
       let form = number_form width in
       let read = map_took (judge_number width) (λ x. number_item x ∷ []) bytes items n h in
-      fixed deep place form (λ e bs. refl) (number_round pool bytes (stands_fit pool fits end bytes stands) (made_form pool form)
-      (placed place form) (fresh_field place form) n width read.0 read.1 (λ e. refl))
+      of_round place form
+      (number_round _ pool bytes (stands_fit pool fits end bytes stands) _ _ (fresh_field place form) n width read.0 read.1 (λ e. refl))
   form_round deep short_string_form one end place bytes items n stands h =
       let form = short_string_form in
       let read = map_took judge_short_string (λ x. text_item x ∷ []) bytes items n h in
-      fixed deep place form (λ e bs. refl) (short_round pool bytes (stands_fit pool fits end bytes stands) end stands (made_form pool form)
-      (placed place form) (fresh_field place form) read.0 n read.1 (λ at e. refl))
+      of_round place form
+      (short_round _ pool bytes (stands_fit pool fits end bytes stands) end stands _ _ (fresh_field place form) read.0 n read.1 (λ at e. refl))
   form_round deep long_string_form one end place bytes items n stands h =
       let form = long_string_form in
       let read = map_took judge_long_string (λ x. bytes_item x ∷ []) bytes items n h in
-      fixed deep place form (λ e bs. refl) (long_round pool bytes (stands_fit pool fits end bytes stands) end stands (made_form pool form)
-      (placed place form) (fresh_field place form) read.0 n read.1
-      (λ at e few span. span_made (made_long (own_index e [])) (own_index e []) pool read.0 (at - length read.0) (length read.0) span))
+      of_round place form
+      (long_round _ pool bytes (stands_fit pool fits end bytes stands) end stands _ _ (fresh_field place form) read.0 n read.1
+      (λ at e few span. span_made (made_long (own_index e [])) _ pool read.0 _ _ span))
   form_round true table_form one end place bytes items n stands h =
       let read = map_took judge_field_table (λ es. entries_item es ∷ []) bytes items n h in
       let has = table_content (judge_value inner_depth) bytes read.0 n read.1 in
-      fixed true place table_form (λ e bs. refl)
-      (items_round pool fits (judge_entry (judge_value inner_depth)) (λ e bs. listed_entry (listed_value inner_depth) e bs)
-      (made_entry pool (made_value pool inner_depth)) (entry_round pool fits inner_depth (value_round pool fits inner_depth))
-      bytes end n (placed place table_form) has.content has.things (fresh_field place table_form) (inl (inl refl)) stands has.is has.fills)
+      of_round place table_form
+      (items_round pool fits (judge_entry (judge_value inner_depth)) (listed_entry (listed_value inner_depth)) _
+      (entry_round pool fits inner_depth (value_round pool fits inner_depth)) bytes end n _ has.content has.things (fresh_field place table_form) (inl
+      (inl refl)) stands has.is has.fills)
   form_round false table_form one end place bytes items n stands h =
       let read = map_took judge_field_table (λ es. entries_item es ∷ []) bytes items n h in
       let has = table_content (judge_value inner_depth) bytes read.0 n read.1 in
       let judge = judge_entry (judge_value inner_depth) in
-      fixed false place table_form (λ e bs. refl) (long_round pool bytes (stands_fit pool fits end bytes stands) end stands (made_form pool table_form)
-      (placed place table_form) (fresh_field place table_form) has.content n has.is
-      (λ at e few span.
-      span_made (λ bs. made_given (own_index e []) bs (filled judge 0 bs)) (own_index e []) pool has.content
-      (at - length has.content) (length has.content) span
+      of_round place table_form
+      (long_round _ pool bytes (stands_fit pool fits end bytes stands) end stands _ _ (fresh_field place table_form) has.content n has.is
+      (λ at e few span. span_made (λ bs. made_given (own_index e []) bs (filled judge 0 bs)) _ pool has.content _ _ span
       ∙ ap (made_given (own_index e []) has.content) has.fills))
 
 -- ---- flags
@@ -147,10 +136,8 @@ unfolding flags_in
 flags_found end place [] more = refl
 flags_found end place (flag ∷ flags) more =
     let node = numbered (placed place (flags_form 1)) (bit_of flag) in
-    let others = listed_bits (next_place place 1) flags ++ more in
     let is : is_flag place node ≡ true = grind (arith, nat_tests, bit_small flag) in
-    ap (λ test. if test then flag_before (bit_of flag) (flags_in end (next_place place 1) (length flags) others) else misfit (end - length (node ∷ others))) is
-    ∙ ap (flag_before (bit_of flag)) (flags_found end (next_place place 1) flags more) ∙ ap (λ b. Ok (b ∷ flags)) (bit_back flag)
+    rw (is, flags_found end (next_place place 1) flags more) (ap (λ b. Ok (b ∷ flags)) (bit_back flag))
 
 bits_passed : (place : ℕ) (flags : List Bool) (more : List Node) → drop (length flags) (listed_bits place flags ++ more) ≡ more
 bits_passed place [] more = refl
@@ -168,18 +155,14 @@ same_bits pool other place (flag ∷ flags) =
 -- ---- fields that are kept, and reserved ones
 
 module _ (pool : List ℕ) (fits : IsBytes pool) (deep : Bool) where
-  -- The nodes of a field make no more bytes than were read, whatever nodes come after them, and these are read again as nodes that say
-  -- the same.
-  pub record IsSlot (place : ℕ) (slot : Slot) (listed : Judged (List Node)) (size used : ℕ) : Type 0 where
-    pub nodes : List Node
-    pub is : listed ≡ took nodes used
-    pub made : List ℕ
-    pub made_is : (end : ℕ) (more : List Node) → made_slot pool end place slot (nodes ++ more) ≡ Ok made
+  -- the nodes of a field make it, whatever nodes come after them
+  pub record MakesSlot (place : ℕ) (slot : Slot) (nodes : List Node) (made : List ℕ) : Type 0 where
+    pub is : (end : ℕ) (more : List Node) → made_slot pool end place slot (nodes ++ more) ≡ Ok made
     pub passed : (more : List Node) → drop (node_count slot (nodes ++ more)) (nodes ++ more) ≡ more
-    pub made_size : length made ≤ used
-    pub bound : used ≤ size
-    pub again : (other rest : List ℕ) (end : ℕ) → Stands other end (made ++ rest)
-        → IsTwin (not deep) pool other nodes (listed_slot deep end place slot (made ++ rest)) (length made)
+
+  -- the nodes of a field are made, and read again
+  abbrev pub IsSlot : ℕ → Slot → Judged (List Node) → ℕ → ℕ → Type 0
+  IsSlot place slot listed size used = IsMade (not deep) pool (MakesSlot place slot) listed (λ e bs. listed_slot deep e place slot bs) size used
 
   one_round : (form : Form) → IsOne form → ((end place : ℕ) (nodes : List Node) → made_kept pool end place form nodes ≡ made_field pool end place form nodes)
       → ((nodes : List Node) → node_count (kept_slot form) nodes ≡ group_size nodes)
@@ -188,21 +171,10 @@ module _ (pool : List ℕ) (fits : IsBytes pool) (deep : Bool) where
   unfolding listed_slot
   one_round form one kept count end place bytes items n stands h =
       let field = form_round pool fits deep form one end place bytes items n stands h in
-      let label = placed place form in
-      record {
-        nodes = field.node ∷ field.inside;
-        is = field.is;
-        made = field.made;
-        made_is = λ e more.
-            kept e place (field.node ∷ (field.inside ++ more))
-            ∙ field_made pool e place form field.node field.inside more field.inside_is field.keeps ∙ field.made_is (e - length more);
-        passed = λ more.
-            ap (λ k. drop k (field.node ∷ (field.inside ++ more))) (count (field.node ∷ (field.inside ++ more)))
-            ∙ group_passed field.node field.inside more field.inside_is;
-        made_size = field.made_size;
-        bound = field.bound;
-        again = λ other rest e standing. field.again other rest e label (alike_itself pool other label (fresh_field place form) refl) standing;
-      }
+      made_into (λ ns x made. record {
+        is = λ e more. kept e place (ns ++ more) ∙ made.is e more;
+        passed = λ more. ap (λ k. drop k (ns ++ more)) (count (ns ++ more)) ∙ made.passed more;
+      }) field
 
   flags_round : (count : ℕ) → count ≤ 8 → (end place : ℕ) (bytes : List ℕ) (items : List Item) (n : ℕ) → Stands pool end bytes
       → judge_form (flags_form count) bytes ≡ took items n
@@ -216,16 +188,16 @@ module _ (pool : List ℕ) (fits : IsBytes pool) (deep : Bool) where
       let number : length flags ≡ count = ap length read.0.flags_are ∙ flags_length count 0 read.0.byte in
       let spelled : SpellsFlags plain count (flags_bytes flags) flags =
       law.tidy_is_plain (flags_bytes flags) flags (law.strict_is_tidy (flags_bytes flags) flags (law.canonical_is_strict (take n bytes) flags read.0)) in
-      let less : nat_le count 8 ≡ true = grind (arith, nat_tests, few) in
+      let less : nat_le count 8 ≡ true = grind (arith, nat_tests) in
       let nodes = listed_bits place flags in
       record {
         nodes = nodes;
         is = ap (λ j. j >>= λ x. took (listed_bits place x.0) x.1) one.1;
         made = flags_bytes flags;
-        made_is = λ e more.
-            ap (λ test. if test then flags_made (flags_in e place count (nodes ++ more)) else misfit (e - length (nodes ++ more))) less
-            ∙ ap (λ k. flags_made (flags_in e place k (nodes ++ more))) (sym number) ∙ ap flags_made (flags_found e place flags more);
-        passed = λ more. ap (λ k. drop k (nodes ++ more)) (sym number) ∙ bits_passed place flags more;
+        makes = record {
+          is = λ e more. rw less (ap (λ k. flags_made (flags_in e place k (nodes ++ more))) (sym number) ∙ ap flags_made (flags_found e place flags more));
+          passed = λ more. ap (λ k. drop k (nodes ++ more)) (sym number) ∙ bits_passed place flags more;
+        };
         made_size = omega (arith, ap length read.0.bytes_are, length-take-le n bytes read.1);
         bound = read.1;
         again = λ other rest e standing. record {
@@ -250,9 +222,8 @@ module _ (pool : List ℕ) (fits : IsBytes pool) (deep : Bool) where
         nodes = [];
         is = ap (λ j. j >>= λ x. took [] x.1) h;
         made = made;
-        made_is = λ e more. refl;
-        passed = λ more. refl;
-        made_size = omega (arith, shortest, length-take-le n bytes read.1);
+        makes = record { is = λ e more. refl; passed = λ more. refl };
+        made_size = omega (arith, length-take-le n bytes read.1);
         bound = read.1;
         again = λ other rest e standing.
             record { nodes = []; is = ap (λ j. j >>= λ x. took [] x.1) (law.exact.taken made rest constant spelled); same = none_same pool other };
@@ -266,7 +237,7 @@ module _ (pool : List ℕ) (fits : IsBytes pool) (deep : Bool) where
   slot_round (kept_slot (number_form width)) slots few least end place bytes items n stands h =
       one_round (number_form width) tt (λ e p ns. refl) (λ ns. refl) end place bytes items n stands h
   slot_round (kept_slot (flags_form count)) slots few least end place bytes items n stands h =
-      flags_round count (omega (arith, few)) end place bytes items n stands h
+      flags_round count (omega arith) end place bytes items n stands h
   slot_round (kept_slot short_string_form) slots few least end place bytes items n stands h =
       one_round short_string_form tt (λ e p ns. refl) (λ ns. refl) end place bytes items n stands h
   slot_round (kept_slot long_string_form) slots few least end place bytes items n stands h =
@@ -280,16 +251,11 @@ module _ (pool : List ℕ) (fits : IsBytes pool) (deep : Bool) where
 
   -- ---- fields one after another
 
-  -- the nodes of fields make no more bytes than were read, and are read again
-  pub record AreSlots (place : ℕ) (slots : List Slot) (listed : Judged (List Node)) (size used : ℕ) : Type 0 where
-    pub nodes : List Node
-    pub is : listed ≡ took nodes used
-    pub made : List ℕ
-    pub made_is : (end : ℕ) → made_slots pool end place slots nodes ≡ Ok made
-    pub made_size : length made ≤ used
-    pub bound : used ≤ size
-    pub again : (other rest : List ℕ) (end : ℕ) → Stands other end (made ++ rest)
-        → IsTwin (not deep) pool other nodes (listed_slots deep end place slots (made ++ rest)) (length made)
+  -- the nodes of fields are made, and read again
+  abbrev pub AreSlots : ℕ → List Slot → Judged (List Node) → ℕ → ℕ → Type 0
+  AreSlots place slots listed size used =
+      IsMade (not deep) pool (λ nodes made. (end : ℕ) → made_slots pool end place slots nodes ≡ Ok made) listed
+      (λ e bs. listed_slots deep e place slots bs) size used
 
   slot_then : (slot : Slot) (slots : List Slot) (end place a b : ℕ) (bytes : List ℕ)
       → IsSlot place slot (listed_slot deep end place slot bytes) (length bytes) a
@@ -299,27 +265,11 @@ module _ (pool : List ℕ) (fits : IsBytes pool) (deep : Bool) where
   unfolding listed_slots made_slots
   slot_then slot slots end place a b bytes one others =
       let next = next_place place (kept_count slot) in
-      let nodes = one.nodes ++ others.nodes in
-      let made = one.made ++ others.made in
-      let size = length-append one.made others.made in
-      record {
-        nodes = nodes;
-        is =
-            ap (λ j. j >>= λ x. listed_slots deep end next slots (drop x.1 bytes) >>= λ y. took (x.0 ++ y.0) (x.1 + y.1)) one.is
-            ∙ ap (λ j. j >>= λ y. took (one.nodes ++ y.0) (a + y.1)) others.is;
-        made = made;
-        made_is = λ e.
-            ap₂ (λ x ns. after x (made_slots pool e next slots ns)) (one.made_is e others.nodes) (one.passed others.nodes)
-            ∙ ap (after (Ok one.made)) (others.made_is e);
-        made_size = omega (arith, size, one.made_size, others.made_size);
-        bound = omega (arith, one.bound, others.bound, length-drop a bytes);
-        again = λ other rest e standing.
-            both_again (not deep) pool other (listed_slot deep e place slot) (listed_slots deep e next slots) one.nodes others.nodes one.made others.made rest e
-            (λ tail here. one.again other tail e here) (λ here. others.again other rest e here) standing;
-      }
+      both_made (λ e bs. listed_slot deep e place slot bs) (λ e bs. listed_slots deep e next slots bs) end bytes
+      (λ ns ms x y field more e. rw (field.is e ms, field.passed ms, more e)) one others
 
   spare_less : (slot : Slot) (slots : List Slot) → spare (slot ∷ slots) ≤ 4 → spare slots ≤ 4
-  spare_less slot slots few = omega (arith, few)
+  spare_less slot slots few = omega arith
 
   least_left : (slot : Slot) (slots : List Slot) → are_least (slot ∷ slots) ≡ true → are_least slots ≡ true
   least_left (kept_slot form) slots least = least
@@ -331,16 +281,7 @@ module _ (pool : List ℕ) (fits : IsBytes pool) (deep : Bool) where
       → AreSlots place slots (listed_slots deep end place slots bytes) (length bytes) n
   unfolding judge_slots listed_slots made_slots
   slots_round [] few least end place bytes items n stands h =
-      let used : 0 ≡ n = count_took [] items 0 n h in
-      record {
-        nodes = [];
-        is = ap (took []) used;
-        made = [];
-        made_is = λ e. refl;
-        made_size = omega arith;
-        bound = omega (arith, used);
-        again = λ other rest e standing. record { nodes = []; is = refl; same = none_same pool other };
-      }
+      none_made (count_took [] items 0 n h) (λ e. refl) (λ e bs. refl)
   slots_round (slot ∷ slots) few least end place bytes items n stands h =
       let one = bind_took (judge_slot slot bytes) _ items n h in
       let two = bind_took (judge_slots slots (drop one.1 bytes)) _ items n one.3 in

@@ -1,6 +1,6 @@
 -- Heads and nodes that were read make frames, one after another, which are read again as the same.
 use Rattle.std.proofs.Common.{◌≡◌, ℕ, suc, ◌+◌, ◌-◌, ◌≤◌, ◌<◌, ◌^◌, nat_le, Bool, true, not, List, [], ◌∷◌, ◌++◌, length, take, drop, Some, None, Result}
-use Rattle.std.proofs.Common.{Ok, refl, sym, ap, ap₂, subst, ◌∙◌, append_assoc, append-nil, arith, if◌then◌else◌}
+use Rattle.std.proofs.Common.{Ok, refl, sym, ap, ap₂, subst, ◌∙◌, append_assoc, arith, if◌then◌else◌}
 use Rattle.std.proofs.lemmas.Bool.Decides.{nat_tests}
 use Rattle.std.proofs.lemmas.List.{drop-drop, drop_at, length-append, length-take-le, take_all, take_at}
 use Rattle.amqp_types.specs.Judging.{IsBytes, took}
@@ -14,7 +14,6 @@ use Rattle.amqp_wire.specs.Looks.{payload_place}
 use Rattle.amqp_wire.specs.HeaderScan.{scan}
 use Rattle.amqp_wire.specs.Outlines.{outline_of}
 use Rattle.amqp_wire.specs.Spelling.{IsWithin, Spells, byte_of, bytes_as}
-use Rattle.amqp_wire.proofs.Cuts.{front-got}
 use Rattle.amqp_wire.proofs.Encoded.{scan-beside, verdict-spells}
 use Rattle.amqp_wire.proofs.HeaderScan.{scan-exact, scan-in_bounds}
 use Rattle.amqp_wire.proofs.Spelled.{verdict-spelled}
@@ -26,40 +25,23 @@ use Rattle.amqp_fields.specs.Listed.{payload_nodes}
 use Rattle.amqp_fields.specs.Made.{after, misfit_head}
 use Rattle.amqp_fields.specs.MadeFrames.{at_head, made_frame, made_frames, made_typed, nodes_in}
 use Rattle.amqp_fields.specs.Meaning.{IsSpan}
-use Rattle.amqp_fields.specs.Meant.{TellFrames, TellsFrame}
+use Rattle.amqp_fields.specs.Meant.{TellsFrame}
 use Rattle.amqp_fields.proofs.FramesGiven.{verdict_whole}
-use Rattle.amqp_fields.proofs.HeadsTold.{heads_told}
+use Rattle.amqp_fields.proofs.HeadsTold.{frame_told}
+use Rattle.amqp_fields.proofs.SameNodes.{same_length}
 use Rattle.amqp_fields.proofs.MeantFramesMade.{frame_fits}
 use Rattle.amqp_fields.proofs.Ordered.{plain_order}
 use Rattle.amqp_fields.proofs.Spans.{Stands}
 use Rattle.amqp_fields.proofs.Answering.{span_stands}
 use Rattle.amqp_fields_laws.specs.RoundTrips.{IsReadAgain, IsSameHead, SameHeads, ReadAgainHasSameNodes, ReadIsAccepted}
 use Rattle.amqp_fields_laws.proofs.Frames.{HeadOf, frame_round}
-use Rattle.amqp_fields_laws.proofs.Twins.{AreSame, as_many, both_same, none_same}
-use Rattle.amqp_fields_laws.proofs.FrameBytes.{around_fits, body_kind, made_as, scan_made, payload_at, payload_few, payload_within, spelled_few}
-use Rattle.amqp_fields_laws.proofs.FrameBytes.{version_channel, version_size, whole_is}
+use Rattle.amqp_fields_laws.proofs.Twins.{AreSame, both_same, none_same}
+use Rattle.amqp_fields_laws.proofs.Frames.{around_fits, body_kind, made_as, made_frame_is, scan_made, spelled_few}
+use Rattle.amqp_fields_laws.proofs.Frames.{version_size, version_told, whole_is}
 
 -- ---- one frame
 
 module _ (m : ℕ) (deep : Bool) (pool : List ℕ) (fits : IsBytes pool) (nodes : List Node) where
-  told_first : (frames : List Frame) (head : given.Head) (frame : Frame) (rest others : List Frame) → TellFrames pool nodes (head ∷ []) frames
-      → frames ++ rest ≡ frame ∷ others → TellsFrame pool nodes head frame
-  told_first [] head frame rest others told is = absurd told
-  told_first (f ∷ frames) head frame rest others told is =
-      let same : f ≡ frame = cc in
-      subst (λ g. TellsFrame pool nodes head g) same told.0
-
-  -- a head and its nodes mean the frame that they say
-  told_frame : (at first size : ℕ) (head : given.Head) (before own more : List Node) → nodes ≡ before ++ (own ++ more)
-      → length before ≡ first → (says : SaysFrame m deep pool at first head own size) → TellsFrame pool nodes head says.frame
-  told_frame at first size head before own more parts there says =
-      let one : SayFrames m deep pool at first (head ∷ []) own (at + size) =
-      record { own = own; others = []; size = size; nodes_are = sym (append-nil own); says = says; rest = (refl, refl) } in
-      let told = heads_told m deep pool fits nodes at first (at + size) (head ∷ []) before own more parts there one in
-      let goes = front-got plain (Some m) (drop at pool) says.frame size (verdict_whole m (drop at pool) says.raw size says.frame says.found says.is) in
-      told_first told.frames head says.frame (front plain (Some m) (drop (at + size) pool)) (front plain (Some m) (drop size (drop at pool)))
-      told.told (sym told.sequence ∙ goes.sequence)
-
   -- bytes that were made are read as a frame, behind other bytes and in front of others, with the same nodes
   pub record IsAgain (k : ℕ) (head : given.Head) (own : List Node) (made before rest : List ℕ) (place : ℕ) : Type 0 where
     pub twin : given.Head
@@ -80,26 +62,26 @@ module _ (m : ℕ) (deep : Bool) (pool : List ℕ) (fits : IsBytes pool) (nodes 
       → (read : List ℕ) (begin first : ℕ) → IsSpan pool begin (length read) read → (kind ≡ kinds.Body → payload ≡ read) → channel < 2 ^ 16
       → Spells plain (bytes_as kind channel payload) frame → IsWithin (Some k) (bytes_as kind channel payload)
       → length (bytes_as kind channel payload) < 2 ^ 32 + 8
-      → (kind ≡ kinds.ProtocolHeader → channel ≡ 0)
+      → (kind ≡ kinds.ProtocolHeader → (channel ≡ 0) × (length payload ≡ 3))
       → ((other : List ℕ) (end : ℕ) → Stands other end payload → AreSame (not deep) pool other own (payload_nodes kind deep end payload))
       → (before rest : List ℕ) (place : ℕ)
       → IsAgain k (head_of (raw_as kind channel read) (outline_of frame) begin first (length own)) own (bytes_as kind channel payload) before rest place
-  frame_again k kind channel payload frame own read begin first read_span body on spelled within few free again before rest place =
+  frame_again k kind channel payload frame own read begin first read_span body on spelled within few version again before rest place =
       let made = bytes_as kind channel payload in
       let whole_bytes = before ++ (made ++ rest) in
       let at = length before in
       let raw = raw_as kind channel payload in
       let start = at + payload_place kind in
-      let three : kind ≡ kinds.ProtocolHeader → length payload ≡ 3 = version_size kind channel payload frame spelled in
-      let found = scan_made k kind channel payload on (payload_few kind channel payload few three) within (λ version. (free version, three version)) in
+      let frame_is = made_frame_is kind channel payload rest in
+      let found = scan_made k kind channel payload on (frame_is.few few (λ is. (version is).1)) within version in
       let behind : drop at whole_bytes ≡ made ++ rest = drop_at before (made ++ rest) at refl in
       let front_is : scan (Some k) (made ++ rest) ≡ took raw (length made) =
       ap (λ bs. scan (Some k) (bs ++ rest)) (sym (take_all (length made) made (omega arith))) ∙ scan-exact (Some k) made rest raw (length made) found in
       let span : IsSpan whole_bytes start (length payload) payload = record {
-        within = omega (arith, length-append before (made ++ rest), length-append made rest, payload_within kind channel payload);
+        within = omega (arith, length-append before (made ++ rest), length-append made rest);
         bytes_are =
             ap (take (length payload)) (sym (drop-drop (payload_place kind) at whole_bytes))
-            ∙ ap (λ bs. take (length payload) (drop (payload_place kind) bs)) behind ∙ payload_at kind channel payload rest;
+            ∙ ap (λ bs. take (length payload) (drop (payload_place kind) bs)) behind ∙ frame_is.there;
       } in
       let others = nodes_at raw deep start in
       let same = again whole_bytes (start + length payload) (span_stands whole_bytes payload start span) in
@@ -121,7 +103,7 @@ module _ (m : ℕ) (deep : Bool) (pool : List ℕ) (fits : IsBytes pool) (nodes 
           class_is = refl;
           method_is = refl;
           body_size_is = refl;
-          nodes_are = as_many pool whole_bytes own others same.same;
+          nodes_are = same_length pool whole_bytes own others same.same;
           body_is = λ is.
               let content : payload ≡ read = body (body_kind kind is) in
               (sym (ap length content), read_span.bytes_are ∙ sym content ∙ sym span.bytes_are);
@@ -148,34 +130,36 @@ module _ (m : ℕ) (deep : Bool) (pool : List ℕ) (fits : IsBytes pool) (nodes 
       let few : size < 2 ^ 32 + 8 =
       omega (arith, spelled_few frame (take size left) spelled.0, length-take-le size left bounds.within) in
       let own_head = HeadOf pool fits deep nodes start first channel own kind payload frame in
-      let told = told_frame at first size head before own more parts there says in
+      let told = frame_told m deep pool fits at first size head nodes before own more parts there says in
       let told_own : TellsFrame pool nodes own_head frame = subst (λ h. TellsFrame pool nodes h frame) says.head_is told in
       let span : IsSpan pool start (length payload) payload = subst (λ (h : given.Head). IsSpan pool h.start h.length payload) says.head_is says.payload_is in
       let within : first + length own ≤ length nodes =
-      omega (arith, ap length parts, length-append before (own ++ more), length-append own more, there) in
-      let le : nat_le (first + length own) (length nodes) ≡ true = grind (arith, nat_tests, within) in
+      omega (arith, ap length parts, length-append before (own ++ more), length-append own more) in
+      let le : nat_le (first + length own) (length nodes) ≡ true = grind (arith, nat_tests) in
       let behind : drop first nodes ≡ own ++ more = ap (drop first) parts ∙ drop_at before (own ++ more) first there in
       let own_nodes : nodes_in nodes own_head ≡ Some own =
       ap (λ test. if test then Some (take (length own) (drop first nodes)) else None) le
       ∙ ap Some (ap (take (length own)) behind ∙ take_at own more (length own) refl) in
-      let free : kind ≡ kinds.ProtocolHeader → channel ≡ 0 = λ version. version_channel pool nodes own_head frame (ap byte_of version) told_own.1 in
+      let is_version = λ (version : kind ≡ kinds.ProtocolHeader). version_told pool nodes own_head frame (ap byte_of version) told_own.1 in
+      let free : kind ≡ kinds.ProtocolHeader → channel ≡ 0 = λ version. (is_version version).0 in
       let round = frame_round pool fits deep nodes start first channel own kind payload frame free span says.is says.nodes_are own_nodes in
       let made = bytes_as kind channel round.made in
       let own_made : (k : ℕ) → size ≤ k + 8 → made_frame pool nodes k own_head ≡ Ok made =
-      λ k enough. ap (λ test. if test then made_typed pool nodes k own_head else misfit_head) told_own.0 ∙ round.typed_is k (omega (arith, around, enough)) in
-      let enough : size ≤ size - 8 + 8 = omega (arith, bounds.least) in
+      λ k enough. ap (λ test. if test then made_typed pool nodes k own_head else misfit_head) told_own.0 ∙ round.typed_is k (omega arith) in
+      let enough : size ≤ size - 8 + 8 = omega arith in
       let encoded =
       made_as (made_frame pool nodes (size - 8) own_head) made (own_made (size - 8) enough)
-      (frame_fits plain pool fits nodes (size - 8) own_head frame plain_order (omega (arith, few)) told_own) in
-      let on : channel < 2 ^ 16 = let held = told_own.0 in grind (arith, nat_tests, held) in
-      let made_size : length made ≤ size = omega (arith, round.whole_size, around) in
+      (frame_fits plain pool fits nodes (size - 8) own_head frame plain_order (omega arith) told_own) in
+      let on : channel < 2 ^ 16 = let held = told_own.0 in grind (arith, nat_tests) in
+      let made_size : length made ≤ size = omega arith in
       let own_read : IsRead own_head own size = record {
         made = made;
-        made_is = λ k le. own_made k (omega (arith, limit, le));
+        made_is = λ k le. own_made k (omega arith);
         made_size = made_size;
         again = λ k le front rest place.
             frame_again k kind channel round.made frame own payload start first span round.body on encoded.0
-            (omega (arith, made_size, limit, le)) (omega (arith, made_size, few)) free round.again
+            (omega (arith, made_size)) (omega (arith, made_size))
+            (λ version. (free version, version_size kind channel round.made version ((is_version version).1 made encoded.0))) round.again
             front rest place;
       } in
       subst (λ h. IsRead h own size) (sym says.head_is) own_read
@@ -207,13 +191,13 @@ module _ (m : ℕ) (deep : Bool) (pool : List ℕ) (fits : IsBytes pool) (nodes 
       record {
         made = made;
         made_is = λ k index le. ap₂ (λ a b. after (at_head index a) b) (one.made_is k le) (rest.made_is k (index + 1) le);
-        made_size = omega (arith, sizes, one.made_size, rest.made_size);
+        made_size = omega arith;
         again = λ k le before place.
             let first = one.again k le before rest.made place in
             let next = rest.again k le (before ++ one.made) (place + length first.others) in
             let parts : (before ++ one.made) ++ rest.made ≡ before ++ made = append_assoc before one.made rest.made in
             let there : length (before ++ one.made) ≡ length before + length one.made = length-append before one.made in
-            let end : length (before ++ one.made) + length rest.made ≡ length before + length made = omega (arith, there, sizes) in
+            let end : length (before ++ one.made) + length rest.made ≡ length before + length made = omega arith in
             let P : List ℕ → Type 0 = λ bs.
             SayFrames k deep bs (length before + length one.made) (place + length first.others) next.twins next.others (length before + length made) in
             let Q : ℕ → Type 0 = λ a.
@@ -266,7 +250,7 @@ module _ (m : ℕ) (deep : Bool) (pool : List ℕ) (fits : IsBytes pool) (nodes 
 pub accepted : ReadIsAccepted
 accepted m k deep bytes heads nodes others used fits le says =
     let read = heads_read m deep bytes fits (nodes ++ others) 0 0 used heads [] nodes others refl refl says in
-    record { made = read.made; is = read.made_is k 0 le; few = omega (arith, read.made_size) }
+    record { made = read.made; is = read.made_is k 0 le; few = omega arith }
 
 same_made : (a b : List ℕ) (r : Result (List ℕ) WriteError) → r ≡ Ok a → r ≡ Ok b → a ≡ b
 same_made a b r one two = let same : ◌≡◌ {A = Result (List ℕ) WriteError} (Ok a) (Ok b) = sym one ∙ two in cc

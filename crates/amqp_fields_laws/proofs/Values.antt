@@ -1,35 +1,225 @@
--- Values that were read are made, and are read again as the same nodes.
-use Rattle.std.proofs.Common.{◌≡◌, ℕ, zero, suc, ◌+◌, ◌-◌, ◌≤◌, false, List, [], ◌∷◌, ◌++◌, length, drop, Option, Some, None, Ok, inl, inr, refl, sym, ap, ap₂}
-use Rattle.std.proofs.Common.{subst, ◌∙◌, append_assoc, arith}
-use Rattle.std.proofs.lemmas.List.{drop_at, length-append, length-drop}
-use Rattle.amqp_types.specs.Judging.{Judge, Judged, IsBytes, took, ◌>>=◌}
+-- Values that were read, and what fills tables and arrays, are made, and are read again as the same nodes.
+use Rattle.std.proofs.Common.{◌≡◌, ℕ, zero, suc, ◌-◌, ◌<◌, ◌≤◌, ◌^◌, false, List, [], ◌∷◌, ◌++◌, length, drop, Result, Ok, refl, sym, ap, ap₂, subst, ◌∙◌}
+use Rattle.std.proofs.Common.{arith}
+use Rattle.std.proofs.Common.{◌+◌, Option, Some, None, inl, inr, append_assoc}
+use Rattle.std.proofs.lemmas.List.{drop_at, length-append, nil_from_length, length-drop}
+use Rattle.amqp_types.specs.Judging.{Judged, Judge, Fault, IsBytes, took, past, fault}
+use Rattle.amqp_types.specs.Strings.{judge_long_string, with_length, judge_short_string, short_string_bytes}
+use Rattle.amqp_types.specs.ValueJudging.{filled, next_item, read_map, behind_tag, judge_array, judge_behind, judge_decimal, judge_entry, judge_table}
+use Rattle.amqp_types.specs.ValueJudging.{judge_tagged, judge_value, nested}
+use Rattle.amqp_types.proofs.Texts.{long_string_exact, short_string_exact}
+use Rattle.amqp_laws.proofs.Filling.{filled_next}
+use Rattle.amqp_fields.specs.declared.node.Node.{Node}
+use Rattle.amqp_fields.specs.Listed.{holding, joined, listed_items, listed_after, listed_behind, listed_entry, listed_nested, listed_value, listed_tagged}
+use Rattle.amqp_fields.specs.Listed.{of_kind}
+use Rattle.amqp_fields.specs.Made.{Maker, after, closed, made_each, made_given, made_items, own_index, made_behind, made_entry, made_leaf, made_long}
+use Rattle.amqp_fields.specs.Made.{made_nested, made_text, made_value}
+use Rattle.amqp_fields.specs.Meaning.{IsSpan}
+use Rattle.amqp_fields.specs.Nodes.{StandsFirst, held, spanned, blank, keyed}
+use Rattle.amqp_fields.specs.SameNodes.{HasInside, SameNodes}
+use Rattle.amqp_fields.proofs.EachMade.{each_next, each_none}
+use Rattle.amqp_fields.proofs.SameNodes.{same_append, same_length}
+use Rattle.amqp_fields.proofs.Spans.{Stands, long_part, part_stands, span_of, stands_drop, short_part}
+use Rattle.amqp_fields.proofs.ValuesFound.{IsFresh, Keeps, map_read, all_took, keeps_itself, map_took}
+use Rattle.amqp_fields_laws.proofs.Twins.{long_made, span_made, IsMade, IsRound, stands_fit, decimal_round, eight_round, long_round, number_round}
+use Rattle.amqp_fields_laws.proofs.Twins.{signed_round, text_made, truth_round, AreAlike, IsTwin, as_made, no_bytes, one_same, same_span, then_took}
 use Rattle.amqp_types.specs.Numbers.{bytes1, bytes2, bytes4, bytes8, judge_number}
 use Rattle.amqp_types.specs.Signed.{judge_signed}
 use Rattle.amqp_types.specs.Booleans.{judge_boolean}
-use Rattle.amqp_types.specs.Strings.{judge_long_string, judge_short_string, short_string_bytes}
 use Rattle.amqp_types.specs.Values.{FieldValue, Entry, short_short_int, short_int, long_int, long_long_int, short_short_uint, short_uint, long_uint, float}
 use Rattle.amqp_types.specs.Values.{double, timestamp, long_string, byte_array, boolean_value, signed_value, unsigned_value, decimal_value, bytes_value}
 use Rattle.amqp_types.specs.Values.{array_value, table_value, void_value, values_of, entries_of}
-use Rattle.amqp_types.specs.ValueJudging.{filled, read_map, behind_tag, judge_array, judge_behind, judge_decimal, judge_entry, judge_table, judge_tagged}
-use Rattle.amqp_types.specs.ValueJudging.{judge_value, nested}
 use Rattle.amqp_types.specs.Settling.{settled}
 use Rattle.amqp_types.specs.Tags.{tag_at, tag_byte}
 use Rattle.amqp_types.specs.declared.tag.FieldTag.{FieldTag}
 use Rattle.amqp_types.specs.declared.tag.FieldTag.TheVariants as tag
-use Rattle.amqp_types.proofs.Texts.{short_string_exact}
 use Rattle.amqp_types.proofs.Took.{bind_took, count_took}
 use Rattle.amqp_laws.proofs.Tags.{tag_read}
-use Rattle.amqp_fields.specs.declared.node.Node.{Node}
-use Rattle.amqp_fields.specs.Nodes.{blank, keyed}
-use Rattle.amqp_fields.specs.Listed.{end_before, listed_after, listed_behind, listed_entry, listed_nested, listed_value, listed_tagged, of_kind}
-use Rattle.amqp_fields.specs.Made.{after, made_behind, made_entry, made_leaf, made_long, made_nested, made_text, made_value, own_index}
-use Rattle.amqp_fields.specs.Meaning.{IsSpan}
-use Rattle.amqp_fields.proofs.Spans.{Stands, part_stands, short_part, span_of, stands_drop}
-use Rattle.amqp_fields.proofs.ValuesFound.{IsFresh, Keeps, all_took, keeps_itself, map_read, map_took}
 use Rattle.amqp_fields.proofs.ValuesMade.{value_parts}
-use Rattle.amqp_fields_laws.proofs.Items.{items_round}
-use Rattle.amqp_fields_laws.proofs.Leaves.{decimal_round, eight_round, long_round, number_round, signed_round, span_made, text_made, truth_round}
-use Rattle.amqp_fields_laws.proofs.Twins.{AreAlike, IsItem, IsRound, IsTwin, as_item, no_bytes, one_same, same_span, stands_fit}
+
+-- groups that were listed again, as many and with the same nodes
+pub record AreTwins (pool other : List ℕ) (groups : List (List Node)) (listed : Result (List (List Node)) Fault) : Type 0 where
+  pub more : List (List Node)
+  pub is : listed ≡ Ok more
+  pub number : length more ≡ length groups
+  pub same : SameNodes pool other (joined groups) (joined more)
+
+-- Groups that were listed of some bytes: they make no more bytes than these, which are listed again as twins.
+pub record AreItems (pool : List ℕ) (make : Maker) (listed : Result (List (List Node)) Fault) (list : ℕ → Judge (List Node)) (size : ℕ) : Type 0 where
+  pub groups : List (List Node)
+  pub is : listed ≡ Ok groups
+  pub made : List ℕ
+  pub made_is : (end : ℕ) → made_each make end 0 (joined groups) ≡ Ok made
+  pub made_size : length made ≤ size
+  pub none : joined groups ≡ [] → size ≡ 0
+  pub again : (other : List ℕ) (end : ℕ) → Stands other end made → AreTwins pool other groups (filled (list end) 0 made)
+
+-- a node with those inside it makes at least one byte
+pub record MakesItem (make : Maker) (nodes : List Node) (made : List ℕ) : Type 0 where
+  pub node : Node
+  pub inside : List Node
+  pub nodes_are : nodes ≡ node ∷ inside
+  pub inside_is : node.inside ≡ length inside
+  pub is : (end : ℕ) → make end node inside ≡ Ok made
+  pub some : 1 ≤ length made
+
+-- a thing that fills a part of a table or an array
+abbrev pub IsItem : List ℕ → Maker → Judged (List Node) → (ℕ → Judge (List Node)) → ℕ → ℕ → Type 0
+IsItem pool make listed relisted size used = IsMade false pool (MakesItem make) listed relisted size used
+
+module _ {A : Type 0} (judge : Judge A) (list : ℕ → Judge (List Node)) (make : Maker) (pool : List ℕ) (end : ℕ)
+    (each : (bytes : List ℕ) (x : A) (n : ℕ) → Stands pool end bytes → judge bytes ≡ took x n → IsItem pool make (list end bytes) list (length bytes) n)
+  where
+    none_left : (listed : Result (List (List Node)) Fault) → listed ≡ Ok [] → AreItems pool make listed list 0
+    unfolding filled
+    none_left listed is = record {
+      groups = [];
+      is = is;
+      made = [];
+      made_is = λ e. each_none make e;
+      made_size = omega arith;
+      none = λ empty. refl;
+      again = λ other e stands. record { more = []; is = refl; number = refl; same = tt };
+    }
+
+    -- one more in front
+    one_more : (byte : ℕ) (bytes : List ℕ) (n : ℕ) → IsItem pool make (list end (byte ∷ bytes)) list (length (byte ∷ bytes)) n
+        → AreItems pool make (filled (list end) (n - 1) bytes) list (length bytes - (n - 1))
+        → AreItems pool make (next_item (list end (byte ∷ bytes)) (λ k. filled (list end) (k - 1) bytes)) list (length (byte ∷ bytes))
+    one_more byte bytes n one others =
+        let group = one.nodes in
+        let item = one.makes in
+        let whole = one.made ++ others.made in
+        let size = length-append one.made others.made in
+        let first : StandsFirst (group ++ joined others.groups) item.node item.inside (joined others.groups) =
+        record { nodes_are = ap (λ ns. ns ++ joined others.groups) item.nodes_are; inside_is = item.inside_is } in
+        record {
+          groups = group ∷ others.groups;
+          is = rw (one.is, others.is);
+          made = whole;
+          made_is = λ e.
+              each_next make e first ∙ ap₂ (λ a b. after a b) (item.is (e - length (joined others.groups))) (others.made_is e);
+          made_size = omega arith;
+          none = λ empty. absurd (let e = sym first.nodes_are ∙ empty in cc);
+          again = λ other e stands.
+              let one_twin = one.again other others.made e stands in
+              let past_one : drop (length one.made) whole ≡ others.made = drop_at one.made others.made (length one.made) refl in
+              let behind : Stands other e others.made =
+              subst (Stands other e) past_one (stands_drop other whole e (length one.made) stands (omega arith)) in
+              let twins = others.again other e behind in
+              record {
+                more = one_twin.nodes ∷ twins.more;
+                is =
+                    filled_next (list e) whole one_twin.nodes (length one.made) (omega arith) one_twin.is item.some (omega arith)
+                    ∙ rw (past_one, twins.is);
+                number = ap suc twins.number;
+                same = same_append pool other group one_twin.nodes (joined others.groups) (joined twins.more) one_twin.same.same twins.same;
+              };
+        }
+
+    -- what comes first, where the others are found
+    by_item : (byte : ℕ) (bytes : List ℕ) (xs : List A) → Stands pool end (byte ∷ bytes)
+        → ((k : ℕ) (ys : List A) → filled judge k bytes ≡ Ok ys → AreItems pool make (filled (list end) k bytes) list (length bytes - k))
+        → (j : Judged A) → judge (byte ∷ bytes) ≡ j → next_item j (λ k. filled judge (k - 1) bytes) ≡ Ok xs
+        → AreItems pool make (next_item (list end (byte ∷ bytes)) (λ k. filled (list end) (k - 1) bytes)) list (length (byte ∷ bytes))
+    by_item byte bytes xs stands rest past is h = absurd cc
+    by_item byte bytes xs stands rest (fault bad) is h = absurd cc
+    by_item byte bytes xs stands rest (took x n) is h =
+        let next = map_read (λ ys. x ∷ ys) (filled judge (n - 1) bytes) xs h in
+        one_more byte bytes n (each (byte ∷ bytes) x n stands is) (rest (n - 1) next.0 next.1)
+
+    -- the things that fill some bytes are made, and listed again
+    filled_round : (k : ℕ) (bytes : List ℕ) (xs : List A) → Stands pool end bytes
+        → filled judge k bytes ≡ Ok xs → AreItems pool make (filled (list end) k bytes) list (length bytes - k)
+    unfolding filled
+    filled_round k [] xs stands h = subst (AreItems pool make (Ok []) list) {x = 0} {y = 0 - k} (omega arith) (none_left (Ok []) refl)
+    filled_round (suc k) (byte ∷ bytes) xs stands h =
+        subst (AreItems pool make (filled (list end) k bytes) list) {x = length bytes - k} {y = length (byte ∷ bytes) - suc k} (omega arith)
+        (filled_round k bytes xs (stands_drop pool (byte ∷ bytes) end 1 stands (omega arith)) h)
+    filled_round zero (byte ∷ bytes) xs stands h =
+        subst (AreItems pool make (next_item (list end (byte ∷ bytes)) (λ k. filled (list end) (k - 1) bytes)) list)
+        {x = length (byte ∷ bytes)} {y = length (byte ∷ bytes) - 0} (omega arith)
+        (by_item byte bytes xs stands (λ k ys e. filled_round k bytes ys (stands_drop pool (byte ∷ bytes) end 1 stands (omega arith)) e)
+        (judge (byte ∷ bytes)) refl h)
+
+-- ---- arrays and tables
+
+-- content that was read is made again with its length: as it stands in the pool where nothing lies inside
+items_made : {A : Type 0} (judge : Judge A) (make : Maker) (pool : List ℕ) (end : ℕ) (node : Node) (inside : List Node) (content made : List ℕ)
+    (xs : List A) → IsSpan pool node.start node.length content → filled judge 0 content ≡ Ok xs → length content < 2 ^ 32
+    → made_each make end 0 inside ≡ Ok made → length made ≤ length content → (inside ≡ [] → length content ≡ 0)
+    → made_items judge make pool end node inside ≡ Ok (with_length made)
+unfolding made_items
+items_made judge make pool end node [] content made xs span fills few is size none =
+    let index = own_index end [] in
+    let empty : content ≡ [] = nil_from_length content (none refl) in
+    let same : content ≡ made = empty ∙ sym (nil_from_length made (omega (arith, none refl))) in
+    span_made (λ bs. made_given index bs (filled judge 0 bs)) index pool content node.start node.length span
+    ∙ ap (made_given index content) fills ∙ long_made index content few ∙ ap (λ bs. Ok (with_length bs)) same
+items_made judge make pool end node (first ∷ others) content made xs span fills few is size none =
+    let index = own_index end (first ∷ others) in
+    ap (closed index) is ∙ long_made index made (omega arith)
+
+module _ {A : Type 0} (pool : List ℕ) (fits : IsBytes pool) (judge : Judge A) (list : ℕ → Judge (List Node)) (make : Maker)
+    (each : (end : ℕ) (bytes : List ℕ) (x : A) (n : ℕ) → Stands pool end bytes → judge bytes ≡ took x n
+    → IsItem pool make (list end bytes) list (length bytes) n)
+  where
+    -- a table or an array, whose content some things fill
+    pub items_round : (bytes : List ℕ) (end n : ℕ) (label : Node) (content : List ℕ) (xs : List A) → IsFresh label → HasInside label.kind
+        → Stands pool end bytes → judge_long_string bytes ≡ took content n → filled judge 0 content ≡ Ok xs
+        → IsRound false pool (Keeps label) (made_items judge make pool) label (listed_items list end label bytes)
+        (λ e twin bs. listed_items list e twin bs) (length bytes) n
+    unfolding listed_items
+    items_round bytes end n label content xs fresh has_inside stands h fills =
+        let part = long_part bytes content n h in
+        let few = (long_string_exact.spelled bytes content n (stands_fit pool fits end bytes stands) h).0.fits in
+        let inner = end - length (drop n bytes) in
+        let there = part_stands pool bytes content end 4 n stands part in
+        let items = filled_round judge list make pool inner (each inner) 0 content xs there fills in
+        let group = joined items.groups in
+        let top = held (spanned label inner content) (length group) (length items.groups) in
+        let long : length items.made < 2 ^ 32 = omega arith in
+        let made = with_length items.made in
+        record {
+          node = top;
+          inside = group;
+          is = simp (h, items.is);
+          inside_is = refl;
+          keeps = record { key_start = refl; key_length = refl; place = refl; kind = refl };
+          made = made;
+          made_is = λ e.
+              items_made judge make pool e top group content items.made xs (span_of pool content inner there) fills few (items.made_is e)
+              (omega arith) (λ empty. let zero_is = items.none empty in omega arith);
+          made_size = omega arith;
+          bound = part.within;
+          again = λ other rest e twin alike standing.
+              let whole = made ++ rest in
+              let read : judge_long_string whole ≡ took items.made (length made) =
+              long_string_exact.taken made rest items.made (record { fits = long; bytes_are = refl }) in
+              let within = e - length (drop (length made) whole) in
+              let begins = part_stands other whole items.made e 4 (length made) standing (long_part whole items.made (length made) read) in
+              let twins = items.again other within begins in
+              record {
+                nodes = holding (spanned twin within items.made) twins.more;
+                is = simp (read, twins.is);
+                same = record {
+                  same = (
+                    record {
+                      kind_is = alike.kind;
+                      place_is = alike.place;
+                      number_is = alike.left.number ∙ sym alike.right.number;
+                      scale_is = alike.left.scale ∙ sym alike.right.scale;
+                      inside_is = same_length pool other group (joined twins.more) twins.same;
+                      items_are = sym twins.number;
+                      key_is = alike.key;
+                      span_is = λ no. absurd (no has_inside);
+                    },
+                    twins.same,
+                  );
+                  spans = λ alone. absurd cc;
+                };
+              };
+        }
 
 -- the key of a node stays
 abbrev pub KeepsKey : Node → Node → Type 0
@@ -88,7 +278,9 @@ module _ (pool : List ℕ) (fits : IsBytes pool) where
   element_round depth_left values end bytes v n stands h =
       let fresh : IsFresh blank = record { inside = refl; items = refl; start = refl; count = refl; number = refl; scale = refl } in
       let value = values bytes end n blank v fresh stands h in
-      as_item value.round fresh refl value.some
+      let round = value.round in
+      as_made round fresh refl
+      (record { node = round.node; inside = round.inside; nodes_are = refl; inside_is = round.inside_is; is = round.made_is; some = value.some })
 
   fresh_key : (end : ℕ) (key : List ℕ) → IsFresh (keyed end key)
   fresh_key end key = record { inside = refl; items = refl; start = refl; count = refl; number = refl; scale = refl }
@@ -139,28 +331,27 @@ module _ (pool : List ℕ) (fits : IsBytes pool) where
       let again = v.again other rest e twin alike (subst (Stands other e) behind (stands_drop other whole e (length front) standing begins.within)) in
       record {
         nodes = again.nodes;
-        is =
-            ap (λ j. j >>= λ k. listed_value depth_left e (keyed (end_before e (drop k.1 whole)) k.0) (drop k.1 whole) >>= λ x. took x.0 (k.1 + x.1)) read
-            ∙ ap (λ bs. listed_value depth_left e twin bs >>= λ x. took x.0 (length front + x.1)) behind
-            ∙ ap (λ j. j >>= λ x. took x.0 (length front + x.1)) again.is ∙ ap (took again.nodes) (sym size);
+        is = then_took _ _ read (then_took _ _ (ap (listed_value depth_left e twin) behind ∙ again.is) (ap (took again.nodes) (sym size)));
         same = again.same;
       } in
       record {
-        node = node;
-        inside = v.inside;
-        is =
-            ap (λ j. j >>= λ k. listed_value depth_left end (keyed (end_before end (drop k.1 bytes)) k.0) (drop k.1 bytes) >>= λ x. took x.0 (k.1 + x.1)) one.2
-            ∙ ap (λ j. j >>= λ x. took x.0 (one.1 + x.1)) v.is ∙ ap (took (node ∷ v.inside)) count;
-        inside_is = v.inside_is;
+        nodes = node ∷ v.inside;
+        is = then_took _ _ one.2 (then_took _ _ v.is (ap (took (node ∷ v.inside)) count));
         made = made;
-        made_is = λ e.
-            ap₂ (λ a b. after a b)
-            (span_made (made_text (own_index e v.inside)) (own_index e v.inside) pool key node.key_start node.key_length key_span
-            ∙ text_made (own_index e v.inside) key text.fits text.utf8)
-            (v.made_is e);
-        made_size = omega (arith, size, v.made_size, part.used_is, count);
-        some = omega (arith, size);
-        bound = omega (arith, count, v.bound, part.within, length-drop one.1 bytes);
+        makes = record {
+          node = node;
+          inside = v.inside;
+          nodes_are = refl;
+          inside_is = v.inside_is;
+          is = λ e.
+              ap₂ (λ a b. after a b)
+              (span_made (made_text (own_index e v.inside)) _ pool key node.key_start node.key_length key_span
+              ∙ text_made (own_index e v.inside) key text.fits text.utf8)
+              (v.made_is e);
+          some = omega arith;
+        };
+        made_size = omega arith;
+        bound = omega (arith, length-drop one.1 bytes);
         again = λ other rest e standing.
             let parts : (front ++ v.made) ++ rest ≡ front ++ (v.made ++ rest) = append_assoc front v.made rest in
             subst (λ bs. IsTwin false pool other (node ∷ v.inside) (listed_entry (listed_value depth_left) e bs) (length made)) (sym parts)
@@ -184,48 +375,48 @@ module _ (pool : List ℕ) (fits : IsBytes pool) where
     unfolding judge_behind listed_behind made_behind made_leaf nested listed_nested made_nested judge_value listed_value made_value bytes_fit
     behind_round depth_left below tag.Boolean kind h =
         let one = map_took judge_boolean boolean_value bytes v n h in
-        truth_round pool bytes bytes_fit (made_behind pool (made_nested pool depth_left) tag.Boolean) label fresh n one.0 one.1 (λ e. refl)
+        truth_round _ pool bytes bytes_fit _ label fresh n one.0 one.1 (λ e. refl)
     behind_round depth_left below tag.ShortShortInt kind h =
         let one = map_took (judge_signed bytes1) (signed_value short_short_int) bytes v n h in
-        signed_round pool bytes bytes_fit (made_behind pool (made_nested pool depth_left) tag.ShortShortInt) label fresh n bytes1 one.0 one.1 (λ e. refl)
+        signed_round _ pool bytes bytes_fit _ label fresh n bytes1 one.0 one.1 (λ e. refl)
     behind_round depth_left below tag.ShortShortUInt kind h =
         let one = map_took (judge_number bytes1) (unsigned_value short_short_uint) bytes v n h in
-        number_round pool bytes bytes_fit (made_behind pool (made_nested pool depth_left) tag.ShortShortUInt) label fresh n bytes1 one.0 one.1 (λ e. refl)
+        number_round _ pool bytes bytes_fit _ label fresh n bytes1 one.0 one.1 (λ e. refl)
     behind_round depth_left below tag.ShortInt kind h =
         let one = map_took (judge_signed bytes2) (signed_value short_int) bytes v n h in
-        signed_round pool bytes bytes_fit (made_behind pool (made_nested pool depth_left) tag.ShortInt) label fresh n bytes2 one.0 one.1 (λ e. refl)
+        signed_round _ pool bytes bytes_fit _ label fresh n bytes2 one.0 one.1 (λ e. refl)
     behind_round depth_left below tag.ShortUInt kind h =
         let one = map_took (judge_number bytes2) (unsigned_value short_uint) bytes v n h in
-        number_round pool bytes bytes_fit (made_behind pool (made_nested pool depth_left) tag.ShortUInt) label fresh n bytes2 one.0 one.1 (λ e. refl)
+        number_round _ pool bytes bytes_fit _ label fresh n bytes2 one.0 one.1 (λ e. refl)
     behind_round depth_left below tag.LongInt kind h =
         let one = map_took (judge_signed bytes4) (signed_value long_int) bytes v n h in
-        signed_round pool bytes bytes_fit (made_behind pool (made_nested pool depth_left) tag.LongInt) label fresh n bytes4 one.0 one.1 (λ e. refl)
+        signed_round _ pool bytes bytes_fit _ label fresh n bytes4 one.0 one.1 (λ e. refl)
     behind_round depth_left below tag.LongUInt kind h =
         let one = map_took (judge_number bytes4) (unsigned_value long_uint) bytes v n h in
-        number_round pool bytes bytes_fit (made_behind pool (made_nested pool depth_left) tag.LongUInt) label fresh n bytes4 one.0 one.1 (λ e. refl)
+        number_round _ pool bytes bytes_fit _ label fresh n bytes4 one.0 one.1 (λ e. refl)
     behind_round depth_left below tag.LongLongInt kind h =
         let one = map_took (judge_signed bytes8) (signed_value long_long_int) bytes v n h in
-        eight_round pool bytes bytes_fit (made_behind pool (made_nested pool depth_left) tag.LongLongInt) label fresh n one.0 one.1 (λ e. refl)
+        eight_round _ pool bytes bytes_fit _ label fresh n one.0 one.1 (λ e. refl)
     behind_round depth_left below tag.Float kind h =
         let one = map_took (judge_number bytes4) (unsigned_value float) bytes v n h in
-        number_round pool bytes bytes_fit (made_behind pool (made_nested pool depth_left) tag.Float) label fresh n bytes4 one.0 one.1 (λ e. refl)
+        number_round _ pool bytes bytes_fit _ label fresh n bytes4 one.0 one.1 (λ e. refl)
     behind_round depth_left below tag.Double kind h =
         let one = map_took (judge_number bytes8) (unsigned_value double) bytes v n h in
-        number_round pool bytes bytes_fit (made_behind pool (made_nested pool depth_left) tag.Double) label fresh n bytes8 one.0 one.1 (λ e. refl)
+        number_round _ pool bytes bytes_fit _ label fresh n bytes8 one.0 one.1 (λ e. refl)
     behind_round depth_left below tag.DecimalValue kind h =
         let one = map_took judge_decimal (λ d. decimal_value d.0 d.1) bytes v n h in
-        decimal_round pool bytes bytes_fit (made_behind pool (made_nested pool depth_left) tag.DecimalValue) label fresh n one.0 one.1 (λ e. refl)
+        decimal_round _ pool bytes bytes_fit _ label fresh n one.0 one.1 (λ e. refl)
     behind_round depth_left below tag.LongString kind h =
         let one = map_took judge_long_string (bytes_value long_string) bytes v n h in
-        long_round pool bytes bytes_fit end stands (made_behind pool (made_nested pool depth_left) tag.LongString) label fresh one.0 n one.1
-        (λ at e few span. span_made (made_long (own_index e [])) (own_index e []) pool one.0 (at - length one.0) (length one.0) span)
+        long_round _ pool bytes bytes_fit end stands _ label fresh one.0 n one.1
+        (λ at e few span. span_made (made_long (own_index e [])) _ pool one.0 _ _ span)
     behind_round depth_left below tag.Timestamp kind h =
         let one = map_took (judge_number bytes8) (unsigned_value timestamp) bytes v n h in
-        number_round pool bytes bytes_fit (made_behind pool (made_nested pool depth_left) tag.Timestamp) label fresh n bytes8 one.0 one.1 (λ e. refl)
+        number_round _ pool bytes bytes_fit _ label fresh n bytes8 one.0 one.1 (λ e. refl)
     behind_round depth_left below tag.ByteArray kind h =
         let one = map_took judge_long_string (bytes_value byte_array) bytes v n h in
-        long_round pool bytes bytes_fit end stands (made_behind pool (made_nested pool depth_left) tag.ByteArray) label fresh one.0 n one.1
-        (λ at e few span. span_made (made_long (own_index e [])) (own_index e []) pool one.0 (at - length one.0) (length one.0) span)
+        long_round _ pool bytes bytes_fit end stands _ label fresh one.0 n one.1
+        (λ at e few span. span_made (made_long (own_index e [])) _ pool one.0 _ _ span)
     behind_round depth_left below tag.Void kind h =
         let count : 0 ≡ n = count_took void_value v 0 n h in
         record {
@@ -237,7 +428,7 @@ module _ (pool : List ℕ) (fits : IsBytes pool) where
           made = [];
           made_is = λ e. refl;
           made_size = omega arith;
-          bound = omega (arith, count);
+          bound = omega arith;
           again = λ other rest e twin alike standing. record {
             nodes = twin ∷ [];
             is = refl;
@@ -257,18 +448,21 @@ module _ (pool : List ℕ) (fits : IsBytes pool) where
     behind_round (suc depth_left) below tag.FieldArray kind h =
         let one = map_took (judge_array (judge_value depth_left)) (λ vs. array_value (values_of vs)) bytes v n h in
         let has = array_content (judge_value depth_left) bytes one.0 n one.1 in
-        items_round pool fits (judge_value depth_left) (λ e bs. listed_value depth_left e blank bs)
-        (made_value pool depth_left) (element_round depth_left below)
+        items_round pool fits (judge_value depth_left) (λ e bs. listed_value depth_left e blank bs) _ (element_round depth_left below)
         bytes end n label has.content has.things fresh (inr kind) stands has.is has.fills
     behind_round zero below tag.FieldTable kind h = absurd cc
     behind_round (suc depth_left) below tag.FieldTable kind h =
         let one = map_took (judge_table (judge_value depth_left)) (λ es. table_value (entries_of es)) bytes v n h in
         let has = table_content (judge_value depth_left) bytes one.0 n one.1 in
-        items_round pool fits (judge_entry (judge_value depth_left)) (λ e bs. listed_entry (listed_value depth_left) e bs)
-        (made_entry pool (made_value pool depth_left)) (entry_round depth_left below)
+        items_round pool fits (judge_entry (judge_value depth_left)) (listed_entry (listed_value depth_left)) _ (entry_round depth_left below)
         bytes end n label has.content has.things fresh (inl (inr kind)) stands has.is has.fills
 
   -- ---- a tag and its value
+
+  -- a node whose kind alone is known is fresh
+  fresh_marked : (label : Node) (kind : ℕ) → IsFresh label → IsFresh (of_kind label kind)
+  fresh_marked label kind h =
+      record { inside = h.inside; items = h.items; start = h.start; count = h.count; number = h.number; scale = h.scale }
 
   tagged_round : (depth_left : ℕ) → AreBelow depth_left → (bytes : List ℕ) (byte end n : ℕ) (label : Node) (v : FieldValue) → IsFresh label
       → Stands pool end (byte ∷ bytes) → (o : Option FieldTag) → behind_tag (nested depth_left) o bytes ≡ took v n
@@ -280,8 +474,7 @@ module _ (pool : List ℕ) (fits : IsBytes pool) where
       let count : 1 + one.1 ≡ n = count_took one.0 v (1 + one.1) n one.3 in
       let kind = tag_byte t in
       let marked = of_kind label kind in
-      let marked_fresh : IsFresh marked =
-      record { inside = fresh.inside; items = fresh.items; start = fresh.start; count = fresh.count; number = fresh.number; scale = fresh.scale } in
+      let marked_fresh = fresh_marked label kind fresh in
       let b =
       behind_round end marked marked_fresh bytes (stands_drop pool (byte ∷ bytes) end 1 stands (omega arith)) one.0 one.1 depth_left below t refl one.2 in
       let read : tag_at kind ≡ Some t = tag_read kind t (inl refl) in
@@ -289,37 +482,27 @@ module _ (pool : List ℕ) (fits : IsBytes pool) where
         round = record {
           node = b.node;
           inside = b.inside;
-          is = ap (λ j. j >>= λ x. took x.0 (1 + x.1)) b.is ∙ ap (took (b.node ∷ b.inside)) count;
+          is = simp b.is (ap (took (b.node ∷ b.inside)) count);
           inside_is = b.inside_is;
           keeps = (b.keeps.key_start, b.keeps.key_length);
           made = kind ∷ b.made;
           made_is = λ e.
               value_parts pool depth_left e b.node b.inside t (tag_read b.node.kind t (inl b.keeps.kind)) (sym b.keeps.kind)
               ∙ ap₂ (λ k made. after (Ok (k ∷ [])) made) b.keeps.kind (b.made_is e);
-          made_size = omega (arith, count, b.made_size);
-          bound = omega (arith, count, b.bound);
+          made_size = omega arith;
+          bound = omega arith;
           again = λ other rest e twin alike standing.
               let alike_marked : AreAlike pool other marked (of_kind twin kind) = record {
                 kind = refl;
                 place = alike.place;
                 key = alike.key;
                 left = marked_fresh;
-                right = record {
-                  inside = alike.right.inside;
-                  items = alike.right.items;
-                  start = alike.right.start;
-                  count = alike.right.count;
-                  number = alike.right.number;
-                  scale = alike.right.scale;
-                };
+                right = fresh_marked twin kind alike.right;
               } in
               let again = b.again other rest e (of_kind twin kind) alike_marked (stands_drop other (kind ∷ (b.made ++ rest)) e 1 standing (omega arith)) in
               record {
                 nodes = again.nodes;
-                is =
-                    ap (λ o. listed_after (listed_nested depth_left) e twin o (b.made ++ rest)) read
-                    ∙ ap (λ j. j >>= λ x. took x.0 (1 + x.1)) again.is
-                    ∙ ap (took again.nodes) {x = 1 + length b.made} {y = suc (length b.made)} (omega arith);
+                is = simp (read, again.is) (ap (took again.nodes) {x = 1 + length b.made} {y = suc (length b.made)} (omega arith));
                 same = again.same;
               };
         };

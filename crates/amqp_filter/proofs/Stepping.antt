@@ -1,24 +1,21 @@
 -- What is written for one frame, and what is kept then, by its mark.
-use Rattle.std.proofs.Common.{◌≡◌, ◌≢◌, ℕ, ◌+◌, Bool, true, false, eqb, leb, List, [], ◌∷◌, refl, sym, ap, subst, ◌∙◌, inl, inr, Option, Some, None, Ok, Err}
+use Rattle.std.proofs.Common.{◌≡◌, ◌≢◌, ℕ, ◌+◌, Bool, true, false, eqb, leb, List, [], ◌∷◌, refl, sym, ap, subst, ◌∙◌, Option, Some, None, Ok, Err}
 use Rattle.std.specs.Prelude.{IsOk, IsSome, Result}
-use Rattle.std.proofs.lemmas.Bool.{cases_eq, eqb-true, eq-eqb, ne_eqb}
+use Rattle.std.proofs.lemmas.Bool.{eqb-true}
 use Rattle.std.specs.FinMap as finite
-use Rattle.amqp_types.specs.Methods.{judge_payload}
-use Rattle.amqp_types.specs.ContentHeaders.{judge_content_header}
 use Rattle.amqp_wire.specs.declared.frame_type.AMQPFrameType.{AMQPFrameType}
 use Rattle.amqp_wire.specs.declared.frame_type.AMQPFrameType.TheVariants as kinds
 use Rattle.amqp_wire.specs.declared.outline.FrameOutline.{FrameOutline}
 use Rattle.amqp_wire.specs.declared.outline.FrameOutline.TheVariants as outlines
-use Rattle.amqp_wire.specs.Frames.{Raw, Frame, Proto, Meth, Head, Body, channel_id_of, beat_on}
+use Rattle.amqp_wire.specs.Frames.{Raw, Frame, channel_id_of}
 use Rattle.amqp_wire.specs.Outlines.{outline_of, outline_front, outline_at}
-use Rattle.amqp_wire.specs.Verdicts.{decode_raw, decode_payload, all_of}
-use Rattle.amqp_wire.proofs.Encoded.{read_as}
+use Rattle.amqp_wire.specs.Verdicts.{decode_raw}
 use Rattle.amqp_turns.specs.declared.fault.ContentFault.{ContentFault}
 use Rattle.amqp_turns.specs.declared.mark.Mark.{Mark}
 use Rattle.amqp_turns.specs.declared.mark.Mark.TheVariants as marks
 use Rattle.amqp_turns.specs.declared.progress.Progress.{Progress}
 use Rattle.amqp_turns.specs.declared.progress.Progress.TheVariants as progresses
-use Rattle.amqp_turns.specs.Units.{is_content, is_opening_id}
+use Rattle.amqp_turns.specs.Units.{is_opening_id}
 use Rattle.amqp_turns.specs.Steps.{mark_after, progress_after, progress_marked, header_mark, method_mark, body_mark}
 use Rattle.amqp_select.specs.Matching.{decides}
 use Rattle.amqp_in_turn.specs.declared.errors.Refusal.TheVariants as refusals
@@ -29,64 +26,9 @@ use Rattle.amqp_filter.specs.Held.{progress_in, kept_in, held_with}
 use Rattle.amqp_filter.specs.Stepping.{held_more, mark_held, held_at, with_held, step_marked, step_filtering, StepsTo}
 use Rattle.amqp_turns.proofs.Holding.{none_held, set_at-same}
 use Rattle.amqp_in_turn.specs.Judging.{given}
-use Rattle.amqp_in_turn.proofs.Judging.{passed_mark}
-
--- ---- the channel of a frame
-
--- a frame is on the channel that stands before its payload, or outside of all content
-data IsPlaced (channel : ℕ) (frame : Frame) : Type 0 where
-  here : channel_id_of frame ≡ channel → IsPlaced channel frame
-  outside : is_content (outline_of frame) ≡ false → IsPlaced channel frame
-
-proto_placed : (channel : ℕ) (payload : List ℕ) (frame : Frame) → decode_payload kinds.ProtocolHeader channel payload ≡ Ok frame → IsPlaced channel frame
-unfolding decode_payload
-proto_placed channel [] frame h = absurd cc
-proto_placed channel (a ∷ []) frame h = absurd cc
-proto_placed channel (a ∷ b ∷ []) frame h = absurd cc
-proto_placed channel (a ∷ b ∷ c ∷ []) frame h =
-    let is : Proto a b c ≡ frame = cc in
-    outside (ap (λ f. is_content (outline_of f)) (sym is))
-proto_placed channel (a ∷ b ∷ c ∷ d ∷ more) frame h = absurd cc
-
-beat_outside : (channel : ℕ) → is_content (outline_of (beat_on channel)) ≡ false
-beat_outside channel = elim (cases_eq channel 0) [
-  | inl none ↦ rw (eq-eqb channel 0 none) refl
-  | inr some ↦ rw (ne_eqb channel 0 some) refl
-]
-
-beat_of : (channel : ℕ) (payload : List ℕ) (frame : Frame) → decode_payload kinds.Heartbeat channel payload ≡ Ok frame → is_content (outline_of frame) ≡ false
-unfolding decode_payload
-beat_of channel payload frame h = let is : beat_on channel ≡ frame = cc in ap (λ f. is_content (outline_of f)) (sym is) ∙ beat_outside channel
-
--- a heartbeat stands outside of all content, also one on a channel
-pub beat_passed : (raw : Raw) (frame : Frame) → raw.kind ≡ kinds.Heartbeat → decode_raw raw ≡ Ok frame
-    → mark_after greatest None (outline_of frame) ≡ marks.Passed
-beat_passed raw frame is h =
-    passed_mark None frame (beat_of raw.channel raw.payload frame (subst (λ kind. decode_payload kind raw.channel raw.payload ≡ Ok frame) is h))
-
-placed_as : (kind : AMQPFrameType) (channel : ℕ) (payload : List ℕ) (frame : Frame) → decode_payload kind channel payload ≡ Ok frame → IsPlaced channel frame
-unfolding decode_payload
-placed_as kinds.ProtocolHeader channel payload frame h = proto_placed channel payload frame h
-placed_as kinds.Method channel payload frame h =
-    let read = read_as (λ x. Meth channel x) (all_of judge_payload payload) frame h in
-    here (ap channel_id_of (sym read.2))
-placed_as kinds.Header channel payload frame h =
-    let read = read_as (λ x. Head channel x) (all_of judge_content_header payload) frame h in
-    here (ap channel_id_of (sym read.2))
-placed_as kinds.Body channel payload frame h = let is : Body channel payload ≡ frame = cc in here (ap channel_id_of (sym is))
-placed_as kinds.Heartbeat channel payload frame h = outside (beat_of channel payload frame h)
-
-placed : (raw : Raw) (frame : Frame) → decode_raw raw ≡ Ok frame → IsPlaced raw.channel frame
-placed raw frame h = placed_as raw.kind raw.channel raw.payload frame h
+use Rattle.amqp_in_turn.proofs.Placing.{IsOutlineOf, same_outline, marked_by, channel_by}
 
 -- ---- marks, by the outline that stands in the payload
-
--- the outline is that of the frame, where the payload is one
-abbrev pub IsOutlineOf : Raw → FrameOutline → Type 0
-IsOutlineOf raw outline = (frame : Frame) → decode_raw raw ≡ Ok frame → Some outline ≡ Some (outline_of frame)
-
-same_outline : (outline other : FrameOutline) → Some outline ≡ Some other → outline ≡ other
-same_outline outline other e = cc
 
 -- the mark by what is kept of the channel that stands before the payload
 abbrev pub mark_raw : MessageFilter → Raw → FrameOutline → Mark
@@ -95,27 +37,9 @@ mark_raw s raw outline = mark_after greatest (progress_in (held_at s raw.channel
 abbrev pub progress_raw : MessageFilter → Raw → FrameOutline → Option Progress
 progress_raw s raw outline = progress_after greatest (progress_in (held_at s raw.channel)) outline
 
--- it is that of the frame
-marked_by : (s : MessageFilter) (raw : Raw) (outline : FrameOutline) (mark : Mark) (frame : Frame) → IsOutlineOf raw outline
-    → mark ≡ mark_raw s raw outline → decode_raw raw ≡ Ok frame → mark_held (held_at s (channel_id_of frame)) frame ≡ mark
-marked_by s raw outline mark frame is e h = by_place (placed raw frame h)
-  where
-    same : mark_held (held_at s raw.channel) frame ≡ mark
-    same = ap (mark_after greatest (progress_in (held_at s raw.channel))) (sym (same_outline outline (outline_of frame) (is frame h))) ∙ sym e
-
-    by_place : IsPlaced raw.channel frame → mark_held (held_at s (channel_id_of frame)) frame ≡ mark
-    by_place (here channel) = ap (λ c. mark_held (held_at s c) frame) channel ∙ same
-    by_place (outside content) =
-        passed_mark (progress_in (held_at s (channel_id_of frame))) frame content ∙ sym (passed_mark (progress_in (held_at s raw.channel)) frame content) ∙ same
-
--- a frame that is not passed is on that channel
-channel_by : (s : MessageFilter) (raw : Raw) (mark : Mark) (frame : Frame) → mark_held (held_at s (channel_id_of frame)) frame ≡ mark
-    → mark ≢ marks.Passed → decode_raw raw ≡ Ok frame → channel_id_of frame ≡ raw.channel
-channel_by s raw mark frame e other h = by_place (placed raw frame h)
-  where
-    by_place : IsPlaced raw.channel frame → channel_id_of frame ≡ raw.channel
-    by_place (here channel) = channel
-    by_place (outside content) = absurd (other (sym e ∙ passed_mark (progress_in (held_at s (channel_id_of frame))) frame content))
+-- how far the content of each channel has come
+abbrev progress_on : MessageFilter → ℕ → Option Progress
+progress_on s channel = progress_in (held_at s channel)
 
 -- ---- steps by marks
 
@@ -128,7 +52,7 @@ given_by (Err e) h = absurd cc
 pub refused_steps : (s : MessageFilter) (raw : Raw) (outline : FrameOutline) (bad : ContentFault) → IsOutlineOf raw outline
     → marks.Fault bad ≡ mark_raw s raw outline → (frame : Frame) → decode_raw raw ≡ Ok frame → step_filtering s frame ≡ Err (refusals.BadContent bad)
 refused_steps s raw outline bad is e frame h =
-    ap (step_marked s (held_at s (channel_id_of frame)) frame) (marked_by s raw outline (marks.Fault bad) frame is e h)
+    ap (step_marked s (held_at s (channel_id_of frame)) frame) (marked_by (progress_on s) raw outline (marks.Fault bad) frame is e h)
 
 -- what is decided of the frame that a payload is
 abbrev pub IsDecided : MessageFilter → Raw → Bool → Type 0
@@ -145,7 +69,8 @@ passed_step s frame kept mark decided =
 -- A frame outside of messages is written where the rules keep it, and all that is kept of channels stays.
 pub passed_steps : (s : MessageFilter) (raw : Raw) (outline : FrameOutline) (kept : Bool)
     → IsOutlineOf raw outline → marks.Passed ≡ mark_raw s raw outline → IsDecided s raw kept → StepsTo s s raw kept
-passed_steps s raw outline kept is e decided frame h = passed_step s frame kept (marked_by s raw outline marks.Passed frame is e h) (decided frame h)
+passed_steps s raw outline kept is e decided frame h =
+    passed_step s frame kept (marked_by (progress_on s) raw outline marks.Passed frame is e h) (decided frame h)
 
 -- the same where no message has begun
 pub alone_steps : (s : MessageFilter) (raw : Raw) (kept empty : Bool) → empty ≡ eqb (finite.len s.messages) 0 → empty ≡ true
@@ -160,8 +85,8 @@ pub opening_steps : (s : MessageFilter) (raw : Raw) (outline : FrameOutline) (ke
     → marks.Opening ≡ mark_raw s raw outline → IsDecided s raw kept → StepsTo s (with_held s raw.channel (held_with (Some progresses.Opened) kept)) raw kept
 opening_steps s raw outline kept is e decided frame h =
     let held = held_at s (channel_id_of frame) in
-    let mark = marked_by s raw outline marks.Opening frame is e h in
-    let channel = channel_by s raw marks.Opening frame mark (λ same. absurd cc) h in
+    let mark = marked_by (progress_on s) raw outline marks.Opening frame is e h in
+    let channel = channel_by (progress_on s) raw outline marks.Opening frame is e h (λ same. absurd cc) in
     ap (step_marked s held frame) mark
     ∙ ap (λ p. Ok (given (decides s.rules (outline_of frame)) frame, with_held s (channel_id_of frame) (held_with p (decides s.rules (outline_of frame)))))
     (ap (progress_marked (progress_in held) (outline_of frame)) mark)
@@ -196,9 +121,9 @@ pub within_steps : (s : MessageFilter) (raw : Raw) (outline : FrameOutline) (mar
     → IsOutlineOf raw outline → IsWithin mark → mark ≡ mark_raw s raw outline → progress ≡ progress_raw s raw outline
     → kept ≡ kept_in (held_at s raw.channel) → StepsTo s (with_held s raw.channel (held_with progress kept)) raw kept
 within_steps s raw outline mark progress kept is within e goes k frame h =
-    let marked = marked_by s raw outline mark frame is e h in
-    let channel = channel_by s raw mark frame marked (within_other mark within) h in
-    let same = same_outline outline (outline_of frame) (is frame h) in
+    let marked = marked_by (progress_on s) raw outline mark frame is e h in
+    let channel = channel_by (progress_on s) raw outline mark frame is e h (within_other mark within) in
+    let same = same_outline raw outline frame is h in
     ap (step_marked s (held_at s (channel_id_of frame)) frame) marked
     ∙ within_step s (held_at s (channel_id_of frame)) frame mark within
     ∙ ap (λ c. Ok (given (kept_in (held_at s c)) frame, with_held s c (held_more (kept_in (held_at s c)) (held_at s c) frame))) channel

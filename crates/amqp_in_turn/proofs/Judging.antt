@@ -1,5 +1,6 @@
 -- What a writer returns for one frame, by what was judged of it.
-use Rattle.std.proofs.Common.{◌≡◌, ℕ, Bool, true, false, List, [], refl, sym, ap, subst, ◌∙◌, Option, Some, None, Ok, Err, IsTrue}
+use Rattle.std.proofs.lemmas.Grind.{common_steps}
+use Rattle.std.proofs.Common.{◌≡◌, ℕ, Bool, true, false, List, [], refl, sym, ap, subst, ◌∙◌, arith, Option, Ok, Err, IsTrue}
 use Rattle.amqp_types.specs.Levels.{plain}
 use Rattle.amqp_wire.specs.Verdicts.{is_at}
 use Rattle.amqp_wire.specs.Frames.{Raw, Frame, Proto, Meth, Head, Body, Beat, BadBeat}
@@ -34,21 +35,7 @@ use Rattle.amqp_in_turn.specs.Judging.{given, JudgesKept, RefusesFrame}
 -- a frame outside of content is passed, whatever is kept of its channel
 pub passed_mark : (progress : Option Progress) (frame : Frame) → is_content (outline_of frame) ≡ false
     → mark_after greatest progress (outline_of frame) ≡ marks.Passed
-passed_mark progress (Meth channel m) h = absurd cc
-passed_mark progress (Head channel header) h = absurd cc
-passed_mark progress (Body channel content) h = absurd cc
-passed_mark None (Proto major minor revision) h = refl
-passed_mark None Beat h = refl
-passed_mark None (BadBeat channel) h = refl
-passed_mark (Some progresses.Opened) (Proto major minor revision) h = refl
-passed_mark (Some progresses.Opened) Beat h = refl
-passed_mark (Some progresses.Opened) (BadBeat channel) h = refl
-passed_mark (Some (progresses.Headed size seen)) (Proto major minor revision) h = refl
-passed_mark (Some (progresses.Headed size seen)) Beat h = refl
-passed_mark (Some (progresses.Headed size seen)) (BadBeat channel) h = refl
-passed_mark (Some progresses.Faulted) (Proto major minor revision) h = refl
-passed_mark (Some progresses.Faulted) Beat h = refl
-passed_mark (Some progresses.Faulted) (BadBeat channel) h = refl
+passed_mark progress frame h = grind arith
 
 -- ---- what is returned, by a writer that reads frames at level plain and is compact
 
@@ -59,14 +46,10 @@ module _ {S : Type 0} (w : Manner S Refusal) (level : w.level ≡ plain) (compac
   refused_as : (s : S) (raw : Raw) (bad : ContentFault) (ending : Ending Refusal) (a : Store) (x y : List ℕ)
       → y ≡ x → ((frame : Frame) → decode_raw raw ≡ Ok frame → w.step s frame ≡ Err (refusals.BadContent bad))
       → RefusesFrame raw bad ending → WritesBy w s s raw a a x y ending
-  refused_as s raw bad (refused_by (refusals.BadContent other)) a x y same steps h = (
-    record { frame = h.0; is_whole = h.1; at_level = at_plain _; refuses = steps h.0 h.1 ∙ ap (λ f. Err (refusals.BadContent f)) (sym h.2) },
-    kept a x y same,
-    refl,
-  )
+  refused_as s raw bad (refused_by (refusals.BadContent other)) a x y same steps h = grind (arith, common_steps, at_plain, kept)
   refused_as s raw bad (refused_by (refusals.OpenContent channel)) a x y same steps h = absurd h
   refused_as s raw bad finished a x y same steps h = absurd h
-  refused_as s raw bad (stopped_by (faulty worse)) a x y same steps h = (subst (λ l. IsFaulty l raw worse) (sym level) h, kept a x y same, refl)
+  refused_as s raw bad (stopped_by (faulty worse)) a x y same steps h = grind (arith, common_steps, kept)
   refused_as s raw bad (stopped_by cut_short) a x y same steps h = absurd h
   refused_as s raw bad (stopped_by budget_spent) a x y same steps h = absurd h
   refused_as s raw bad (stopped_by read_failed) a x y same steps h = absurd h
@@ -77,7 +60,7 @@ module _ {S : Type 0} (w : Manner S Refusal) (level : w.level ≡ plain) (compac
   pub turn_refuses : (s : S) (raw : Raw) (bad : ContentFault) (error : RunError Refusal)
       → ((frame : Frame) → decode_raw raw ≡ Ok frame → w.step s frame ≡ Err (refusals.BadContent bad))
       → RefusesFrame raw bad (error_ending error) → RefusesTo w s s raw error
-  turn_refuses s raw bad error steps h = λ store pending. refused_as s raw bad (error_ending error) store pending pending refl steps h
+  turn_refuses s raw bad error steps h = grind (arith, common_steps, refused_as)
 
   -- a frame that was taken, and what is kept then
   pub judged_takes : (s t u : S) (keep : Bool) (raw : Raw) (decision : Decision) → u ≡ t
@@ -94,16 +77,7 @@ module _ {S : Type 0} (w : Manner S Refusal) (level : w.level ≡ plain) (compac
         };
     compact = compact;
   }
-  judged_takes s t u keep raw decisions.Dropped is steps h = record {
-    step =
-        record {
-          frame = h.1.0;
-          is_whole = h.1.1;
-          at_level = at_plain _;
-          steps = steps h.1.0 h.1.1 ∙ ap (λ k. Ok (given k h.1.0, t)) h.0 ∙ ap (λ v. Ok ([], v)) (sym is);
-        };
-    compact = compact;
-  }
+  judged_takes s t u keep raw decisions.Dropped is steps h = grind (arith, common_steps, at_plain)
 
   -- memory ran out at a frame that may take some
   pub memory_refuses : (s u : S) (raw : Raw) → IsTrue (w.wants raw.kind) → RefusesTo w s u raw (runs_end.Stream streams.NoMemory)

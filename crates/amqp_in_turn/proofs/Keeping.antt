@@ -1,20 +1,28 @@
 -- A writer that keeps something of each channel on which a message has begun: what it keeps stands for the frames so far.
-use Rattle.std.proofs.Common.{◌≡◌, ◌≢◌, ℕ, true, false, Bool, cond, List, [], ◌∷◌, ◌++◌, refl, sym, ap, subst, ◌∙◌, inl, inr}
+use Rattle.std.proofs.lemmas.Grind.{common_steps}
+use Rattle.std.proofs.Common.{◌≡◌, ◌≢◌, ℕ, ◌+◌, ◌<◌, true, false, Bool, cond, eqb, leb, length, arith, List, [], ◌∷◌, ◌++◌, refl, sym, ap, subst, ◌∙◌, inl, inr}
 use Rattle.std.proofs.Common.{Option, Some, None, Result, Ok, Err}
 use Rattle.std.proofs.lemmas.Bool.{cases_eq}
+use Rattle.std.proofs.lemmas.Bool.Decides.{nat_tests}
 use Rattle.std.specs.Prelude.{IsSome}
 use Rattle.std.specs.FinMap as finite
 use Rattle.std.specs.FinMap.{get-empty}
-use Rattle.std.specs.Ordering.{nat_cmp}
-use Rattle.amqp_wire.specs.Frames.{Frame, channel_id_of}
+use Rattle.std.specs.Ordering.{nat_cmp, eq_by_cmp}
+use Rattle.amqp_types.specs.Methods.{Method}
+use Rattle.amqp_types.specs.ContentHeaders.{ContentHeader}
+use Rattle.amqp_wire.specs.Frames.{Frame, Proto, Meth, Head, Body, Beat, BadBeat, channel_id_of}
 use Rattle.amqp_wire.specs.Outlines.{outline_of}
 use Rattle.amqp_turns.specs.declared.fault.ContentFault.{ContentFault}
+use Rattle.amqp_turns.specs.declared.fault.ContentFault.TheVariants as faults
+use Rattle.amqp_turns.specs.declared.mark.Mark.TheVariants as marks
+use Rattle.amqp_turns.specs.declared.progress.Progress.{Progress}
 use Rattle.amqp_turns.specs.ByChannel.{ByChannel, set_at}
 use Rattle.amqp_turns.specs.InTurn.{greatest, EndsBegun, NoneIsOpen, state_on}
-use Rattle.amqp_turns.specs.Units.{Begun, Nothing, IsBegun, is_content, of_channel}
+use Rattle.amqp_turns.specs.Units.{Begun, Nothing, Opened, Headed, IsBegun, is_content, is_opening_id, size_in, bytes_in, of_channel}
 use Rattle.amqp_turns.specs.Answers.{Answer, Wrong, IsLastAnswer}
 use Rattle.amqp_turns.specs.Stands.{State, At, Lost, Stands}
-use Rattle.amqp_turns.specs.Steps.{step}
+use Rattle.amqp_turns.specs.Marks.{begun_progress}
+use Rattle.amqp_turns.specs.Steps.{mark_after, step}
 use Rattle.amqp_turns.proofs.Running.{run_stands, stands_run, advance}
 use Rattle.amqp_turns.proofs.Apart.{of_channel-in, of_own}
 use Rattle.amqp_turns.proofs.Holding.{at_itself, at_other, get-set_at, none_held}
@@ -33,19 +41,10 @@ pub record StandsFor {S H : Type 0} (messages : S → ByChannel H) (Own : S → 
   pub held_is : (channel : ℕ) → finite.get (messages s) channel ≡ held_of (state_on earlier channel)
   pub in_turn : (channel : ℕ) → state_on earlier channel ≢ Lost
 
--- A frame of content, after what has begun on its channel, gives these bytes, and what is kept of the channel stands for one frame more; or it is refused,
--- since it is not in turn.
-pub data Continues {S H : Type 0} (steps : S → Frame → Result (List ℕ × S) Refusal) (put : S → ℕ → Option H → S)
-    (held_of : State Frame → Option H) (s : S) (bytes : List ℕ) (begun : Begun Frame) (frame : Frame) : Type 0 where
-  goes : steps s frame ≡ Ok (bytes, put s (channel_id_of frame) (held_of (step outline_of greatest (At begun) frame).1))
-      → (step outline_of greatest (At begun) frame).1 ≢ Lost → Continues steps put held_of s bytes begun frame
-  stops : (bad : ContentFault) → steps s frame ≡ Err (refusals.BadContent bad)
-      → step outline_of greatest (At begun) frame ≡ (Wrong bad, Lost) → IsFresh bad frame → Continues steps put held_of s bytes begun frame
-
--- What such a writer has to show. `put` is the writer once this is kept of a channel.
+-- What such a writer has to show. `put` is the writer once this is kept of a channel, `progress_in` says how far the content is of which this is kept.
 pub record KeepsByTurns {S H : Type 0} (messages : S → ByChannel H) (put : S → ℕ → Option H → S) (Own : S → Type 0)
-    (held_of : State Frame → Option H) (steps : S → Frame → Result (List ℕ × S) Refusal) (end : S → Option Refusal)
-    (given : List Frame → Frame → List ℕ) (after : List Frame → List Frame → List ℕ) : Type 0 where
+    (held_of : State Frame → Option H) (progress_in : Option H → Option Progress) (steps : S → Frame → Result (List ℕ × S) Refusal)
+    (end : S → Option Refusal) (given : List Frame → Frame → List ℕ) (after : List Frame → List Frame → List ℕ) : Type 0 where
   pub none : (earlier : List Frame) → after earlier [] ≡ []
   pub more : (earlier : List Frame) (frame : Frame) (frames : List Frame)
       → after earlier (frame ∷ frames) ≡ given earlier frame ++ after (earlier ++ frame ∷ []) frames
@@ -54,14 +53,39 @@ pub record KeepsByTurns {S H : Type 0} (messages : S → ByChannel H) (put : S �
   pub own : (s : S) (channel : ℕ) (held : Option H) → Own s → Own (put s channel held)
   pub nothing : held_of (At Nothing) ≡ None
   pub something : (begun : Begun Frame) → held_of (At begun) ≡ None → begun ≡ Nothing
+  pub progress : (begun : Begun Frame) → progress_in (held_of (At begun)) ≡ begun_progress outline_of begun
   pub outside : (s : S) (earlier : List Frame) (frame : Frame) → Own s → is_content (outline_of frame) ≡ false
       → steps s frame ≡ Ok (given earlier frame, put s (channel_id_of frame) (finite.get (messages s) (channel_id_of frame)))
-  pub content : (s : S) (earlier : List Frame) (frame : Frame) (begun : Begun Frame) → Own s → state_on earlier (channel_id_of frame) ≡ At begun
-      → IsBegun outline_of greatest begun → finite.get (messages s) (channel_id_of frame) ≡ held_of (At begun)
-      → is_content (outline_of frame) ≡ true → Continues steps put held_of s (given earlier frame) begun frame
+  pub refuses : (s : S) (frame : Frame) (bad : ContentFault)
+      → mark_after greatest (progress_in (finite.get (messages s) (channel_id_of frame))) (outline_of frame) ≡ marks.Fault bad
+      → steps s frame ≡ Err (refusals.BadContent bad)
+  pub method : (s : S) (earlier : List Frame) (channel : ℕ) (m : Method) (opens : Bool) → Own s → is_opening_id m.class m.id ≡ opens
+      → state_on earlier channel ≡ At Nothing → finite.get (messages s) channel ≡ held_of (At Nothing)
+      → steps s (Meth channel m) ≡ Ok (given earlier (Meth channel m), put s channel (held_of (At (cond opens (Opened (Meth channel m)) Nothing))))
+  pub header : (s : S) (earlier : List Frame) (opening : Frame) (channel : ℕ) (h : ContentHeader) (all : Bool) → Own s
+      → eqb h.class_id 60 ≡ true → leb h.body_size greatest ≡ true → eqb 0 h.body_size ≡ all
+      → state_on earlier channel ≡ At (Opened opening) → finite.get (messages s) channel ≡ held_of (At (Opened opening))
+      → steps s (Head channel h) ≡ Ok (given earlier (Head channel h), put s channel (held_of (At (cond all Nothing (Headed opening (Head channel h) [])))))
+  pub body : (s : S) (earlier : List Frame) (opening header : Frame) (bodies : List Frame) (channel : ℕ) (content : List ℕ) (all : Bool) → Own s
+      → bytes_in outline_of bodies < size_in (outline_of header)
+      → leb (bytes_in outline_of bodies + length content) (size_in (outline_of header)) ≡ true
+      → eqb (bytes_in outline_of bodies + length content) (size_in (outline_of header)) ≡ all
+      → state_on earlier channel ≡ At (Headed opening header bodies) → finite.get (messages s) channel ≡ held_of (At (Headed opening header bodies))
+      → steps s (Body channel content)
+      ≡ Ok (
+        given earlier (Body channel content),
+        put s channel (held_of (At (cond all Nothing (Headed opening header (bodies ++ Body channel content ∷ []))))),
+      )
 
-none_is_kept : {H : Type 0} (kept : H) → None ≡ Some kept → ⊥
-none_is_kept kept e = cc
+-- not one that comes after a fault, nor of a size
+is_other : ContentFault → Bool
+is_other faults.Faulted = false
+is_other faults.BodyTooLarge = false
+is_other bad = true
+
+other_fresh : (bad : ContentFault) (frame : Frame) → is_other bad ≡ true → IsFresh bad frame
+unfolding is_other
+other_fresh bad frame e = grind (arith, common_steps, is_other)
 
 -- the least channel of which something is kept, by whether the writer may end
 end_none : (least : Option ℕ) → refused_at_end least ≡ None → least ≡ None
@@ -70,10 +94,7 @@ end_none (Some channel) e = absurd cc
 
 end_open : (least : Option ℕ) (channel : ℕ) → refused_at_end least ≡ Some (refusals.OpenContent channel) → least ≡ Some channel
 end_open None channel e = absurd cc
-end_open (Some other) channel e = ap (λ c. Some c) (same_open other channel e)
-  where
-    same_open : (other channel : ℕ) → Some (refusals.OpenContent other) ≡ Some (refusals.OpenContent channel) → other ≡ channel
-    same_open other channel e = cc
+end_open (Some other) channel e = let same : other ≡ channel = cc in ap Some same
 
 end_bad : (least : Option ℕ) (bad : ContentFault) → refused_at_end least ≡ Some (refusals.BadContent bad) → ⊥
 end_bad None bad e = cc
@@ -81,13 +102,12 @@ end_bad (Some other) bad e = cc
 
 stands_on : (frames : List Frame) (channel : ℕ) (now : State Frame) → state_on frames channel ≡ now
     → Stands outline_of greatest (of_channel outline_of channel frames) now
-stands_on frames channel now e =
-    subst (λ (st : State Frame). Stands outline_of greatest (of_channel outline_of channel frames) st) e
-    (run_stands outline_of greatest (of_channel outline_of channel frames))
+stands_on frames channel now e = grind (arith, common_steps, run_stands)
 
 module _ {S H : Type 0} {messages : S → ByChannel H} {put : S → ℕ → Option H → S} {Own : S → Type 0} {held_of : State Frame → Option H}
-    {steps : S → Frame → Result (List ℕ × S) Refusal} {end : S → Option Refusal} {given : List Frame → Frame → List ℕ}
-    {after : List Frame → List Frame → List ℕ} (by : KeepsByTurns messages put Own held_of steps end given after) where
+    {progress_in : Option H → Option Progress} {steps : S → Frame → Result (List ℕ × S) Refusal} {end : S → Option Refusal}
+    {given : List Frame → Frame → List ℕ} {after : List Frame → List Frame → List ℕ}
+    (by : KeepsByTurns messages put Own held_of progress_in steps end given after) where
   -- ---- one frame
 
   abbrev held_at : S → ℕ → Option H
@@ -96,77 +116,121 @@ module _ {S H : Type 0} {messages : S → ByChannel H} {put : S → ℕ → Opti
   abbrev ForFrames : S → List Frame → Type 0
   ForFrames s earlier = StandsFor messages Own held_of s earlier
 
-  held_here : (s : S) (channel : ℕ) (held : Option H) → held_at (put s channel held) channel ≡ held
-  held_here s channel held =
-      ap (λ m. finite.get m channel) (by.puts s channel held) ∙ get-set_at (messages s) channel held channel
-      ∙ ap (λ b. cond b held (held_at s channel)) (at_itself channel)
+  -- what is kept of each channel, once this is kept of one
+  held_by : (s : S) (channel : ℕ) (held : Option H) (other : ℕ) (b : Bool) → eq_by_cmp nat_cmp other channel ≡ b
+      → held_at (put s channel held) other ≡ cond b held (held_at s other)
+  held_by s channel held other b e = grind (arith, common_steps, get-set_at)
 
-  held_there : (s : S) (channel : ℕ) (held : Option H) (other : ℕ) → other ≢ channel → held_at (put s channel held) other ≡ held_at s other
-  held_there s channel held other apart =
-      ap (λ m. finite.get m other) (by.puts s channel held) ∙ get-set_at (messages s) channel held other
-      ∙ ap (λ b. cond b held (held_at s other)) (at_other other channel apart)
+  -- The writer stands for one frame more where what is kept of its channel does, and it leaves what has come on others.
+  stands_more : (s : S) (earlier : List Frame) (frame : Frame) (held : Option H) → ForFrames s earlier
+      → held ≡ held_of (state_on (earlier ++ frame ∷ []) (channel_id_of frame)) → state_on (earlier ++ frame ∷ []) (channel_id_of frame) ≢ Lost
+      → ForFrames (put s (channel_id_of frame) held) (earlier ++ frame ∷ [])
+  stands_more s earlier frame held h is turn = grind (arith, common_steps, at_itself, at_other, cases_eq, held_by, state_on-other)
 
-  -- the writer stands for one frame more, where this is kept of its channel
-  stands_more : (s : S) (earlier : List Frame) (frame : Frame) (now : State Frame) → ForFrames s earlier → now ≢ Lost → is_content (outline_of frame) ≡ true
-      → state_on (earlier ++ frame ∷ []) (channel_id_of frame) ≡ now → ForFrames (put s (channel_id_of frame) (held_of now)) (earlier ++ frame ∷ [])
-  stands_more s earlier frame now h turn content is = record {
-    own = by.own s (channel_id_of frame) (held_of now) h.own;
-    held_is = λ channel. elim (cases_eq channel (channel_id_of frame)) [
-      | inl same ↦
-          subst (λ (c : ℕ). held_at (put s (channel_id_of frame) (held_of now)) c ≡ held_of (state_on (earlier ++ frame ∷ []) c)) (sym same)
-          (held_here s (channel_id_of frame) (held_of now) ∙ ap held_of (sym is))
-      | inr apart ↦
-          held_there s (channel_id_of frame) (held_of now) channel apart ∙ h.held_is channel ∙ ap held_of (sym (state_on-other earlier frame channel apart))
-    ];
-    in_turn = λ channel. elim (cases_eq channel (channel_id_of frame)) [
-      | inl same ↦ subst (λ (c : ℕ). state_on (earlier ++ frame ∷ []) c ≢ Lost) (sym same) (λ lost. turn (sym is ∙ lost))
-      | inr apart ↦ λ lost. h.in_turn channel (sym (state_on-other earlier frame channel apart) ∙ lost)
-    ];
-  }
+  -- a frame is taken or refused
+  abbrev Steps : S → List Frame → Frame → Type 0
+  Steps s earlier frame = Stepped steps (StandsFor messages Own held_of) given s earlier frame
 
-  step_outside : (s : S) (earlier : List Frame) (frame : Frame) → ForFrames s earlier
-      → is_content (outline_of frame) ≡ false → Stepped steps (StandsFor messages Own held_of) given s earlier frame
-  step_outside s earlier frame h content =
-      let channel = channel_id_of frame in
-      let held = held_at s channel in
-      takes (put s channel held) (by.outside s earlier frame h.own content)
-      (record {
-        own = by.own s channel held h.own;
-        held_is = λ c. elim (cases_eq c channel) [
-          | inl here ↦
-              subst (λ (c : ℕ). held_at (put s channel held) c ≡ held_of (state_on (earlier ++ frame ∷ []) c)) (sym here)
-              (held_here s channel held ∙ h.held_is channel ∙ ap held_of (sym (state_on-outside earlier frame channel content)))
-          | inr apart ↦ held_there s channel held c apart ∙ h.held_is c ∙ ap held_of (sym (state_on-outside earlier frame c content))
-        ];
-        in_turn = λ c lost. h.in_turn c (sym (state_on-outside earlier frame c content) ∙ lost);
-      })
+  -- a frame of content, after what has begun on its channel
+  module _ (s : S) (earlier : List Frame) (frame : Frame) (begun : Begun Frame) (h : ForFrames s earlier) (content : is_content (outline_of frame) ≡ true)
+      (is : state_on earlier (channel_id_of frame) ≡ At begun) where
+    here : held_at s (channel_id_of frame) ≡ held_of (At begun)
+    here = h.held_is (channel_id_of frame) ∙ ap held_of is
 
-  step_content : (s : S) (earlier : List Frame) (frame : Frame) (begun : Begun Frame) → ForFrames s earlier
-      → is_content (outline_of frame) ≡ true → state_on earlier (channel_id_of frame) ≡ At begun
-      → Continues steps put held_of s (given earlier frame) begun frame → Stepped steps (StandsFor messages Own held_of) given s earlier frame
-  step_content s earlier frame begun h content is (goes gives turn) =
-      takes (put s (channel_id_of frame) (held_of (step outline_of greatest (At begun) frame).1)) gives
-      (stands_more s earlier frame (step outline_of greatest (At begun) frame).1 h turn content
-      (state_on-own earlier frame content ∙ ap (λ st. (step outline_of greatest st frame).1) is))
-  step_content s earlier frame begun h content is (stops bad refused answer other) =
-      let channel = channel_id_of frame in
-      let xs = of_channel outline_of channel earlier in
-      let whole : step outline_of greatest (state_on earlier channel) frame ≡ (Wrong bad, Lost) = ap (λ st. step outline_of greatest st frame) is ∙ answer in
-      let last = (advance outline_of greatest xs (state_on earlier channel) frame (run_stands outline_of greatest xs)).last in
-      refuses bad refused
-      (state_on-own earlier frame content ∙ ap (λ (p : Answer Frame × State Frame). p.1) whole)
-      (subst (λ (ys : List Frame). IsLastAnswer outline_of greatest ys (Wrong bad)) (sym (of_channel-in channel earlier frame (of_own frame content)))
-      (subst (λ (a : Answer Frame). IsLastAnswer outline_of greatest (xs ++ frame ∷ []) a) (ap (λ (p : Answer Frame × State Frame). p.0) whole) last))
-      other
+    next_is : state_on (earlier ++ frame ∷ []) (channel_id_of frame) ≡ (step outline_of greatest (At begun) frame).1
+    next_is = grind (arith, common_steps, state_on-own)
 
-  step_by : (s : S) (earlier : List Frame) (frame : Frame) (content : Bool) → ForFrames s earlier
-      → is_content (outline_of frame) ≡ content → Stepped steps (StandsFor messages Own held_of) given s earlier frame
-  step_by s earlier frame true h content =
-      let channel = channel_id_of frame in
-      let at = begun_on earlier channel (h.in_turn channel) in
-      step_content s earlier frame at.begun h content at.is
-      (by.content s earlier frame at.begun h.own at.is at.is_begun (h.held_is channel ∙ ap held_of at.is) content)
-  step_by s earlier frame false h content = step_outside s earlier frame h content
+    taken : (next : Begun Frame) → (step outline_of greatest (At begun) frame).1 ≡ At next
+        → steps s frame ≡ Ok (given earlier frame, put s (channel_id_of frame) (held_of (At next))) → Steps s earlier frame
+    taken next e gives =
+        takes _ gives (stands_more s earlier frame _ h (ap held_of (sym (next_is ∙ e))) (λ lost. let no = sym (next_is ∙ e) ∙ lost in absurd cc))
+
+    stopped : (bad : ContentFault) → mark_after greatest (begun_progress outline_of begun) (outline_of frame) ≡ marks.Fault bad
+        → IsFresh bad frame → Steps s earlier frame
+    stopped bad mark fresh =
+        let channel = channel_id_of frame in
+        let xs = of_channel outline_of channel earlier in
+        let answer : step outline_of greatest (At begun) frame ≡ (Wrong bad, Lost) = rw content (rw mark refl) in
+        let whole : step outline_of greatest (state_on earlier channel) frame ≡ (Wrong bad, Lost) = ap (λ st. step outline_of greatest st frame) is ∙ answer in
+        let last = (advance outline_of greatest xs (state_on earlier channel) frame (run_stands outline_of greatest xs)).last in
+        refuses bad (by.refuses s frame bad (ap (λ p. mark_after greatest p (outline_of frame)) (ap progress_in here ∙ by.progress begun) ∙ mark)) (record {
+          lost = next_is ∙ ap (λ (p : Answer Frame × State Frame). p.1) answer;
+          last =
+              subst (λ (ys : List Frame). IsLastAnswer outline_of greatest ys (Wrong bad)) (sym (of_channel-in channel earlier frame (of_own frame content)))
+              (subst (IsLastAnswer outline_of greatest (xs ++ frame ∷ [])) (ap (λ (p : Answer Frame × State Frame). p.0) whole) last);
+          fresh = fresh;
+        })
+
+  module _ (s : S) (earlier : List Frame) (h : ForFrames s earlier) where
+    step_method : (channel : ℕ) (m : Method) (opens : Bool) → is_opening_id m.class m.id ≡ opens
+        → state_on earlier channel ≡ At Nothing → Steps s earlier (Meth channel m)
+    step_method channel m true e is =
+        taken s earlier (Meth channel m) Nothing h refl is (Opened (Meth channel m)) (rw e refl)
+        (by.method s earlier channel m true h.own e is (h.held_is channel ∙ ap held_of is))
+    step_method channel m false e is =
+        taken s earlier (Meth channel m) Nothing h refl is Nothing (rw e refl)
+        (by.method s earlier channel m false h.own e is (h.held_is channel ∙ ap held_of is))
+
+    step_header : (opening : Frame) (channel : ℕ) (header : ContentHeader) (basic fits all : Bool) → eqb header.class_id 60 ≡ basic
+        → leb header.body_size greatest ≡ fits → eqb 0 header.body_size ≡ all → state_on earlier channel ≡ At (Opened opening)
+        → Steps s earlier (Head channel header)
+    unfolding is_other
+    step_header opening channel header false fits all basic fit done is =
+        stopped s earlier (Head channel header) (Opened opening) h refl is faults.WrongClass (rw basic refl) (other_fresh faults.WrongClass _ refl)
+    step_header opening channel header true false all basic fit done is =
+        stopped s earlier (Head channel header) (Opened opening) h refl is faults.BodyTooLarge (rw basic (rw fit refl))
+        (record { other = λ e. absurd cc; large = λ e. grind (arith, nat_tests) })
+    step_header opening channel header true true true basic fit done is =
+        taken s earlier (Head channel header) (Opened opening) h refl is Nothing (rw basic (rw fit (rw done refl)))
+        (by.header s earlier opening channel header true h.own basic fit done is (h.held_is channel ∙ ap held_of is))
+    step_header opening channel header true true false basic fit done is =
+        taken s earlier (Head channel header) (Opened opening) h refl is (Headed opening (Head channel header) []) (rw basic (rw fit (rw done refl)))
+        (by.header s earlier opening channel header false h.own basic fit done is (h.held_is channel ∙ ap held_of is))
+
+    step_body : (opening header : Frame) (bodies : List Frame) (channel : ℕ) (content : List ℕ) (fits all : Bool)
+        → bytes_in outline_of bodies < size_in (outline_of header) → leb (bytes_in outline_of bodies + length content) (size_in (outline_of header)) ≡ fits
+        → eqb (bytes_in outline_of bodies + length content) (size_in (outline_of header)) ≡ all
+        → state_on earlier channel ≡ At (Headed opening header bodies) → Steps s earlier (Body channel content)
+    unfolding is_other
+    step_body opening header bodies channel content false all some fit done is =
+        stopped s earlier (Body channel content) (Headed opening header bodies) h refl is faults.BodyOverrun (rw fit refl)
+        (other_fresh faults.BodyOverrun _ refl)
+    step_body opening header bodies channel content true true some fit done is =
+        taken s earlier (Body channel content) (Headed opening header bodies) h refl is Nothing (rw fit (rw done refl))
+        (by.body s earlier opening header bodies channel content true h.own some fit done is (h.held_is channel ∙ ap held_of is))
+    step_body opening header bodies channel content true false some fit done is =
+        taken s earlier (Body channel content) (Headed opening header bodies) h refl is (Headed opening header (bodies ++ Body channel content ∷ []))
+        (rw fit (rw done refl)) (by.body s earlier opening header bodies channel content false h.own some fit done is (h.held_is channel ∙ ap held_of is))
+
+    step_content : (frame : Frame) (begun : Begun Frame) → IsBegun outline_of greatest begun → is_content (outline_of frame) ≡ true
+        → state_on earlier (channel_id_of frame) ≡ At begun → Steps s earlier frame
+    unfolding is_other
+    step_content (Meth channel m) Nothing b content is = step_method channel m (is_opening_id m.class m.id) refl is
+    step_content (Head channel header) (Opened opening) b content is =
+        step_header opening channel header (eqb header.class_id 60) (leb header.body_size greatest) (eqb 0 header.body_size) refl refl refl is
+    step_content (Body channel bytes) (Headed opening header bodies) b content is =
+        step_body opening header bodies channel bytes (leb (bytes_in outline_of bodies + length bytes) (size_in (outline_of header)))
+        (eqb (bytes_in outline_of bodies + length bytes) (size_in (outline_of header))) b.4 refl refl is
+    step_content (Head channel header) Nothing b content is = stopped s earlier _ Nothing h refl is faults.UnexpectedHeader refl (other_fresh _ _ refl)
+    step_content (Body channel bytes) Nothing b content is = stopped s earlier _ Nothing h refl is faults.UnexpectedBody refl (other_fresh _ _ refl)
+    step_content (Meth channel m) (Opened opening) b content is = stopped s earlier _ _ h refl is faults.UnexpectedMethod refl (other_fresh _ _ refl)
+    step_content (Body channel bytes) (Opened opening) b content is = stopped s earlier _ _ h refl is faults.UnexpectedBody refl (other_fresh _ _ refl)
+    step_content (Meth channel m) (Headed opening header bodies) b content is =
+        stopped s earlier _ _ h refl is faults.UnexpectedMethod refl (other_fresh _ _ refl)
+    step_content (Head channel second) (Headed opening header bodies) b content is =
+        stopped s earlier _ _ h refl is faults.UnexpectedHeader refl (other_fresh _ _ refl)
+    step_content (Proto major minor revision) begun b content is = absurd cc
+    step_content Beat begun b content is = absurd cc
+    step_content (BadBeat channel) begun b content is = absurd cc
+
+    step_by : (frame : Frame) (content : Bool) → is_content (outline_of frame) ≡ content → Steps s earlier frame
+    step_by frame true content =
+        let at = begun_on earlier (channel_id_of frame) (h.in_turn (channel_id_of frame)) in
+        step_content frame at.begun at.is_begun content at.is
+    step_by frame false content =
+        let same = state_on-outside earlier frame (channel_id_of frame) content in
+        takes _ (by.outside s earlier frame h.own content)
+        (stands_more s earlier frame _ h (h.held_is (channel_id_of frame) ∙ ap held_of (sym same)) (λ lost. h.in_turn (channel_id_of frame) (sym same ∙ lost)))
 
   -- ---- the start, and the end
 
@@ -180,14 +244,10 @@ module _ {S H : Type 0} {messages : S → ByChannel H} {put : S → ℕ → Opti
 
   nothing_at : (frames : List Frame) (channel : ℕ) → state_on frames channel ≢ Lost
       → held_of (state_on frames channel) ≡ None → state_on frames channel ≡ At Nothing
-  nothing_at frames channel turn e =
-      let at = begun_on frames channel turn in
-      at.is ∙ ap (λ b. At b) (by.something at.begun (ap held_of (sym at.is) ∙ e))
+  nothing_at frames channel turn e = grind (arith, common_steps, begun_on)
 
   ended_none : (s : S) (frames : List Frame) → ForFrames s frames → end s ≡ None → NoneIsOpen frames
-  ended_none s frames h e channel =
-      let none = least_none (messages s) (end_none (least_channel (messages s)) (sym (by.ends s) ∙ e)) in
-      stands_on frames channel (At Nothing) (nothing_at frames channel (h.in_turn channel) (sym (h.held_is channel) ∙ none_held (messages s) none channel))
+  ended_none s frames h e channel = grind (arith, common_steps, end_none, least_none, none_held, nothing_at, stands_on)
 
   -- of a channel on which a message is open something is kept
   open_kept : (s : S) (frames : List Frame) (channel : ℕ) → ForFrames s frames → EndsBegun frames channel → IsSome (held_at s channel)
@@ -207,7 +267,7 @@ module _ {S H : Type 0} {messages : S → ByChannel H} {put : S → ℕ → Opti
       let found : held_of (At at.begun) ≡ Some kept = ap held_of (sym at.is) ∙ sym (h.held_is channel) ∙ e in
       record {
         begun = at.begun;
-        some = λ none. absurd (none_is_kept kept (sym by.nothing ∙ ap (λ b. held_of (At b)) (sym none) ∙ found));
+        some = λ none. absurd (let other = sym by.nothing ∙ ap (λ b. held_of (At b)) (sym none) ∙ found in cc);
         stands = stands_on frames channel (At at.begun) at.is;
       }
 
@@ -229,7 +289,7 @@ module _ {S H : Type 0} {messages : S → ByChannel H} {put : S → ℕ → Opti
           let found = least_kept (messages s) channel e in
           let now : state_on frames channel ≡ At Nothing =
           sym (stands_run outline_of greatest (of_channel outline_of channel frames) (At Nothing) (none channel)) in
-          absurd (none_is_kept found.value (sym by.nothing ∙ ap held_of (sym now) ∙ sym (h.held_is channel) ∙ found.kept))
+          absurd (let other = sym by.nothing ∙ ap held_of (sym now) ∙ sym (h.held_is channel) ∙ found.kept in cc)
 
   -- ---- all of it
 
@@ -238,7 +298,7 @@ module _ {S H : Type 0} {messages : S → ByChannel H} {put : S → ℕ → Opti
   by_turns = record {
     none = by.none;
     more = by.more;
-    steps = λ s earlier frame h. step_by s earlier frame (is_content (outline_of frame)) h refl;
+    steps = λ s earlier frame h. step_by s earlier h frame (is_content (outline_of frame)) refl;
     in_turn = λ s earlier h. h.in_turn;
     only_open = λ s bad e. end_bad (least_channel (messages s)) bad (sym (by.ends s) ∙ e);
     ends_none = ended_none;

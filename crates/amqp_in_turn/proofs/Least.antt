@@ -94,7 +94,7 @@ module _ {K : Type 0} where
   some_is o value e = subst (λ (x : Option K). IsSome x) (sym e) refl
 
   none_some : (o : Option K) → o ≡ None → IsSome o → ⊥
-  none_some o e some = absurd (let no : IsSome {T = K} None = subst (λ (x : Option K). IsSome x) e some in cc)
+  none_some o e some = grind (arith, common_steps)
 
   -- A channel of which entries keep something, where they keep nothing below it, is the least channel; and where there are no entries, there is none.
   pub least_is : (es : List (ℕ × K)) (found : Option ℕ) → IfNone found (es ≡ []) → IfSome found (λ channel. IsSome (kept_at es channel))

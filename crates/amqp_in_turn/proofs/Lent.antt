@@ -1,4 +1,6 @@
 -- What is kept of channels, once what is kept of one was changed in its place.
+use Rattle.std.proofs.lemmas.Grind.{common_steps}
+use Rattle.std.proofs.Common.{arith}
 use Rattle.std.proofs.Common.{◌≡◌, ℕ, List, sym, ap, ◌∙◌, Option, Some, None}
 use Rattle.std.specs.Prelude.{IsSome}
 use Rattle.std.specs.FinMap as finite
@@ -20,6 +22,4 @@ module _ {K : Type 0} where
   -- A value that is written in the place of the one that is kept of a channel is kept of it then, and of others what was.
   pub holding_written : (es new : List (ℕ × K)) (holding : ByChannel K) (channel : ℕ) (w : K) → holding_of es ≡ holding
       → new ≡ set_value (is_at (nat_cmp channel)) es w → IsSome (finite.get holding channel) → holding_of new ≡ finite.insert holding channel w
-  holding_written es new holding channel w view is there =
-      ap holding_of is ∙ set_there es channel w (finite.get holding channel) (sym (get-holding es channel) ∙ ap (λ m. finite.get m channel) view) there
-      ∙ ap (λ m. finite.insert m channel w) view
+  holding_written es new holding channel w view is there = grind (arith, common_steps, get-holding, holding_of, set_there)

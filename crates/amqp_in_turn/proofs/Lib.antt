@@ -5,3 +5,5 @@ pub mod Least
 pub mod Keeping
 pub mod Judging
 pub mod Lent
+pub mod Alone
+pub mod Placing

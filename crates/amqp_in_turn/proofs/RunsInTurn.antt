@@ -1,4 +1,5 @@
 -- A run of a writer that goes by the turns of the channels, as a call that writes for the frames of its stream as far as they are in turn.
+use Rattle.std.proofs.lemmas.Grind.{common_steps}
 use Rattle.std.proofs.Common.{◌≡◌, ◌≢◌, ℕ, ◌<◌, ◌≤◌, Bool, append-nil, append_assoc, List, [], ◌∷◌, ◌++◌, length, refl, sym, ap, subst, ◌∙◌, arith, inl, inr}
 use Rattle.std.proofs.Common.{◌⊎◌, Option, Some, None, Result, Ok, Err}
 use Rattle.std.specs.List.{AllByRecursion}
@@ -42,6 +43,7 @@ use Rattle.amqp_in_turn.specs.Reports.{IsLeastOpen}
 use Rattle.amqp_turns.specs.InTurn.{greatest, AreInTurn, IsLongestInTurn, IsNextFault, IsOpen, NoneIsOpen, state_on}
 use Rattle.amqp_in_turn.specs.RunsInTurn.{frames_at, AtWanted, IsAllInTurn, HasCauseInTurn, HasWrittenInTurn, GoesInTurn, IsAnsweredTo, IsExactlyInTurn}
 use Rattle.amqp_in_turn.specs.RunsInTurn.{UnlessStoppedInTurn, GoesExactly, IsComplete, IsOkOrNoMemory, TurnRun}
+use Rattle.amqp_turns.proofs.Messages.{all_back}
 use Rattle.amqp_turns.proofs.Turns.{are_in_turn, none_lost, lost_later, before_or_with}
 
 -- ---- one frame
@@ -55,13 +57,18 @@ pub record IsFresh (bad : ContentFault) (frame : Frame) : Type 0 where
   pub other : bad ≢ faults.Faulted
   pub large : bad ≡ faults.BodyTooLarge → greatest < size_in (outline_of frame)
 
+-- a frame after these is not in turn, and has this fault
+pub record IsRefused (earlier : List Frame) (frame : Frame) (bad : ContentFault) : Type 0 where
+  pub lost : state_on (earlier ++ frame ∷ []) (channel_id_of frame) ≡ Lost
+  pub last : IsLastAnswer outline_of greatest (of_channel outline_of (channel_id_of frame) (earlier ++ frame ∷ [])) (Wrong bad)
+  pub fresh : IsFresh bad frame
+
 -- A frame after these gives its bytes, and the state stands for one frame more; or it is refused, since it is not in turn.
 pub data Stepped {S : Type 0} (step : S → Frame → Result (List ℕ × S) Refusal) (StandsFor : S → List Frame → Type 0)
     (given : List Frame → Frame → List ℕ) (s : S) (earlier : List Frame) (frame : Frame) : Type 0 where
   takes : (t : S) → step s frame ≡ Ok (given earlier frame, t) → StandsFor t (earlier ++ frame ∷ []) → Stepped step StandsFor given s earlier frame
-  refuses : (bad : ContentFault) → step s frame ≡ Err (refusals.BadContent bad) → state_on (earlier ++ frame ∷ []) (channel_id_of frame) ≡ Lost
-      → IsLastAnswer outline_of greatest (of_channel outline_of (channel_id_of frame) (earlier ++ frame ∷ [])) (Wrong bad)
-      → IsFresh bad frame → Stepped step StandsFor given s earlier frame
+  refuses : (bad : ContentFault) → step s frame ≡ Err (refusals.BadContent bad) → IsRefused earlier frame bad
+      → Stepped step StandsFor given s earlier frame
 
 -- What a writer that goes by the turns of the channels has to show: its states stand for frames that are in turn, a step gives what is written for one
 -- frame more or refuses the one that is not in turn, and a stream may end where no message is open.
@@ -78,56 +85,37 @@ pub record GoesByTurns {S : Type 0} (step : S → Frame → Result (List ℕ × 
       → end s ≡ Some (refusals.OpenContent channel) → IsLeastOpen frames channel
   pub may_end : (s : S) (frames : List Frame) → StandsFor s frames → NoneIsOpen frames → end s ≡ None
 
--- where a message is open on a channel, one is open
-is_open : (frames : List Frame) (channel : ℕ) → IsLeastOpen frames channel → IsOpen frames
-is_open frames channel h = (channel, h.begun)
-
 -- ---- frames one after another
 
--- why the frames end where they do: they are all, or the next is refused
-pub data Ends (earlier front rest : List Frame) (why : Option Refusal) : Type 0 where
-  all : rest ≡ [] → why ≡ None → Ends earlier front rest why
-  fault : (frame : Frame) (more : List Frame) (bad : ContentFault) → rest ≡ frame ∷ more → why ≡ Some (refusals.BadContent bad)
-      → state_on ((earlier ++ front) ++ frame ∷ []) (channel_id_of frame) ≡ Lost
-      → IsLastAnswer outline_of greatest (of_channel outline_of (channel_id_of frame) ((earlier ++ front) ++ frame ∷ [])) (Wrong bad)
-      → IsFresh bad frame
-      → Ends earlier front rest why
+-- why the frames after these that were written for end where they do: they are all, or the next is refused
+pub data Ends (earlier frames front : List Frame) (why : Option Refusal) : Type 0 where
+  all : frames ≡ front → why ≡ None → Ends earlier frames front why
+  fault : (next : Frame) (more : List Frame) (bad : ContentFault) → frames ≡ front ++ next ∷ more
+      → why ≡ Some (refusals.BadContent bad) → IsRefused (earlier ++ front) next bad → Ends earlier frames front why
 
-ends_on : (earlier front rest : List Frame) (frame : Frame) (why : Option Refusal)
-    → Ends (earlier ++ frame ∷ []) front rest why → Ends earlier (frame ∷ front) rest why
-ends_on earlier front rest frame why (all none e) = all none e
-ends_on earlier front rest frame why (fault next more bad is e lost last other) =
-    let same : (earlier ++ frame ∷ []) ++ front ≡ earlier ++ frame ∷ front = append_assoc earlier (frame ∷ []) front in
-    fault next more bad is e (subst (λ (fs : List Frame). state_on (fs ++ next ∷ []) (channel_id_of next) ≡ Lost) same lost)
-    (subst (λ (fs : List Frame). IsLastAnswer outline_of greatest (of_channel outline_of (channel_id_of next) (fs ++ next ∷ [])) (Wrong bad)) same last) other
+ends_on : {earlier frames front : List Frame} {why : Option Refusal} (frame : Frame)
+    → Ends (earlier ++ frame ∷ []) frames front why → Ends earlier (frame ∷ frames) (frame ∷ front) why
+ends_on frame (all whole e) = all (ap (λ fs. frame ∷ fs) whole) e
+ends_on {earlier = earlier} {front = front} frame (fault next more bad parts e refused) =
+    fault next more bad (ap (λ fs. frame ∷ fs) parts) e (subst (λ fs. IsRefused fs next bad) (append_assoc earlier (frame ∷ []) front) refused)
 
-longest_by : (frames front rest : List Frame) (why : Option Refusal) → frames ≡ front ++ rest → Ends [] front rest why
+-- frames in turn have no frame that is refused
+never_in_turn : {front : List Frame} {next : Frame} {bad : ContentFault} (more frames : List Frame) → IsRefused front next bad
+    → frames ≡ (front ++ next ∷ []) ++ more → AreInTurn frames → ⊥
+never_in_turn {front = front} {next = next} more frames refused e turn =
+    none_lost frames (channel_id_of next) turn
+    (ap (λ fs. state_on fs (channel_id_of next)) e ∙ lost_later (front ++ next ∷ []) more (channel_id_of next) refused.lost)
+
+longest_by : {frames front : List Frame} {why : Option Refusal} → Ends [] frames front why
     → (other back : List Frame) → frames ≡ other ++ back → AreInTurn other → length other ≤ length front
-longest_by frames front rest why parts (all none e) other back are turn =
-    let whole : front ≡ other ++ back = sym (append-nil front) ∙ ap (λ r. front ++ r) (sym none) ∙ sym parts ∙ are in
-    omega (arith, ap length whole, length-append other back)
-longest_by frames front rest why parts (fault next more bad is e lost last unfaulted) other back are turn =
-    by_place (before_or_with front next more other back (ap (λ r. front ++ r) (sym is) ∙ sym parts ∙ are))
-  where
-    by_place : (length other ≤ length front) ⊎ ((middle : List Frame) × (other ≡ (front ++ next ∷ []) ++ middle)) → length other ≤ length front
-    by_place (inl short) = short
-    by_place (inr found) =
-        absurd (none_lost other (channel_id_of next) turn
-        (ap (λ fs. state_on fs (channel_id_of next)) found.1 ∙ lost_later (front ++ next ∷ []) found.0 (channel_id_of next) lost))
+longest_by (all whole e) other back are turn = omega (arith, ap length (sym whole ∙ are), length-append other back)
+longest_by {front = front} (fault next more bad parts e refused) other back are turn =
+    elim (before_or_with front next more other back (sym parts ∙ are)) [
+      | inl short ↦ short
+      | inr found ↦ absurd (never_in_turn found.0 other refused found.1 turn)
+    ]
 
 -- ---- results
-
-none_is_some : (why : Refusal) → None ≡ Some why → ⊥
-none_is_some why e = cc
-
-bad_is_none : (bad : ContentFault) → Some (refusals.BadContent bad) ≡ None → ⊥
-bad_is_none bad e = cc
-
-bad_is_open : (bad : ContentFault) (channel : ℕ) → Some (refusals.BadContent bad) ≡ Some (refusals.OpenContent channel) → ⊥
-bad_is_open bad channel e = cc
-
-same_bad : (worse bad : ContentFault) → Some (refusals.BadContent worse) ≡ Some (refusals.BadContent bad) → worse ≡ bad
-same_bad worse bad e = cc
 
 -- an ending as a result
 abbrev turned_ending : Ending Refusal → Result (Unit {0}) TurnError
@@ -137,10 +125,7 @@ turned_ending (refused_by (refusals.OpenContent channel)) = Err errors.OpenConte
 turned_ending (stopped_by cause) = Err (errors.Stream (error_by cause))
 
 back : (r : Result (Unit {0}) (RunError Refusal)) → as_turned r ≡ turned_ending (ending_of r)
-back (Ok done) = refl
-back (Err (runs_end.Stream error)) = ap (λ e. Err (errors.Stream e)) (sym (error_by-cause error))
-back (Err (runs_end.Refused (refusals.BadContent bad))) = refl
-back (Err (runs_end.Refused (refusals.OpenContent channel))) = refl
+back r = grind (arith, error_by-cause)
 
 unless_turned : {P Q : Type 0} (r : Result (Unit {0}) (RunError Refusal)) → (P → Q) → UnlessStoppedBy (ending_of r) P → UnlessStoppedInTurn (as_turned r) Q
 unless_turned (Ok done) g h = g h
@@ -150,48 +135,34 @@ unless_turned (Err (runs_end.Refused (refusals.OpenContent channel))) g h = g h
 
 turns_by : (r : Result (Unit {0}) (RunError Refusal)) (error : StreamError)
     → as_turned r ≡ Err (errors.Stream error) → ending_of r ≡ stopped_by (cause_of error)
-turns_by (Ok done) error e = absurd cc
-turns_by (Err (runs_end.Stream other)) error e = let same : other ≡ error = cc in ap (λ x. stopped_by (cause_of x)) same
-turns_by (Err (runs_end.Refused (refusals.BadContent bad))) error e = absurd cc
-turns_by (Err (runs_end.Refused (refusals.OpenContent channel))) error e = absurd cc
+turns_by r error e = grind arith
 
 done_or_memory : (r : Result (Unit {0}) (RunError Refusal)) → IsDoneOrWanting (ending_of r) → IsOkOrNoMemory (as_turned r)
-done_or_memory (Ok done) h = tt
-done_or_memory (Err (runs_end.Stream error)) h = h
-done_or_memory (Err (runs_end.Refused (refusals.BadContent bad))) h = absurd h
-done_or_memory (Err (runs_end.Refused (refusals.OpenContent channel))) h = absurd h
+done_or_memory r h = grind arith
 
 -- ---- where the frames end
 
 -- Where nothing is refused, the frames in front are all.
-pub whole_by : (frames front rest : List Frame) (why : Option Refusal) → frames ≡ front ++ rest → Ends [] front rest why → why ≡ None → front ≡ frames
-whole_by frames front rest why parts (all none e) h = sym (parts ∙ ap (λ r. front ++ r) none ∙ append-nil front)
-whole_by frames front rest why parts (fault next more bad is e lost last news) h = absurd (bad_is_none bad (sym e ∙ h))
+pub whole_by : {frames front : List Frame} {why : Option Refusal} → Ends [] frames front why → why ≡ None → front ≡ frames
+whole_by (all whole e) h = sym whole
+whole_by (fault next more bad parts e refused) h = absurd cc
 
-next_by : (frames front rest : List Frame) (why : Option Refusal) (bad : ContentFault) → frames ≡ front ++ rest
-    → Ends [] front rest why → why ≡ Some (refusals.BadContent bad) → IsNextFault frames front bad
-next_by frames front rest why bad parts (all none e) h = absurd (none_is_some (refusals.BadContent bad) (sym e ∙ h))
-next_by frames front rest why bad parts (fault next more worse is e lost last news) h = record {
-  next = next;
-  rest = more;
-  parts = parts ∙ ap (λ r. front ++ r) is;
-  wrong =
-      subst (λ (f : ContentFault). IsLastAnswer outline_of greatest (of_channel outline_of (channel_id_of next) (front ++ next ∷ [])) (Wrong f))
-      (same_bad worse bad (sym e ∙ h)) last;
-}
+next_by : {frames front : List Frame} {why : Option Refusal} (bad : ContentFault) → Ends [] frames front why
+    → why ≡ Some (refusals.BadContent bad) → IsNextFault frames front bad
+next_by bad (all whole e) h = absurd cc
+next_by {front = front} bad (fault next more worse parts e refused) h = grind (arith, common_steps)
 
-never_open : (front rest : List Frame) (why : Option Refusal) (channel : ℕ) → Ends [] front rest why → why ≡ Some (refusals.OpenContent channel) → ⊥
-never_open front rest why channel (all none e) h = none_is_some (refusals.OpenContent channel) (sym e ∙ h)
-never_open front rest why channel (fault next more bad is e lost last news) h = bad_is_open bad channel (sym e ∙ h)
+never_open : {frames front : List Frame} {why : Option Refusal} (channel : ℕ) → Ends [] frames front why → why ≡ Some (refusals.OpenContent channel) → ⊥
+never_open channel (all whole e) h = cc
+never_open channel (fault next more bad parts e refused) h = cc
 
 -- ---- sizes
 
 -- the sizes in content headers that were read
-Fits : Frame → Type 0
+abbrev Fits : Frame → Type 0
 Fits frame = size_in (outline_of frame) ≤ greatest
 
 spelled_fits : (bytes : List ℕ) (frame : Frame) → Spells plain bytes frame → Fits frame
-unfolding Fits
 spelled_fits bytes (Head channel header) h =
     let front = header_front h.spelled in
     omega (arith, front.size_fits, ap (λ (x : ContentHeader). x.body_size) front.header_is)
@@ -205,26 +176,19 @@ sequence_fits : (m : Option ℕ) (bytes : List ℕ) (frames : List Frame) → Sp
 sequence_fits m bytes [] h = tt
 sequence_fits m bytes (frame ∷ frames) h = (spelled_fits h.0 frame h.3, sequence_fits m h.1 frames h.5)
 
-fits_at : (front : List Frame) (next : Frame) (more : List Frame) → AllByRecursion Fits (front ++ next ∷ more) → Fits next
-fits_at [] next more h = h.0
-fits_at (f ∷ fs) next more h = fits_at fs next more h.1
+fresh_by : {frames front : List Frame} {why : Option Refusal} (bad : ContentFault) → AllByRecursion Fits frames
+    → Ends [] frames front why → why ≡ Some (refusals.BadContent bad) → (bad ≢ faults.BodyTooLarge) × (bad ≢ faults.Faulted)
+fresh_by bad fits (all whole e) h = absurd cc
+fresh_by {front = front} bad fits (fault next more worse parts e refused) h =
+    let same : worse ≡ bad = cc in
+    let news = (subst (IsRefused front next) same refused).fresh in
+    let fit : Fits next = (all_back Fits front (next ∷ more) (subst (AllByRecursion Fits) parts fits)).0 in
+    (λ large. absurd (omega (arith, news.large large, fit)), news.other)
 
-fresh_by : (frames front rest : List Frame) (why : Option Refusal) (bad : ContentFault) → frames ≡ front ++ rest → AllByRecursion Fits frames
-    → Ends [] front rest why → why ≡ Some (refusals.BadContent bad) → (bad ≢ faults.BodyTooLarge) × (bad ≢ faults.Faulted)
-unfolding Fits
-fresh_by frames front rest why bad parts fits (all none e) h = absurd (none_is_some (refusals.BadContent bad) (sym e ∙ h))
-fresh_by frames front rest why bad parts fits (fault next more worse is e lost last news) h =
-    let same = same_bad worse bad (sym e ∙ h) in
-    let fit : size_in (outline_of next) ≤ greatest =
-    fits_at front next more (subst (λ (fs : List Frame). AllByRecursion Fits fs) (parts ∙ ap (λ r. front ++ r) is) fits) in
-    (λ large. absurd (omega (arith, news.large (same ∙ large), fit)), λ lost. news.other (same ∙ lost))
-
-refused_never : (frames front rest : List Frame) (why : Option Refusal) → frames ≡ front ++ rest → AreInTurn frames → Ends [] front rest why → why ≡ None
-refused_never frames front rest why parts turn (all none e) = e
-refused_never frames front rest why parts turn (fault next more bad is e lost last news) =
-    let same : (front ++ next ∷ []) ++ more ≡ frames = append_assoc front (next ∷ []) more ∙ ap (λ r. front ++ r) (sym is) ∙ sym parts in
-    absurd (none_lost frames (channel_id_of next) turn
-    (ap (λ fs. state_on fs (channel_id_of next)) (sym same) ∙ lost_later (front ++ next ∷ []) more (channel_id_of next) lost))
+refused_never : {frames front : List Frame} {why : Option Refusal} → AreInTurn frames → Ends [] frames front why → why ≡ None
+refused_never turn (all whole e) = e
+refused_never {frames = frames} {front = front} turn (fault next more bad parts e refused) =
+    absurd (never_in_turn more frames refused (parts ∙ sym (append_assoc front (next ∷ []) more)) turn)
 
 module _ {S : Type 0} {step : S → Frame → Result (List ℕ × S) Refusal} {end : S → Option Refusal}
     (wants : AMQPFrameType → Bool) (compact : Bool) {StandsFor : S → List Frame → Type 0} {given : List Frame → Frame → List ℕ}
@@ -236,109 +200,72 @@ module _ {S : Type 0} {step : S → Frame → Result (List ℕ × S) Refusal} {e
   -- what is written for frames: that of their front that is in turn
   pub record Ran (s : S) (earlier frames : List Frame) : Type 0 where
     pub front : List Frame
-    pub rest : List Frame
-    pub parts : frames ≡ front ++ rest
     pub text_is : text w s frames ≡ after earlier front
     pub stands : StandsFor (state w s frames) (earlier ++ front)
-    pub ends : Ends earlier front rest (refused w s frames)
+    pub ends : Ends earlier frames front (refused w s frames)
 
   ran_more : (s t : S) (earlier : List Frame) (frame : Frame) (frames : List Frame)
       → step s frame ≡ Ok (given earlier frame, t) → Ran t (earlier ++ frame ∷ []) frames → Ran s earlier (frame ∷ frames)
   unfolding text refused state
-  ran_more s t earlier frame frames e ran =
-      let bytes = given earlier frame in
-      let state_is : state w s (frame ∷ frames) ≡ state w t frames = ap (λ r. state_at s r (λ u. state w u frames)) e in
-      let why_is : refused w s (frame ∷ frames) ≡ refused w t frames = ap (λ r. refused_at r (λ u. refused w u frames)) e in
-      record {
-        front = frame ∷ ran.front;
-        rest = ran.rest;
-        parts = ap (λ fs. frame ∷ fs) ran.parts;
-        text_is = ap (λ r. text_at r (λ u. text w u frames)) e ∙ ap (λ (bs : List ℕ). bytes ++ bs) ran.text_is ∙ sym (by.more earlier frame ran.front);
-        stands =
-            subst (λ (u : S). StandsFor u (earlier ++ frame ∷ ran.front)) (sym state_is)
-            (subst (λ (fs : List Frame). StandsFor (state w t frames) fs) (append_assoc earlier (frame ∷ []) ran.front) ran.stands);
-        ends =
-            subst (λ (why : Option Refusal). Ends earlier (frame ∷ ran.front) ran.rest why)
-            (sym why_is) (ends_on earlier ran.front ran.rest frame (refused w t frames) ran.ends);
-      }
+  ran_more s t earlier frame frames e ran = record {
+    front = frame ∷ ran.front;
+    text_is = rw e (ap (λ (bytes : List ℕ). given earlier frame ++ bytes) ran.text_is ∙ sym (by.more earlier frame ran.front));
+    stands = rw e (subst (StandsFor (state w t frames)) (append_assoc earlier (frame ∷ []) ran.front) ran.stands);
+    ends = rw e (ends_on frame ran.ends);
+  }
 
   ran_stopped : (s : S) (earlier : List Frame) (frame : Frame) (frames : List Frame) (bad : ContentFault) → StandsFor s earlier
-      → step s frame ≡ Err (refusals.BadContent bad) → state_on (earlier ++ frame ∷ []) (channel_id_of frame) ≡ Lost
-      → IsLastAnswer outline_of greatest (of_channel outline_of (channel_id_of frame) (earlier ++ frame ∷ [])) (Wrong bad)
-      → IsFresh bad frame → Ran s earlier (frame ∷ frames)
+      → step s frame ≡ Err (refusals.BadContent bad) → IsRefused earlier frame bad → Ran s earlier (frame ∷ frames)
   unfolding text refused state
-  ran_stopped s earlier frame frames bad h e lost last other =
+  ran_stopped s earlier frame frames bad h e refused =
       let same : earlier ≡ earlier ++ [] = sym (append-nil earlier) in
-      let state_is : state w s (frame ∷ frames) ≡ s = ap (λ r. state_at s r (λ u. state w u frames)) e in
       record {
         front = [];
-        rest = frame ∷ frames;
-        parts = refl;
-        text_is = ap (λ r. text_at r (λ u. text w u frames)) e ∙ sym (by.none earlier);
-        stands = subst (λ (u : S). StandsFor u (earlier ++ [])) (sym state_is) (subst (λ (fs : List Frame). StandsFor s fs) same h);
-        ends =
-            fault frame frames bad refl (ap (λ r. refused_at r (λ u. refused w u frames)) e)
-            (subst (λ (fs : List Frame). state_on (fs ++ frame ∷ []) (channel_id_of frame) ≡ Lost) same lost)
-            (subst
-            (λ (fs : List Frame). IsLastAnswer outline_of greatest (of_channel outline_of (channel_id_of frame) (fs ++ frame ∷ [])) (Wrong bad)) same last)
-            other;
+        text_is = rw e (sym (by.none earlier));
+        stands = rw e (subst (StandsFor s) same h);
+        ends = rw e (fault frame frames bad refl refl (subst (λ fs. IsRefused fs frame bad) same refused));
       }
-
-  ran_nothing : (s : S) (earlier : List Frame) → StandsFor s earlier → Ran s earlier []
-  unfolding text refused state
-  ran_nothing s earlier h = record {
-    front = [];
-    rest = [];
-    parts = refl;
-    text_is = sym (by.none earlier);
-    stands = subst (λ (fs : List Frame). StandsFor s fs) (sym (append-nil earlier)) h;
-    ends = all refl refl;
-  }
 
   -- A writer that stands for earlier frames writes for more frames as far as they are in turn, and refuses the first that is not.
   pub runs : (s : S) (earlier frames : List Frame) → StandsFor s earlier → Ran s earlier frames
-  runs s earlier [] h = ran_nothing s earlier h
-  runs s earlier (frame ∷ frames) h = by_step (by.steps s earlier frame h) (λ t g. runs t (earlier ++ frame ∷ []) frames g)
+  unfolding text refused state
+  runs s earlier [] h = grind (arith, common_steps, append-nil)
+  runs s earlier (frame ∷ frames) h = elim (by.steps s earlier frame h) [
+    | takes t e g ↦ ran_more s t earlier frame frames e (runs t (earlier ++ frame ∷ []) frames g)
+    | refuses bad e refused ↦ ran_stopped s earlier frame frames bad h e refused
+  ]
+
+  longest_ran : {s : S} {frames : List Frame} (ran : Ran s [] frames) → IsLongestInTurn frames ran.front
+  longest_ran {s = s} {frames = frames} ran = by_ends ran.ends
     where
-      by_step : Stepped step StandsFor given s earlier frame
-          → ((t : S) → StandsFor t (earlier ++ frame ∷ []) → Ran t (earlier ++ frame ∷ []) frames) → Ran s earlier (frame ∷ frames)
-      by_step (takes t e g) on = ran_more s t earlier frame frames e (on t g)
-      by_step (refuses bad e lost last other) on = ran_stopped s earlier frame frames bad h e lost last other
+      longest : (rest : List Frame) → frames ≡ ran.front ++ rest → IsLongestInTurn frames ran.front
+      longest rest parts =
+          record { rest = rest; parts = parts; in_turn = are_in_turn ran.front (by.in_turn _ ran.front ran.stands); longest = longest_by ran.ends }
 
-  pub longest_ran : (s : S) (frames : List Frame) (ran : Ran s [] frames) → IsLongestInTurn frames ran.front
-  longest_ran s frames ran = record {
-    rest = ran.rest;
-    parts = ran.parts;
-    in_turn = are_in_turn ran.front (by.in_turn _ ran.front ran.stands);
-    longest = longest_by frames ran.front ran.rest (refused w s frames) ran.parts ran.ends;
-  }
-
-  -- A new writer writes for frames as far as they are in turn, and refuses the first that is not.
-  pub ran_all : (s : S) (frames : List Frame) → StandsFor s [] → Ran s [] frames
-  ran_all s frames h = runs s [] frames h
+      by_ends : Ends [] frames ran.front (refused w s frames) → IsLongestInTurn frames ran.front
+      by_ends (all whole e) = longest [] (whole ∙ sym (append-nil ran.front))
+      by_ends (fault next more bad parts e refused) = longest (next ∷ more) parts
 
   -- ---- a run
 
-  -- where none is refused all are in turn, and written for
+  -- where none is refused all are in turn, and written for, and the state stands for them
   pub record IsWholeInTurn (s : S) (m : ℕ) (sequence : List ℕ) : Type 0 where
     pub in_turn : AreInTurn (frames_at m sequence)
     pub text_is : text_of w s m sequence ≡ after [] (frames_at m sequence)
+    pub stands : StandsFor (state_of w s m sequence) (frames_at m sequence)
 
   -- Where a new writer refuses none of a sequence of frames, all are in turn, and it wrote for all.
   pub whole_in_turn : (s : S) (m : ℕ) (sequence : List ℕ) → StandsFor s [] → refused_of w s m sequence ≡ None → IsWholeInTurn s m sequence
   whole_in_turn s m sequence new none =
-      let ran = ran_all s (frames_at m sequence) new in
-      let whole = whole_by (frames_at m sequence) ran.front ran.rest (refused_of w s m sequence) ran.parts ran.ends none in
-      record {
-        in_turn = subst AreInTurn whole (longest_ran s (frames_at m sequence) ran).in_turn;
-        text_is = ran.text_is ∙ ap (after []) whole;
-      }
+      let ran = runs s [] (frames_at m sequence) new in
+      let whole = whole_by ran.ends none in
+      let stands = subst (StandsFor (state_of w s m sequence)) whole ran.stands in
+      record { in_turn = are_in_turn (frames_at m sequence) (by.in_turn _ _ stands); text_is = ran.text_is ∙ ap (after []) whole; stands = stands }
 
   writes_by : (s : S) (m : ℕ) (taken written text_is : List ℕ) (r : Result (Unit {0}) (RunError Refusal))
       → HasWritten (plan_of w s m) taken written (ending_of r) → text_of w s m taken ≡ text_is → HasWrittenInTurn text_is written (as_turned r)
   writes_by s m taken written text_is (Ok done) h e = h.text_is ∙ e
-  writes_by s m taken written text_is (Err (runs_end.Stream error)) h e =
-      subst (λ (text_is : List ℕ). IsWrittenUnless text_is written (cause_of error)) e (written_unless (plan_of w s m) taken written (cause_of error) h)
+  writes_by s m taken written text_is (Err (runs_end.Stream error)) h e = grind (arith, common_steps, written_unless)
   writes_by s m taken written text_is (Err (runs_end.Refused (refusals.BadContent bad))) h e = h ∙ e
   writes_by s m taken written text_is (Err (runs_end.Refused (refusals.OpenContent channel))) h e = h ∙ e
 
@@ -352,17 +279,7 @@ module _ {S : Type 0} {step : S → Frame → Result (List ℕ × S) Refusal} {e
   in_turn_by s m taken written frames read_failed h whole = whole h.none_refused
 
   at_wanted : (s : S) (m : ℕ) (taken written : List ℕ) → StandsFor s [] → AtWanting (plan_of w s m) m taken written → AtWanted (after []) wants m taken written
-  at_wanted s m taken written new h =
-      let whole = whole_in_turn s m h.sequence new h.none_refused in
-      record {
-        sequence = h.sequence;
-        rest = h.rest;
-        parts = h.parts;
-        is_sequence = h.is_sequence;
-        in_turn = whole.in_turn;
-        wanted = h.wanting;
-        written_is = h.written_is ∙ whole.text_is;
-      }
+  at_wanted s m taken written new h = grind (arith, common_steps, whole_in_turn)
 
   cause_by : (s : S) (call : Call Supply Store) (taken written : List ℕ) (r : Result (Unit {0}) (RunError Refusal)) → StandsFor s []
       → (ran : Ran s [] (frames_at call.limit taken)) → HasWritten (plan_of w s call.limit) taken written (ending_of r)
@@ -371,30 +288,25 @@ module _ {S : Type 0} {step : S → Frame → Result (List ℕ × S) Refusal} {e
   cause_by s call taken written (Ok done) new ran wrote h = (
     h.0,
     h.1,
-    whole_by (frames_at call.limit taken) ran.front ran.rest (refused_of w s call.limit taken) ran.parts ran.ends wrote.none_refused,
+    whole_by ran.ends wrote.none_refused,
     by.ends_none (state_of w s call.limit taken) ran.front ran.stands h.2,
   )
-  cause_by s call taken written (Err (runs_end.Stream error)) new ran wrote h = (
-    caused_by plain call taken (cause_of error) (at_wanted s call.limit taken written new) h,
-    in_turn_by s call.limit taken written ran.front (cause_of error) wrote
-        (whole_by (frames_at call.limit taken) ran.front ran.rest (refused_of w s call.limit taken) ran.parts ran.ends),
-  )
-  cause_by s call taken written (Err (runs_end.Refused (refusals.BadContent bad))) new ran wrote (inl is) =
-      next_by (frames_at call.limit taken) ran.front ran.rest (refused_of w s call.limit taken) bad ran.parts ran.ends is
+  cause_by s call taken written (Err (runs_end.Stream error)) new ran wrote h = grind (arith, common_steps, at_wanted, caused_by, in_turn_by, whole_by)
+  cause_by s call taken written (Err (runs_end.Refused (refusals.BadContent bad))) new ran wrote (inl is) = next_by bad ran.ends is
   cause_by s call taken written (Err (runs_end.Refused (refusals.BadContent bad))) new ran wrote (inr h) = absurd (by.only_open _ bad h.ends)
   cause_by s call taken written (Err (runs_end.Refused (refusals.OpenContent channel))) new ran wrote (inl is) =
-      absurd (never_open ran.front ran.rest (refused_of w s call.limit taken) channel ran.ends is)
+      absurd (never_open channel ran.ends is)
   cause_by s call taken written (Err (runs_end.Refused (refusals.OpenContent channel))) new ran wrote (inr h) = (
     h.sequence,
     h.empty,
-    whole_by (frames_at call.limit taken) ran.front ran.rest (refused_of w s call.limit taken) ran.parts ran.ends h.none_refused,
-    is_open ran.front channel (by.ends_open (state_of w s call.limit taken) ran.front channel ran.stands h.ends),
+    whole_by ran.ends h.none_refused,
+    (channel, (by.ends_open (state_of w s call.limit taken) ran.front channel ran.stands h.ends).begun),
   )
 
   goes : (s : S) (call : Call Supply Store) (r : Result (Unit {0}) (RunError Refusal)) → StandsFor s []
       → Streams (plan_of w s call.limit) call (ending_of r) → GoesInTurn (after []) wants call (as_turned r)
   goes s call r new run =
-      let ran = ran_all s (frames_at call.limit run.taken) new in
+      let ran = runs s [] (frames_at call.limit run.taken) new in
       let short = run.short_by in
       let behind = whole_in_turn s call.limit short.sequence new short.none_refused in
       record {
@@ -407,7 +319,7 @@ module _ {S : Type 0} {step : S → Frame → Result (List ℕ × S) Refusal} {e
         written = run.written;
         gains = run.gains;
         frames = ran.front;
-        in_turn = longest_ran s (frames_at call.limit run.taken) ran;
+        in_turn = longest_ran ran;
         writes = writes_by s call.limit run.taken run.written (after [] ran.front) r run.writes ran.text_is;
         cause = cause_by s call run.taken run.written r new ran run.writes run.cause;
         behind = record {
@@ -431,7 +343,7 @@ module _ {S : Type 0} {step : S → Frame → Result (List ℕ × S) Refusal} {e
   pub never_untidy : {A K : Type 0} {writer : Change S} {supply : A → Supply} {store : K → Store} {call : Call A K}
       (r : Result (Unit {0}) (RunError Refusal)) → RanOrNever writer supply store call r → as_turned r ≢ Err (errors.Stream streams.NotTidy)
   never_untidy r (inl run) e = run.stream.run.tidy_only (turns_by r streams.NotTidy e)
-  never_untidy r (inr h) e = let other = sym (turns_by r streams.NotTidy e) ∙ ap ending_of h.0.no_memory in absurd cc
+  never_untidy r (inr h) e = grind (arith, common_steps, turns_by)
 
   fresh_run : (s : S) (call : Call Supply Store) (bad : ContentFault) → StandsFor s []
       → Streams (plan_of w s call.limit) call (refused_by (refusals.BadContent bad)) → (bad ≢ faults.BodyTooLarge) × (bad ≢ faults.Faulted)
@@ -440,10 +352,9 @@ module _ {S : Type 0} {step : S → Frame → Result (List ℕ × S) Refusal} {e
       by_cause : HasCause (plan_of w s call.limit) call run.taken run.written (refused_by (refusals.BadContent bad))
           → (bad ≢ faults.BodyTooLarge) × (bad ≢ faults.Faulted)
       by_cause (inl is) =
-          let ran = ran_all s (frames_at call.limit run.taken) new in
           let sequence = front-is_sequence plain (Some call.limit) run.taken run.are_bytes in
-          fresh_by (frames_at call.limit run.taken) ran.front ran.rest (refused_of w s call.limit run.taken) bad ran.parts
-          (sequence_fits (Some call.limit) sequence.used (frames_at call.limit run.taken) sequence.sequence) ran.ends is
+          fresh_by bad (sequence_fits (Some call.limit) sequence.used (frames_at call.limit run.taken) sequence.sequence)
+          (runs s [] (frames_at call.limit run.taken) new).ends is
       by_cause (inr h) = absurd (by.only_open _ bad h.ends)
 
   -- A fault of content that ends the run of a new writer is neither a body above the limit nor a fault that came before.
@@ -465,31 +376,28 @@ module _ {S : Type 0} {step : S → Frame → Result (List ℕ × S) Refusal} {e
       → end t ≡ last → answer_to plain m bytes ≡ answer → front ≡ frames_at m bytes
       → StandsFor t front → IsAnsweredTo m bytes front (turned_ending (answer_at_end last answer))
   answered_end m bytes front t None (Ok done) e is whole h = (whole, is, by.ends_none t front h e)
-  answered_end m bytes front t None (Err error) e is whole h = (whole, is ∙ ap (λ x. Err x) (sym (error_by-cause error)))
+  answered_end m bytes front t None (Err error) e is whole h = (whole, is ∙ ap Err (sym (error_by-cause error)))
   answered_end m bytes front t (Some (refusals.BadContent bad)) (Ok done) e is whole h = absurd (by.only_open t bad e)
   answered_end m bytes front t (Some (refusals.OpenContent channel)) (Ok done) e is whole h =
-      (whole, is, is_open front channel (by.ends_open t front channel h e))
-  answered_end m bytes front t (Some why) (Err error) e is whole h = (whole, is ∙ ap (λ x. Err x) (sym (error_by-cause error)))
+      (whole, is, (channel, (by.ends_open t front channel h e).begun))
+  answered_end m bytes front t (Some why) (Err error) e is whole h = (whole, is ∙ ap Err (sym (error_by-cause error)))
 
-  answered : (m : ℕ) (bytes : List ℕ) (front rest : List Frame) (t : S) (why : Option Refusal) → Ends [] front rest why → frames_at m bytes ≡ front ++ rest
+  answered : (m : ℕ) (bytes : List ℕ) (front : List Frame) (t : S) (why : Option Refusal) → Ends [] (frames_at m bytes) front why
       → StandsFor t front → IsAnsweredTo m bytes front (turned_ending (answer_of why (end t) (answer_to plain m bytes)))
-  answered m bytes front rest t None ends parts h =
-      answered_end m bytes front t (end t) (answer_to plain m bytes) refl refl (whole_by (frames_at m bytes) front rest None parts ends refl) h
-  answered m bytes front rest t (Some (refusals.BadContent bad)) ends parts h =
-      next_by (frames_at m bytes) front rest (Some (refusals.BadContent bad)) bad parts ends refl
-  answered m bytes front rest t (Some (refusals.OpenContent channel)) ends parts h =
-      absurd (never_open front rest (Some (refusals.OpenContent channel)) channel ends refl)
+  answered m bytes front t None ends h = answered_end m bytes front t (end t) (answer_to plain m bytes) refl refl (whole_by ends refl) h
+  answered m bytes front t (Some (refusals.BadContent bad)) ends h = next_by bad ends refl
+  answered m bytes front t (Some (refusals.OpenContent channel)) ends h = absurd (never_open channel ends refl)
 
   exactly : (s : S) (m : ℕ) (bytes written : List ℕ) (r : Result (Unit {0}) (RunError Refusal)) → StandsFor s []
       → IsExactRun (plan_of w s m) m bytes written (ending_of r) → IsExactlyInTurn (after []) m bytes written (as_turned r)
   exactly s m bytes written r new h =
-      let ran = ran_all s (frames_at m bytes) new in
+      let ran = runs s [] (frames_at m bytes) new in
       record {
         frames = ran.front;
-        in_turn = longest_ran s (frames_at m bytes) ran;
+        in_turn = longest_ran ran;
         answered =
             subst (λ (x : Result (Unit {0}) TurnError). IsAnsweredTo m bytes ran.front x) (sym (back r ∙ ap turned_ending h.answer))
-            (answered m bytes ran.front ran.rest (state_of w s m bytes) (refused_of w s m bytes) ran.ends ran.parts ran.stands);
+            (answered m bytes ran.front (state_of w s m bytes) (refused_of w s m bytes) ran.ends ran.stands);
         written_is = h.text_is ∙ ran.text_is;
       }
 
@@ -502,14 +410,10 @@ module _ {S : Type 0} {step : S → Frame → Result (List ℕ × S) Refusal} {e
 
   welcome : (s : S) (m : ℕ) (bytes : List ℕ) → StandsFor s [] → IsComplete m bytes → IsWelcome (plan_of w s m) bytes
   welcome s m bytes new h =
-      let ran = ran_all s (frames_at m bytes) new in
-      let none = refused_never (frames_at m bytes) ran.front ran.rest (refused_of w s m bytes) ran.parts h.in_turn ran.ends in
-      let whole = whole_by (frames_at m bytes) ran.front ran.rest (refused_of w s m bytes) ran.parts ran.ends none in
+      let none = refused_never h.in_turn (runs s [] (frames_at m bytes) new).ends in
       record {
         none_refused = none;
-        ends =
-            by.may_end (state_of w s m bytes) (frames_at m bytes)
-            (subst (λ (fs : List Frame). StandsFor (state_of w s m bytes) fs) whole ran.stands) h.none_open;
+        ends = by.may_end (state_of w s m bytes) (frames_at m bytes) (whole_in_turn s m bytes new none).stands h.none_open;
       }
 
   -- ---- a whole call
@@ -527,5 +431,4 @@ module _ {S : Type 0} {step : S → Frame → Result (List ℕ × S) Refusal} {e
       (r : Result (Unit {0}) (RunError Refusal)) → StandsFor writer.old [] → RanOrNever writer supply store call r
       → TurnRun (after []) wants supply store call (as_turned r) ⊎ NeverBegan call.source call.sink (errors.Stream streams.NoMemory) (as_turned r)
   goes_run writer r new (inl run) = inl (turn_run writer r new run)
-  goes_run writer r new (inr h) =
-      inr (record { no_memory = ap as_turned h.0.no_memory; source_stays = h.0.source_stays; sink_stays = h.0.sink_stays })
+  goes_run writer r new (inr h) = grind (arith, common_steps)

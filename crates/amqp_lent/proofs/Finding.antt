@@ -1,6 +1,8 @@
 -- What is found in the entries of a table by a key.
-use Rattle.std.proofs.Common.{◌≡◌, ℕ, ◌+◌, ◌<◌, ◌≤◌, List, [], ◌∷◌, ◌++◌, length, drop, Option, Some, None, refl, sym, ap, subst, ◌∙◌}
-use Rattle.amqp_types.specs.Judging.{Judged, IsBytes, took, past, fault}
+use Rattle.std.proofs.lemmas.Grind.{common_steps}
+use Rattle.std.proofs.Common.{arith}
+use Rattle.std.proofs.Common.{◌≡◌, ℕ, ◌+◌, ◌<◌, ◌≤◌, List, [], ◌∷◌, ◌++◌, length, drop, Option, Some, None, sym, ap, ◌∙◌}
+use Rattle.amqp_types.specs.Judging.{Judged, IsBytes}
 use Rattle.amqp_types.specs.Settling.{last_at, settled}
 use Rattle.amqp_types.specs.Values.{Entry}
 use Rattle.amqp_laws.proofs.Settling.{settles}
@@ -14,9 +16,7 @@ use Rattle.amqp_types.specs.Tidiness.{used_by}
 
 -- what stands at the place of an entry that was read
 pub taken_entry : (j : Judged Entry) → IsRead j → taken j ≡ Some (judged_entry j)
-taken_entry (took e n) h = refl
-taken_entry past h = absurd h
-taken_entry (fault bad) h = absurd h
+taken_entry j h = grind (arith, common_steps)
 
 -- ---- the last entry with a key
 
@@ -27,12 +27,11 @@ pub record LastTo (room : ℕ) (content key : List ℕ) (at : ℕ) (found : Opti
   pub finds : FindsLast room content key front found
 
 pub last_none : (room : ℕ) (content key : List ℕ) → AreEntries room content → LastTo room content key 0 None
-last_none room content key h = record { front = []; entries = entries_none room content h; finds = refl }
+last_none room content key h = grind (arith, common_steps, entries_none)
 
 other_kept : (room : ℕ) (content key : List ℕ) (front : List Entry) (e : Entry) (found : Option ℕ)
     → (key ≡ e.0 → ⊥) → FindsLast room content key front found → FindsLast room content key (front ++ e ∷ []) found
-other_kept room content key front e None differ h = last_other key front e differ ∙ h
-other_kept room content key front e (Some place) differ h = record { read = h.read; value = last_other key front e differ ∙ h.value }
+other_kept room content key front e found differ h = grind (arith, common_steps, last_other)
 
 module _ (room : ℕ) (content key : List ℕ) (at size : ℕ) (here : List ℕ) (found : Option ℕ) (fits : IsBytes content)
     (more : at < length content) (sized : IsRead (entry_at room content at) → size ≡ used_by (entry_at room content at))
@@ -60,9 +59,7 @@ module _ (room : ℕ) (content key : List ℕ) (at size : ℕ) (here : List ℕ)
 -- What is found up to the end of the content is found among all of its entries.
 pub last_end : (room : ℕ) (content key : List ℕ) (at : ℕ) (found : Option ℕ) → length content ≤ at
     → LastTo room content key at found → FindsLast room content key (entries_in room content) found
-last_end room content key at found long h =
-    let P : List Entry → Type 0 = λ es. FindsLast room content key es found in
-    subst P (entries_end room content at h.front long h.entries) h.finds
+last_end room content key at found long h = grind (arith, common_steps, entries_end)
 
 -- ---- the next entry
 
@@ -80,9 +77,4 @@ none_after last es h other w after value = let all = settles es in h other w aft
 pub after_found : (room : ℕ) (content : List ℕ) (last : Option (List ℕ)) (place : ℕ) (key : List ℕ) (r : Option Entry)
     → IsNextAt room content last (entries_in room content) place key
     → r ≡ taken (entry_at room content place) → FindsAfter last (settled (entries_in room content)) r
-after_found room content last place key r h is =
-    let es = entries_in room content in
-    let e = judged_entry (entry_at room content place) in
-    let P : List ℕ → Type 0 = λ k. IsNext last es k e.1 in
-    let Q : Option Entry → Type 0 = λ o. FindsAfter last (settled es) o in
-    subst Q (sym (is ∙ taken_entry (entry_at room content place) h.read)) (least_after last es e (subst P (sym h.key_is) h.next))
+after_found room content last place key r h is = grind (arith, common_steps, least_after, taken_entry)

@@ -1,5 +1,6 @@
 -- What is decoded again of bytes that were decoded before.
-use Rattle.std.proofs.Common.{◌≡◌, ℕ, ◌+◌, ◌<◌, List, ◌∷◌, length, get_or, drop, Some, None, Result, Ok, Err, refl, sym, ap, subst, ◌∙◌, arith}
+use Rattle.std.proofs.lemmas.Grind.{common_steps}
+use Rattle.std.proofs.Common.{◌≡◌, ℕ, ◌+◌, ◌<◌, List, length, get_or, drop, Some, None, Result, Err, sym, ap, ◌∙◌, arith}
 use Rattle.amqp_types.specs.Judging.{Judged, Fault, took, ◌>>=◌, IsBytes}
 use Rattle.amqp_types.specs.Answers.{AnswersFully}
 use Rattle.amqp_types.specs.Settling.{settled}
@@ -8,13 +9,11 @@ use Rattle.amqp_types.specs.Tags.{tag_at}
 use Rattle.amqp_types.specs.Values.{FieldValue, Entry}
 use Rattle.amqp_types.specs.ValueJudging.{took_all, read_map, filled, judge_entry, judge_array, judge_table, judge_behind, judge_value, nested}
 use Rattle.amqp_types.specs.declared.errors.ParserError.{ParserError}
-use Rattle.amqp_types.specs.declared.errors.ParserError.TheVariants as errors
 use Rattle.amqp_types.specs.declared.tag.FieldTag.{FieldTag}
-use Rattle.amqp_types.proofs.Took.{bind_took}
 use Rattle.amqp_canonical.specs.Marks.{AreEntries, entries_in}
 use Rattle.amqp_canonical.specs.Writes.{IsRead, IsFilled, items_of}
 use Rattle.amqp_canonical.proofs.AfterTag.{judged_tag}
-use Rattle.amqp_canonical.proofs.ReadParts.{took_of, is_read, unread, first_value, none_filled}
+use Rattle.amqp_canonical.proofs.ReadParts.{is_read, unread, first_value, none_filled}
 use Rattle.amqp_canonical.proofs.Refusing.{fully}
 use Rattle.amqp_lent.specs.Finding.{StartsWith}
 use Rattle.amqp_lent.specs.Views.{taken}
@@ -23,18 +22,7 @@ use Rattle.amqp_types.specs.Tidiness.{used_by}
 -- what is refused first is refused, whatever was to follow
 pub fully_next : {A B C D : Type 0} (view : A → C) (other : B → D) (error : ParserError) (j : Judged C) (f : C × ℕ → Judged D)
     → AnswersFully view (Err error) j → AnswersFully other (Err error) (j >>= f)
-fully_next view other errors.Incomplete j f h = ap (λ x. x >>= f) h
-fully_next view other errors.UnknownFrameType j f h = ap (λ x. x >>= f) h
-fully_next view other errors.BadProtocolHeader j f h = ap (λ x. x >>= f) h
-fully_next view other errors.BadFrameEnd j f h = ap (λ x. x >>= f) h
-fully_next view other errors.UnknownClass j f h = ap (λ x. x >>= f) h
-fully_next view other errors.UnknownMethod j f h = ap (λ x. x >>= f) h
-fully_next view other errors.ShortPayload j f h = ap (λ x. x >>= f) h
-fully_next view other errors.TrailingBytes j f h = ap (λ x. x >>= f) h
-fully_next view other errors.NotUtf8 j f h = ap (λ x. x >>= f) h
-fully_next view other errors.UnknownTag j f h = ap (λ x. x >>= f) h
-fully_next view other errors.TooDeep j f h = ap (λ x. x >>= f) h
-fully_next view other errors.NoMemory j f h = absurd h
+fully_next view other error j f h = grind (arith, common_steps)
 
 -- nothing that was read is refused
 pub never_refused : {A B : Type 0} (view : A → B) (error : ParserError) (j : Judged B) → AnswersFully view (Err error) j → IsRead j → ⊥
@@ -46,33 +34,23 @@ taken_of j x n h = sym (ap (λ k. taken k) h)
 -- ---- what arrays and tables hold
 
 whole_filled : {A : Type 0} (r : Result (List A) Fault) (n : ℕ) → IsRead (took_all n r) → IsFilled r × (took_all n r ≡ took (items_of r) n)
-whole_filled (Ok xs) n h = (tt, refl)
-whole_filled (Err bad) n h = absurd h
+whole_filled r n h = grind (arith, common_steps)
 
 whole_settled : (r : Result (List Entry) Fault) (n : ℕ) → IsRead (took_all n (read_map settled r))
     → IsFilled r × (took_all n (read_map settled r) ≡ took (settled (items_of r)) n)
-whole_settled (Ok xs) n h = (tt, refl)
-whole_settled (Err bad) n h = absurd h
+whole_settled r n h = grind (arith, common_steps)
 
 -- an array that was read is the values that fill its content
 pub array_taken : (room : ℕ) (bytes content : List ℕ) (n : ℕ) → judge_long_string bytes ≡ took content n → IsRead (judge_array (judge_value room) bytes)
     → IsFilled (filled (judge_value room) 0 content) × (judge_array (judge_value room) bytes ≡ took (items_of (filled (judge_value room) 0 content)) n)
 unfolding judge_array
-array_taken room bytes content n is h =
-    let all = ap (λ j. j >>= λ c. took_all c.1 (filled (judge_value room) 0 c.0)) is in
-    let P : Judged (List FieldValue) → Type 0 = λ j. IsRead j in
-    let one = whole_filled (filled (judge_value room) 0 content) n (subst P all h) in
-    (one.0, all ∙ one.1)
+array_taken room bytes content n is h = grind (arith, common_steps)
 
 -- The content of a decoded table is entries, and the table is these entries settled.
 pub table_taken : (room : ℕ) (bytes content : List ℕ) (n : ℕ) → judge_long_string bytes ≡ took content n → IsRead (judge_table (judge_value room) bytes)
     → AreEntries room content × (judge_table (judge_value room) bytes ≡ took (settled (entries_in room content)) n)
 unfolding judge_table
-table_taken room bytes content n is h =
-    let all = ap (λ j. j >>= λ c. took_all c.1 (read_map settled (filled (judge_entry (judge_value room)) 0 c.0))) is in
-    let P : Judged (List Entry) → Type 0 = λ j. IsRead j in
-    let one = whole_settled (filled (judge_entry (judge_value room)) 0 content) n (subst P all h) in
-    (one.0, all ∙ one.1)
+table_taken room bytes content n is h = grind (arith, common_steps)
 
 -- ---- values and entries
 
@@ -85,19 +63,13 @@ value_took room bytes t v n some is h = judged_tag room bytes (Some t) some is �
 pub entry_value : (room : ℕ) (bytes key : List ℕ) (n : ℕ) → judge_short_string bytes ≡ took key n
     → IsRead (judge_entry (judge_value room) bytes) → IsRead (judge_value room (drop n bytes))
 unfolding judge_entry
-entry_value room bytes key n is h =
-    let all = ap (λ j. j >>= λ k. (judge_value room (drop k.1 bytes)) >>= λ v. took (k.0, v.0) (k.1 + v.1)) is in
-    let P : Judged Entry → Type 0 = λ j. IsRead j in
-    let one = took_of ((judge_value room (drop n bytes)) >>= λ v. took (key, v.0) (n + v.1)) (subst P all h) in
-    let value = bind_took (judge_value room (drop n bytes)) _ one.0 one.1 one.2 in
-    is_read (judge_value room (drop n bytes)) value.0 value.1 value.2
+entry_value room bytes key n is h = grind (arith, common_steps)
 
 -- Where a key is taken, and a value after it, both are taken as an entry.
 pub entry_took : (room : ℕ) (bytes key : List ℕ) (v : FieldValue) (n m : ℕ) → judge_short_string bytes ≡ took key n
     → judge_value room (drop n bytes) ≡ took v m → judge_entry (judge_value room) bytes ≡ took (key, v) (n + m)
 unfolding judge_entry
-entry_took room bytes key v n m one two =
-    ap (λ j. j >>= λ k. (judge_value room (drop k.1 bytes)) >>= λ v. took (k.0, v.0) (k.1 + v.1)) one ∙ ap (λ j. j >>= λ v. took (key, v.0) (n + v.1)) two
+entry_took room bytes key v n m one two = grind (arith, common_steps)
 
 -- ---- the first of the values in an array
 
@@ -111,18 +83,7 @@ pub record FirstItem (room : ℕ) (content : List ℕ) (n : ℕ) : Type 0 where
 -- Where the content of an array is values, and not empty, the first one is decoded again, and those after it are values.
 pub item_here : (room : ℕ) (content : List ℕ) (n : ℕ) → IsBytes content → 0 < length content → IsFilled (filled (judge_value room) 0 content)
     → (IsRead (judge_value room content) → n ≡ used_by (judge_value room content)) → FirstItem room content n
-item_here room content n fits some h sized =
-    let one = first_value room content fits some h in
-    let read = is_read (judge_value room content) one.thing one.size one.is in
-    let count : one.size ≡ n = sym (sized read ∙ ap (λ j. used_by j) one.is) in
-    let P : ℕ → Type 0 = λ k. IsFilled (filled (judge_value room) 0 (drop k content)) in
-    record {
-      value = one.thing;
-      read = read;
-      is = taken_of (judge_value room content) one.thing one.size one.is;
-      left = subst P count one.left;
-      starts = one.all ∙ ap (λ k. one.thing ∷ items_of (filled (judge_value room) 0 (drop k content))) count;
-    }
+item_here room content n fits some h sized = grind (arith, common_steps, first_value, is_read, taken_of)
 
 -- An empty content has no first value.
 pub no_item : (room : ℕ) (content : List ℕ) → length content ≡ 0 → StartsWith room content None

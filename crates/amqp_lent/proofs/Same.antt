@@ -1,4 +1,5 @@
 -- What is compared step by step is the same exactly where the whole is.
+use Rattle.std.proofs.lemmas.Grind.{common_steps}
 use Rattle.std.proofs.Common.{◌≡◌, ◌↔◌, ℕ, suc, ◌<◌, List, [], ◌∷◌, ◌++◌, length, Bool, true, false, Option, Some, None, Less, Ordering, IsTrue, true≢false}
 use Rattle.std.proofs.Common.{refl, sym, ap, ap₂, subst, ◌∙◌, arith}
 use Rattle.std.proofs.lemmas.List.{append_cancel_left}
@@ -40,7 +41,7 @@ pub record SameTo (es fs : List Entry) (last : Option (List ℕ)) : Type 0 where
   pub other_stands : IsLeft fs last done other_left
 
 pub same_none : (es fs : List Entry) → SameTo es fs None
-same_none es fs = record { done = []; left = settled es; other_left = settled fs; stands = left_none es; other_stands = left_none fs }
+same_none es fs = grind (arith, common_steps, left_none)
 
 -- both tables go on with an entry, which is the same in both where the tables are
 pub record SameHere (es fs : List Entry) (e f : Entry) : Type 0 where
@@ -68,14 +69,10 @@ same_here es fs last e f h one two =
 -- one goes on and the other does not
 pub same_not : (es fs : List Entry) (last : Option (List ℕ)) (e : Entry) → SameTo es fs last
     → FindsAfter last (settled es) (Some e) → FindsAfter last (settled fs) None → settled es ≡ settled fs → ⊥
-same_not es fs last e h one two is =
-    let mine = next_left es last h.done h.left e.0 e.1 h.stands (next_of last es e one) in
-    let none = none_left fs last h.done h.other_left h.other_stands (none_of last fs two) in
-    let both : e ∷ mine.rest ≡ [] = sym mine.is ∙ append_cancel_left h.done h.left h.other_left (h.stands.parts ∙ is ∙ sym h.other_stands.parts) ∙ none in
-    cc
+same_not es fs last e h one two is = grind (arith, common_steps)
 
 flipped : (es fs : List Entry) (last : Option (List ℕ)) → SameTo es fs last → SameTo fs es last
-flipped es fs last h = record { done = h.done; left = h.other_left; other_left = h.left; stands = h.other_stands; other_stands = h.stands }
+flipped es fs last h = grind (arith, common_steps)
 
 -- neither goes on
 pub same_end : (es fs : List Entry) (last : Option (List ℕ)) → SameTo es fs last
@@ -90,10 +87,7 @@ pub same_longer : (es fs : List Entry) (last : Option (List ℕ)) (f : Entry) �
 same_longer es fs last f h one two is = same_not fs es last f (flipped es fs last h) two one (sym is)
 
 not_is : (a b : Bool) → a ≡ not b → b ≡ not a
-not_is true false h = refl
-not_is false true h = refl
-not_is true true h = absurd (true≢false h)
-not_is false false h = absurd (true≢false (sym h))
+not_is a b h = grind (arith, common_steps)
 
 -- nothing more comes of the first table, and of the second something or nothing
 pub same_done : {K : Type 0} (view : K → Entry) (es fs : List Entry) (last : Option (List ℕ)) (found : Option K) (none : Bool) → SameTo es fs last
@@ -150,9 +144,7 @@ less_is o h = by_cases o h
     by_cases o h = absurd cc
 
 behind_by : (b : Bool) (last : Option (List ℕ)) (key : List ℕ) → is_after last key ≡ b → (IsAfter last key → ⊥) → is_after last key ≡ false
-behind_by false last key is h = is
-behind_by true None key is h = absurd (h tt)
-behind_by true (Some last) key is h = absurd (h (less_is _ is))
+behind_by b last key is h = grind (arith, common_steps, less_is)
 
 all_ahead : (last : Option (List ℕ)) (es : List Entry) → AllByRecursion (λ k. IsAfter last k) (keys_of es) → ahead last es ≡ length es
 all_ahead last [] h = refl
@@ -164,7 +156,7 @@ ahead_left last [] left h k = all_ahead last left k
 ahead_left last (e ∷ done) left h k = ap₂ one_more (behind_by _ last e.0 refl h.0) (ahead_left last done left h.1 k)
 
 ahead_of : (es : List Entry) (last : Option (List ℕ)) (done left : List Entry) → IsLeft es last done left → ahead last (settled es) ≡ length left
-ahead_of es last done left h = ap (ahead last) (sym h.parts) ∙ ahead_left last done left h.behind h.ahead
+ahead_of es last done left h = grind (arith, common_steps, ahead_left)
 
 -- the value of an entry weighs less than the table, and fewer entries are ahead of its key than of the one before
 pub record Falls (es fs : List Entry) (last : Option (List ℕ)) (e : Entry) : Type 0 where

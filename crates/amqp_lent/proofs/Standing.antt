@@ -1,38 +1,31 @@
 -- The canonical bytes of the frames that borrowed frames stand for.
+use Rattle.std.proofs.lemmas.Grind.{common_steps}
+use Rattle.std.proofs.Common.{arith}
 use Rattle.std.proofs.Common.{◌≡◌, ◌≤◌, ℕ, List, [], ◌∷◌, length, Result, Ok, Err, refl, sym, ap, subst, ◌∙◌}
 use Rattle.std.specs.Prelude.{IsOk}
 use Rattle.amqp_types.specs.Judging.{Fault}
-use Rattle.amqp_types.specs.ValueJudging.{read_map}
 use Rattle.amqp_types.specs.Methods.{judge_payload, payload_bytes}
 use Rattle.amqp_types.specs.ContentHeaders.{judge_content_header, content_header_bytes}
 use Rattle.amqp_canonical.specs.Writes.{IsRead, canonical_of}
 use Rattle.amqp_canonical.proofs.PayloadParts.{header_put, payload_long}
-use Rattle.amqp_canonical.proofs.ReadParts.{is_read}
 use Rattle.amqp_wire.specs.declared.frame_type.AMQPFrameType.TheVariants as kinds
-use Rattle.amqp_wire.specs.Frames.{Frame, Proto, Meth, Head, Body, beat_on}
+use Rattle.amqp_wire.specs.Frames.{Frame, Proto, Body, beat_on}
 use Rattle.amqp_wire.specs.Canonical.{canon}
 use Rattle.amqp_wire.specs.Spelling.{framed, proto}
-use Rattle.amqp_wire.specs.Verdicts.{all_of, filling, decode_payload}
-use Rattle.amqp_wire.proofs.Payloads.{filled_took}
-use Rattle.amqp_wire.proofs.Rewritten.{canon_beat, mapped}
+use Rattle.amqp_wire.specs.Verdicts.{decode_payload}
+use Rattle.amqp_wire.proofs.Rewritten.{canon_beat}
 
 -- The canonical bytes of the method in a payload, framed, are those of the frame that the payload is decoded to.
 pub method_canon : (channel : ℕ) (payload : List ℕ) (frame : Frame) → decode_payload kinds.Method channel payload ≡ Ok frame
     → IsRead (judge_payload payload) × (framed 1 channel (canonical_of payload_bytes (judge_payload payload)) ≡ canon frame)
 unfolding decode_payload canon
-method_canon channel payload frame h =
-    let one = mapped (λ m. Meth channel m) (all_of judge_payload payload) frame h in
-    let is = filled_took (length payload) (judge_payload payload) one.0 one.1 in
-    (is_read (judge_payload payload) one.0 (length payload) is, ap (λ j. framed 1 channel (canonical_of payload_bytes j)) is ∙ ap canon one.2)
+method_canon channel payload frame h = grind (arith, common_steps)
 
 -- The canonical bytes of the content header in a payload, framed, are those of the frame that the payload is decoded to.
 pub header_canon : (channel : ℕ) (payload : List ℕ) (frame : Frame) → decode_payload kinds.Header channel payload ≡ Ok frame
     → IsRead (judge_content_header payload) × (framed 2 channel (canonical_of content_header_bytes (judge_content_header payload)) ≡ canon frame)
 unfolding decode_payload canon
-header_canon channel payload frame h =
-    let one = mapped (λ header. Head channel header) (all_of judge_content_header payload) frame h in
-    let is = filled_took (length payload) (judge_content_header payload) one.0 one.1 in
-    (is_read (judge_content_header payload) one.0 (length payload) is, ap (λ j. framed 2 channel (canonical_of content_header_bytes j)) is ∙ ap canon one.2)
+header_canon channel payload frame h = grind (arith, common_steps)
 
 -- The bytes of a body, framed, are the canonical bytes of the frame that it is decoded to.
 pub body_canon : (channel : ℕ) (content : List ℕ) (frame : Frame) → decode_payload kinds.Body channel content ≡ Ok frame
@@ -64,20 +57,12 @@ is_ok r x h = subst IsOk (sym h) refl
 -- a protocol header has its version alone
 pub version_long : (channel : ℕ) (payload : List ℕ) (frame : Frame) → decode_payload kinds.ProtocolHeader channel payload ≡ Ok frame → length payload ≡ 3
 unfolding decode_payload
-version_long channel [] frame h = absurd cc
-version_long channel (a ∷ []) frame h = absurd cc
-version_long channel (a ∷ b ∷ []) frame h = absurd cc
-version_long channel (a ∷ b ∷ c ∷ []) frame h = refl
-version_long channel (a ∷ b ∷ c ∷ d ∷ more) frame h = absurd cc
+version_long channel payload frame h = grind (arith, common_steps)
 
 -- on whatever channel
 pub version_any : (one other : ℕ) (payload : List ℕ) → decode_payload kinds.ProtocolHeader one payload ≡ decode_payload kinds.ProtocolHeader other payload
 unfolding decode_payload
-version_any one other [] = refl
-version_any one other (a ∷ []) = refl
-version_any one other (a ∷ b ∷ []) = refl
-version_any one other (a ∷ b ∷ c ∷ []) = refl
-version_any one other (a ∷ b ∷ c ∷ d ∷ more) = refl
+version_any one other payload = grind (arith, common_steps)
 
 -- the payload of a heartbeat means nothing
 pub beat_any : (channel : ℕ) (one other : List ℕ) → decode_payload kinds.Heartbeat channel one ≡ decode_payload kinds.Heartbeat channel other
@@ -96,6 +81,4 @@ header_long channel payload frame h = let put = header_put payload (header_canon
 pub header_whole : (channel : ℕ) (one other : List ℕ) → judge_content_header one ≡ judge_content_header other
     → length one ≡ length other → decode_payload kinds.Header channel one ≡ decode_payload kinds.Header channel other
 unfolding decode_payload
-header_whole channel one other same long =
-    ap (λ j. read_map (λ header. Head channel header) (filling (length one) j)) same
-    ∙ ap (λ n. read_map (λ header. Head channel header) (filling n (judge_content_header other))) long
+header_whole channel one other same long = grind (arith, common_steps)

@@ -1,5 +1,5 @@
 -- A borrowed frame, its canonical bytes and its canonical payload.
-use Rattle.std.proofs.Common.{◌≡◌, ◌≢◌, ℕ, ◌-◌, true, List, [], ◌∷◌, ◌++◌, length, take, drop, Result, Ok, Err, refl, sym, ap, subst, ◌∙◌, arith, inl, inr}
+use Rattle.std.proofs.Common.{subst, ◌≡◌, ◌≢◌, ℕ, ◌-◌, true, List, [], ◌∷◌, ◌++◌, length, take, drop, Result, Ok, Err, refl, sym, ap, ◌∙◌, arith, inl, inr}
 use Rattle.std.specs.Prelude.{OnOk, IfErr}
 use Rattle.std.proofs.lemmas.Bool.{cases_eq, eq-eqb, ne_eqb}
 use Rattle.std.proofs.lemmas.List.{length-append, take_at}
@@ -7,8 +7,8 @@ use Rattle.std.proofs.lemmas.Slice.Eq.{bytes_eq-Decides}
 use Rattle.amqp_types.specs.Levels.{plain}
 use Rattle.amqp_types.specs.Judging.{IsBytes}
 use Rattle.amqp_types.specs.Answers.{RefusesWhole}
-use Rattle.amqp_types.specs.Methods.{judge_payload, payload_bytes}
-use Rattle.amqp_types.specs.ContentHeaders.{judge_content_header, content_header_bytes}
+use Rattle.amqp_types.specs.Methods.{judge_payload}
+use Rattle.amqp_types.specs.ContentHeaders.{judge_content_header}
 use Rattle.amqp_types.specs.declared.errors.ParserError.{ParserError}
 use Rattle.amqp_types.specs.declared.errors.ParserError.TheVariants as parses
 use Rattle.amqp_laws.proofs.MethodLaws.{payloads_lawful}
@@ -18,12 +18,11 @@ use Rattle.amqp_wire.specs.declared.frame_type.AMQPFrameType.TheVariants as kind
 use Rattle.amqp_wire.specs.declared.judging.FrameJudgement.{FrameJudgement}
 use Rattle.amqp_wire.specs.declared.outline.FrameOutline.{FrameOutline}
 use Rattle.amqp_wire.specs.declared.outline.FrameOutline.TheVariants as outlines
-use Rattle.amqp_wire.specs.Frames.{Frame, Proto, Meth, Head, Body, Beat, BadBeat, Raw, beat_on}
+use Rattle.amqp_wire.specs.Frames.{Frame, Proto, Meth, Head, Body, Raw, beat_on}
 use Rattle.amqp_wire.specs.Outlines.{outline_of}
-use Rattle.amqp_wire.specs.Spelling.{framed}
 use Rattle.amqp_wire.specs.Canonical.{canon, payload_of}
-use Rattle.amqp_wire.specs.Judgements.{IsJudged, IsPayloadFault}
-use Rattle.amqp_wire.specs.Verdicts.{IsPayloadError, all_of, is_written_for, decode_raw, decode_payload}
+use Rattle.amqp_wire.specs.Judgements.{IsJudged}
+use Rattle.amqp_wire.specs.Verdicts.{IsPayloadError, all_of, decode_raw, decode_payload}
 use Rattle.amqp_wire.proofs.Encoded.{read_as}
 use Rattle.amqp_wire.proofs.Typed.{method_spells, header_spells}
 use Rattle.amqp_stream.specs.declared.errors.StreamError.{StreamError}
@@ -38,42 +37,21 @@ use Rattle.amqp_lines.specs.LineTexts.{HasNoLine, PutsBoth, PutsCanonical, PutsL
 -- ---- the payload of canonical bytes
 
 without_end : (payload : List ℕ) → take (length (payload ++ 206 ∷ []) - 1) (payload ++ 206 ∷ []) ≡ payload
-without_end payload = take_at payload (206 ∷ []) (length (payload ++ 206 ∷ []) - 1) (omega (arith, length-append payload (206 ∷ [])))
-
--- what stands in a frame in front of its last byte
-framed_inside : (type channel : ℕ) (payload : List ℕ)
-    → take (length (drop 7 (framed type channel payload)) - 1) (drop 7 (framed type channel payload)) ≡ payload
-framed_inside type channel payload = without_end payload
-
-not_proto : (outline : FrameOutline) (a b c : ℕ) → (outline ≡ outlines.ProtocolHeader → ⊥) → outline ≡ outline_of (Proto a b c) → ⊥
-not_proto outline a b c other h = other h
+without_end payload = take_at payload _ _ (omega (arith, length-append payload (206 ∷ [])))
 
 -- What stands between the seven bytes in front and the end byte of a framed frame's canonical bytes is its canonical payload.
 pub payload_framed : (outline : FrameOutline) (bytes rest inside : List ℕ) → (outline ≡ outlines.ProtocolHeader → ⊥) → rest ≡ drop 7 bytes
     → inside ≡ take (length rest - 1) rest → (frame : Frame) → outline ≡ outline_of frame → bytes ≡ canon frame → inside ≡ payload_of frame
 unfolding canon
 payload_framed outline bytes rest inside other is last (Proto a b c) h e = absurd (other h)
-payload_framed outline bytes rest inside other is last (Meth channel m) h e =
-    last ∙ ap (λ (bs : List ℕ). take (length bs - 1) bs) (is ∙ ap (drop 7) e) ∙ framed_inside 1 channel (payload_bytes m)
-payload_framed outline bytes rest inside other is last (Head channel header) h e =
-    last ∙ ap (λ (bs : List ℕ). take (length bs - 1) bs) (is ∙ ap (drop 7) e) ∙ framed_inside 2 channel (content_header_bytes header)
-payload_framed outline bytes rest inside other is last (Body channel content) h e =
-    last ∙ ap (λ (bs : List ℕ). take (length bs - 1) bs) (is ∙ ap (drop 7) e) ∙ framed_inside 3 channel content
-payload_framed outline bytes rest inside other is last Beat h e =
-    last ∙ ap (λ (bs : List ℕ). take (length bs - 1) bs) (is ∙ ap (drop 7) e) ∙ framed_inside 8 0 []
-payload_framed outline bytes rest inside other is last (BadBeat channel) h e =
-    last ∙ ap (λ (bs : List ℕ). take (length bs - 1) bs) (is ∙ ap (drop 7) e) ∙ framed_inside 8 channel []
+payload_framed outline bytes rest inside other is last frame h e = rw (last, is, e) (without_end _)
 
 -- The last three of the eight bytes of a protocol header are its canonical payload.
 pub payload_version : (outline : FrameOutline) (bytes inside : List ℕ) → outline ≡ outlines.ProtocolHeader
     → inside ≡ drop 5 bytes → (frame : Frame) → outline ≡ outline_of frame → bytes ≡ canon frame → inside ≡ payload_of frame
 unfolding canon
 payload_version outline bytes inside is last (Proto a b c) h e = last ∙ ap (drop 5) e
-payload_version outline bytes inside is last (Meth channel m) h e = absurd (let x = sym is ∙ h in cc)
-payload_version outline bytes inside is last (Head channel header) h e = absurd (let x = sym is ∙ h in cc)
-payload_version outline bytes inside is last (Body channel content) h e = absurd (let x = sym is ∙ h in cc)
-payload_version outline bytes inside is last Beat h e = absurd (let x = sym is ∙ h in cc)
-payload_version outline bytes inside is last (BadBeat channel) h e = absurd (let x = sym is ∙ h in cc)
+payload_version outline bytes inside is last frame h e = absurd (let x = sym is ∙ h in cc)
 
 -- ---- the canonical payload encodes its frame strictly
 
@@ -86,38 +64,22 @@ beat_payload channel = elim (cases_eq channel 0) [
 payload_as : (kind : AMQPFrameType) (channel : ℕ) (payload : List ℕ) (frame : Frame)
     → IsBytes payload → decode_payload kind channel payload ≡ Ok frame → IsPayload (payload_of frame) frame
 unfolding decode_payload
-payload_as kinds.ProtocolHeader channel [] frame fits h = absurd cc
-payload_as kinds.ProtocolHeader channel (a ∷ []) frame fits h = absurd cc
-payload_as kinds.ProtocolHeader channel (a ∷ b ∷ []) frame fits h = absurd cc
-payload_as kinds.ProtocolHeader channel (a ∷ b ∷ c ∷ []) frame fits h = let is : Proto a b c ≡ frame = cc in subst (λ f. IsPayload (payload_of f) f) is refl
-payload_as kinds.ProtocolHeader channel (a ∷ b ∷ c ∷ d ∷ more) frame fits h = absurd cc
+payload_as kinds.ProtocolHeader channel (a ∷ b ∷ c ∷ []) frame fits h = let is : frame ≡ Proto a b c = cc in rw is refl
+payload_as kinds.ProtocolHeader channel payload frame fits h = absurd cc
 payload_as kinds.Method channel payload frame fits h =
     let read = read_as (λ x. Meth channel x) (all_of judge_payload payload) frame h in
-    subst (λ f. IsPayload (payload_of f) f) read.2 (payloads_lawful.canonical_is_strict payload read.0 (method_spells plain payload read.0 fits read.1 refl))
+    rw (← read.2) (payloads_lawful.canonical_is_strict payload read.0 (method_spells plain payload read.0 fits read.1 refl))
 payload_as kinds.Header channel payload frame fits h =
     let read = read_as (λ x. Head channel x) (all_of judge_content_header payload) frame h in
-    subst (λ f. IsPayload (payload_of f) f) read.2
-    (content_headers_lawful.canonical_is_strict payload read.0 (header_spells plain payload read.0 fits read.1 refl))
-payload_as kinds.Body channel payload frame fits h = let is : Body channel payload ≡ frame = cc in subst (λ f. IsPayload (payload_of f) f) is refl
-payload_as kinds.Heartbeat channel payload frame fits h =
-    let is : beat_on channel ≡ frame = cc in
-    subst (λ f. IsPayload (payload_of f) f) is (beat_payload channel)
+    rw (← read.2) (content_headers_lawful.canonical_is_strict payload read.0 (header_spells plain payload read.0 fits read.1 refl))
+payload_as kinds.Body channel payload frame fits h = let is : frame ≡ Body channel payload = cc in rw is refl
+payload_as kinds.Heartbeat channel payload frame fits h = let is : frame ≡ beat_on channel = cc in rw is (beat_payload channel)
 
 -- a frame that was read, by its outline and its canonical payload
 pub canonical_in : (raw : Raw) (outline : FrameOutline) (payload : List ℕ) (frame : Frame) → IsBytes raw.payload
     → decode_raw raw ≡ Ok frame → outline ≡ outline_of frame → payload ≡ payload_of frame → IsIn outline payload frame
-canonical_in raw outline payload frame fits is h e = record {
-  outline_is = h;
-  is_payload = subst (λ bytes. IsPayload bytes frame) (sym e) (payload_as raw.kind raw.channel raw.payload frame fits is);
-}
-
--- a payload that stands in its canonical bytes
-pub stands_in : (raw : Raw) (found : FrameJudgement) (outline : FrameOutline) → IsBytes raw.payload
-    → (h : IsJudged raw found) → found.canonical ≡ true → outline ≡ outline_of h.frame → IsIn outline raw.payload h.frame
-stands_in raw found outline fits h canonical is =
-    let same : raw.payload ≡ payload_of h.frame =
-    (bytes_eq-Decides raw.payload (payload_of h.frame)).0 (sym (ap (λ r. is_written_for r raw.payload) h.is) ∙ sym h.canonical ∙ canonical) in
-    canonical_in raw outline raw.payload h.frame fits h.is is same
+canonical_in raw outline payload frame fits is h e =
+    record { outline_is = h; is_payload = rw e (payload_as raw.kind raw.channel raw.payload frame fits is) }
 
 -- ---- refusals
 
@@ -127,18 +89,6 @@ pub unrendered : (raw : Raw) (error : ParserError) → IsPayloadError error → 
 unrendered raw error inside some h =
     let none = is_none raw error inside some h in
     subst (λ cause. HasNoLine raw cause) none.tells (is_faulty plain raw none.bad none.is_whole none.other)
-
-pub unrendered_judged : (raw : Raw) (error : ParserError) → IsPayloadFault error
-    → RefusesWhole error (decode_raw raw) → HasNoLine raw (cause_of (payload_fault error))
-unrendered_judged raw error fault h = unrendered raw error fault.0 (λ e. fault.1 (let same : error ≡ parses.NoMemory = cc in same)) h
-
-pub unless_memory : (raw : Raw) (error : StreamError) → error ≡ errors.NoMemory → HasNoLine raw (cause_of error)
-unless_memory raw error is = subst (λ (e : StreamError). HasNoLine raw (cause_of e)) (sym is) tt
-
--- the line alone
-pub line_alone : (raw : Raw) (canonical text : List ℕ) (r : Result (Unit {0}) StreamError) → PutsBoth raw canonical text r → PutsLine raw text r
-line_alone raw canonical text (Ok done) h = (h.0, h.1, h.3)
-line_alone raw canonical text (Err error) h = h
 
 -- ---- what is put
 
@@ -150,12 +100,14 @@ pub both_put : (raw : Raw) (outline : FrameOutline) (payload canonical text : Li
 both_put raw outline payload canonical text done (Ok u) fits read outlined inside lined memory =
     let is = outlined read.0 read.1 in
     (read.0, read.1, read.2, lined read.0 (canonical_in raw outline payload read.0 fits read.1 is (inside read.0 is read.2)))
-both_put raw outline payload canonical text done (Err error) fits read outlined inside lined memory = unless_memory raw error memory
+both_put raw outline payload canonical text done (Err error) fits read outlined inside lined memory = rw memory tt
 
 -- Where a borrowed frame is canonical, the line of its outline and its payload is the line of the frame.
 pub line_put : (raw : Raw) (found : FrameJudgement) (outline : FrameOutline) (text : List ℕ) (r : Result (Unit {0}) StreamError)
     → IsBytes raw.payload → IsJudged raw found → found.canonical ≡ true → ((frame : Frame) → decode_raw raw ≡ Ok frame → outline ≡ outline_of frame)
     → OnOk r ((frame : Frame) → IsIn outline raw.payload frame → text ≡ line frame) → IfErr r (λ error. error ≡ errors.NoMemory) → PutsLine raw text r
-line_put raw found outline text (Ok u) fits judged canonical outlined lined memory =
-    (judged.frame, judged.is, lined judged.frame (stands_in raw found outline fits judged canonical (outlined judged.frame judged.is)))
-line_put raw found outline text (Err error) fits judged canonical outlined lined memory = unless_memory raw error memory
+line_put raw found outline text (Ok u) fits h canonical outlined lined memory =
+    let same : raw.payload ≡ payload_of h.frame =
+    (bytes_eq-Decides raw.payload _).0 (cc (h.is, h.canonical, canonical)) in
+    (h.frame, h.is, lined h.frame (canonical_in raw outline raw.payload h.frame fits h.is (outlined h.frame h.is) same))
+line_put raw found outline text (Err error) fits judged canonical outlined lined memory = rw memory tt

@@ -10,7 +10,7 @@ use Rattle.amqp_types.specs.Strings.{short_string_bytes, with_length, SpellsShor
 use Rattle.amqp_types.specs.Values.{FieldValue, FieldValues, FieldEntries, Entry, boolean_value, signed_value, unsigned_value, decimal_value, bytes_value}
 use Rattle.amqp_types.specs.Values.{array_value, table_value, void_value, items, pairs, values_of, entries_of}
 use Rattle.amqp_types.specs.ValueBytes.{signed_width, unsigned_width, value_bytes, tagged_bytes, values_bytes, entries_bytes, table_bytes}
-use Rattle.amqp_types.specs.ValueSpelling.{SpellsEach, SpellsEntry, SpellsArray, SpellsTable, SpellsBehind, SpellsTagged, SpellsValue, SpellsFieldTable}
+use Rattle.amqp_types.specs.ValueSpelling.{SpellsEach, SpellsEntry, SpellsTable, SpellsBehind, SpellsTagged, SpellsValue, SpellsFieldTable}
 use Rattle.amqp_types.specs.Tags.{tag_byte, tag_of}
 use Rattle.amqp_types.specs.declared.tag.FieldTag.{FieldTag}
 use Rattle.amqp_types.specs.declared.tag.FieldTag.TheVariants as tag
@@ -26,7 +26,7 @@ use Rattle.amqp_types.specs.PropertyJudging.{first_item}
 use Rattle.amqp_types.specs.PropertyLaws.{gives_one, give_one}
 use Rattle.amqp_types.specs.PropertyBytes.{mask_of, optional_bytes, set_bytes, properties_bytes}
 use Rattle.amqp_types.specs.PropertySpelling.{SpellsOptional, SpellsSet, SpellsProperties}
-use Rattle.amqp_types.specs.ContentHeaders.{ContentHeader, header_slots, header_items, content_header_bytes, SpellsContentHeader}
+use Rattle.amqp_types.specs.ContentHeaders.{header_slots, content_header_bytes, SpellsContentHeader}
 use Rattle.amqp_types.proofs.FormLaws.{flags_lawful}
 use Rattle.amqp_laws.proofs.Conversions.{values_of-items, entries_of-pairs}
 use Rattle.amqp_laws.proofs.Entries.{EachEntry, each-settled_on, each-nil}
@@ -36,12 +36,13 @@ use Rattle.amqp_laws.proofs.SlotLaws.{both_true, constant_strict, kept_bytes}
 use Rattle.amqp_laws.proofs.MethodLaws.{in_table, payload_of_slots}
 use Rattle.amqp_laws.proofs.PropertyLaws.{one_each}
 use Rattle.amqp_wire.specs.Frames.{Frame, Proto, Meth, Head, Body, Beat, BadBeat}
-use Rattle.amqp_wire.specs.Spelling.{Spells, SpellsFrames, framed, IsFramed}
+use Rattle.amqp_wire.specs.Spelling.{Spells, SpellsFrames, framed, IsFramed, head}
 use Rattle.amqp_wire.specs.Canonical.{canon, canon_frames}
 use Rattle.amqp_stream.proofs.Adding.{IsBytes-append, IsBytes-nil}
 use Rattle.amqp_lines.proofs.ReadWords.{bytes_behind}
 use Rattle.amqp_laws.proofs.Options.{first_bytes}
 use Rattle.amqp_laws.proofs.HeaderLaws.{options_are}
+use Rattle.amqp_lines.proofs.Newlines.{each_both, each_front, each_back}
 
 -- ---- lists of bytes, byte by byte
 
@@ -49,19 +50,17 @@ abbrev All : List ℕ → Type 0
 All = AllByRecursion (λ byte. byte < 256)
 
 all_both : (xs ys : List ℕ) → All xs → All ys → All (xs ++ ys)
-all_both [] ys h k = k
-all_both (x ∷ xs) ys h k = (h.0, all_both xs ys h.1 k)
+all_both xs ys h k = each_both (λ byte. byte < 256) xs ys h k
 
 all_front : (xs ys : List ℕ) → All (xs ++ ys) → All xs
-all_front [] ys h = tt
-all_front (x ∷ xs) ys h = (h.0, all_front xs ys h.1)
+all_front xs ys h = each_front (λ byte. byte < 256) xs ys h
 
 all_back : (xs ys : List ℕ) → All (xs ++ ys) → All ys
-all_back [] ys h = h
-all_back (x ∷ xs) ys h = all_back xs ys h.1
+all_back xs ys h = each_back (λ byte. byte < 256) xs ys h
 
-along : (xs ys : List ℕ) → xs ≡ ys → All xs → All ys
-along xs ys e h = subst All e h
+-- the bytes of the two parts of some bytes
+halves : (bytes front behind : List ℕ) → bytes ≡ front ++ behind → All bytes → All front × All behind
+halves bytes front behind is h = let parts = subst All is h in (all_front front behind parts, all_back front behind parts)
 
 -- What stands at any place of a list of one byte, and 0 beside it, is below 256.
 pub one_byte : (x i : ℕ) → x < 256 → get_or (x ∷ []) i 0 < 256
@@ -74,19 +73,19 @@ are_bytes (x ∷ xs) h = IsBytes-append (x ∷ []) xs (λ i. one_byte x i h.0) (
 
 all_bytes : (xs : List ℕ) → IsBytes xs → All xs
 all_bytes [] h = tt
-all_bytes (x ∷ xs) h = (h 0, all_bytes xs (bytes_behind (x ∷ []) xs (x ∷ xs) refl h))
+all_bytes (x ∷ xs) h = (h 0, all_bytes xs (bytes_behind (x ∷ []) xs _ refl h))
 
 number_all : (width : NumberWidth) (n : ℕ) → All (number_bytes width n)
-number_all bytes1 n = (omega arith, tt)
-number_all bytes2 n = (omega arith, (omega arith, tt))
-number_all bytes4 n = (omega arith, (omega arith, (omega arith, (omega arith, tt))))
-number_all bytes8 n = (omega arith, (omega arith, (omega arith, (omega arith, (omega arith, (omega arith, (omega arith, (omega arith, tt))))))))
+number_all bytes1 n = omega arith
+number_all bytes2 n = omega arith
+number_all bytes4 n = omega arith
+number_all bytes8 n = omega arith
 
 long_all : (content : List ℕ) → All content → All (with_length content)
-long_all content h = all_both (number_bytes bytes4 (length content)) content (number_all bytes4 (length content)) h
+long_all content h = all_both (number_bytes bytes4 (length content)) content (number_all bytes4 _) h
 
 long_inner : (bytes content : List ℕ) → All bytes → SpellsLongString bytes content → All content
-long_inner bytes content fits h = all_back (number_bytes bytes4 (length content)) content (along bytes (with_length content) h.bytes_are fits)
+long_inner bytes content fits h = (halves bytes (number_bytes bytes4 (length content)) content h.bytes_are fits).1
 
 -- the canonical bytes of what is encoded by bytes are bytes
 abbrev Keeps : {A : Type 0} → (List ℕ → A → Type 0) → (A → List ℕ) → Type 0
@@ -99,30 +98,15 @@ mapped_keeps make Spelled canonical other same h bytes y fits s = subst All (sym
 both_keep : {A B C : Type 0} (First : List ℕ → A → Type 0) (Second : List ℕ → B → Type 0) (join : A → B → C) (a : A → List ℕ) (b : B → List ℕ) (c : C → List ℕ)
     → ((bytes : List ℕ) (x : A) (y : B) → First bytes x → c (join x y) ≡ a x ++ b y) → Keeps First a → Keeps Second b → Keeps (SpellsBoth First Second join) c
 both_keep First Second join a b c same h k bytes z fits s =
-    let parts = along bytes (s.front ++ s.behind) s.bytes_are fits in
-    subst All (sym (ap c s.joined ∙ same s.front s.one s.two s.first_is)) (all_both (a s.one) (b s.two)
-    (h s.front s.one (all_front s.front s.behind parts) s.first_is) (k s.behind s.two (all_back s.front s.behind parts) s.second_is))
+    let parts = halves bytes s.front s.behind s.bytes_are fits in
+    subst All (sym (ap c s.joined ∙ same s.front s.one s.two s.first_is))
+    (all_both (a s.one) (b s.two) (h s.front s.one parts.0 s.first_is) (k s.behind s.two parts.1 s.second_is))
 
 -- ---- values
 
 tag_below : (t : FieldTag) → tag_byte t < 256
 tag_below tag.Boolean = omega arith
-tag_below tag.ShortShortInt = omega arith
-tag_below tag.ShortShortUInt = omega arith
-tag_below tag.ShortInt = omega arith
-tag_below tag.ShortUInt = omega arith
-tag_below tag.LongInt = omega arith
-tag_below tag.LongUInt = omega arith
-tag_below tag.LongLongInt = omega arith
-tag_below tag.Float = omega arith
-tag_below tag.Double = omega arith
-tag_below tag.DecimalValue = omega arith
-tag_below tag.LongString = omega arith
-tag_below tag.FieldArray = omega arith
-tag_below tag.Timestamp = omega arith
-tag_below tag.FieldTable = omega arith
-tag_below tag.ByteArray = omega arith
-tag_below tag.Void = omega arith
+tag_below t = omega arith
 
 -- keys and values of which the canonical bytes are bytes
 IsKey : List ℕ → Type 0
@@ -138,80 +122,65 @@ each_bytes (e ∷ es) h =
     all_both (short_string_bytes e.0 ++ tagged_bytes e.1) (entries_bytes (entries_of es))
     (all_both (short_string_bytes e.0) (tagged_bytes e.1) h.0 h.1) (each_bytes es h.2)
 
-module _ (Spelled : List ℕ → FieldValue → Type 0) (good : Keeps Spelled tagged_bytes) where
+module _ (room : ℕ) (Spelled : List ℕ → FieldValue → Type 0) (good : Keeps Spelled tagged_bytes) where
   values_keep : (bytes : List ℕ) (vs : List FieldValue) → All bytes → SpellsEach Spelled bytes vs → All (values_bytes (values_of vs))
   values_keep bytes [] fits h = tt
   values_keep bytes (v ∷ vs) fits h =
-      let parts = along bytes (h.0 ++ h.1) h.2 fits in
-      all_both (tagged_bytes v) (values_bytes (values_of vs)) (good h.0 v (all_front h.0 h.1 parts) h.3) (values_keep h.1 vs (all_back h.0 h.1 parts) h.4)
+      let parts = halves bytes h.0 h.1 h.2 fits in
+      all_both (tagged_bytes v) _ (good h.0 v parts.0 h.3) (values_keep h.1 vs parts.1 h.4)
 
   entries_keep : (bytes : List ℕ) (es : List Entry) → All bytes → SpellsEach (SpellsEntry Spelled) bytes es → EachEntry IsKey IsGood es
   unfolding EachEntry IsKey IsGood
   entries_keep bytes [] fits h = tt
   entries_keep bytes (e ∷ es) fits h =
-      let parts = along bytes (h.0 ++ h.1) h.2 fits in
+      let parts = halves bytes h.0 h.1 h.2 fits in
       let entry = h.3 in
-      let inner = along h.0 (entry.front ++ entry.behind) entry.bytes_are (all_front h.0 h.1 parts) in
-      let key = along entry.front (short_string_bytes entry.one) entry.first_is.bytes_are (all_front entry.front entry.behind inner) in
-      let value = good entry.behind entry.two (all_back entry.front entry.behind inner) entry.second_is in (
-        subst (λ (x : Entry). All (short_string_bytes x.0)) (sym entry.joined) key,
-        subst (λ (x : Entry). All (tagged_bytes x.1)) (sym entry.joined) value,
-        entries_keep h.1 es (all_back h.0 h.1 parts) h.4,
+      let inner = halves h.0 entry.front entry.behind entry.bytes_are parts.0 in (
+        rw entry.joined (subst All entry.first_is.bytes_are inner.0),
+        rw entry.joined (good entry.behind entry.two inner.1 entry.second_is),
+        entries_keep h.1 es parts.1 h.4,
       )
-
-  array_keeps : (bytes : List ℕ) (vs : List FieldValue) → All bytes → SpellsArray Spelled bytes vs → All (value_bytes (array_value (values_of vs)))
-  array_keeps bytes vs fits h = long_all (values_bytes (values_of vs)) (values_keep h.inner vs (long_inner bytes h.inner fits h.framed) h.each)
 
   table_keeps : (bytes : List ℕ) (es : List Entry) → All bytes → SpellsTable plain Spelled bytes es → All (value_bytes (table_value (entries_of es)))
   table_keeps bytes es fits h =
       let read = entries_keep h.inner h.entries (long_inner bytes h.inner fits h.framed) h.each in
-      let P : List Entry → Type 0 = λ fs. EachEntry IsKey IsGood fs in
-      let kept = subst P (settled_is h.entries es h.counts) (each-settled_on IsKey IsGood [] h.entries (each-nil IsKey IsGood) read) in
+      let kept = rw (settled_is h.entries es h.counts) at (each-settled_on IsKey IsGood [] h.entries (each-nil IsKey IsGood) read) in
       long_all (entries_bytes (entries_of es)) (each_bytes es kept)
 
-module _ (room : ℕ) (Spelled : List ℕ → FieldValue → Type 0)
-    (arrays : (bytes : List ℕ) (vs : List FieldValue) → 0 < room → All bytes → SpellsArray Spelled bytes vs → All (value_bytes (array_value (values_of vs))))
-    (tables : (bytes : List ℕ) (es : List Entry) → 0 < room → All bytes
-    → SpellsTable plain Spelled bytes es → All (value_bytes (table_value (entries_of es)))) where
   behind_keeps : Keeps (SpellsBehind plain room Spelled) value_bytes
-  behind_keeps bytes (boolean_value true) fits h = (omega arith, tt)
-  behind_keeps bytes (boolean_value false) fits h = (omega arith, tt)
+  behind_keeps bytes (boolean_value true) fits h = omega arith
+  behind_keeps bytes (boolean_value false) fits h = omega arith
   behind_keeps bytes (signed_value kind n) fits h = number_all (signed_width kind) _
   behind_keeps bytes (unsigned_value kind n) fits h = number_all (unsigned_width kind) n
   behind_keeps bytes (decimal_value scale n) fits h =
       all_both (number_bytes bytes1 scale) (number_bytes bytes4 n) (number_all bytes1 scale) (number_all bytes4 n)
-  behind_keeps bytes (bytes_value kind content) fits h = along bytes (with_length content) h.bytes_are fits
+  behind_keeps bytes (bytes_value kind content) fits h = subst All h.bytes_are fits
   behind_keeps bytes (array_value vs) fits h =
       let P : FieldValues → Type 0 = λ ws. All (value_bytes (array_value ws)) in
-      subst P (values_of-items vs) (arrays bytes (items vs) h.0 fits h.1)
+      subst P (values_of-items vs) (long_all (values_bytes (values_of (items vs)))
+      (values_keep h.1.inner (items vs) (long_inner bytes h.1.inner fits h.1.framed) h.1.each))
   behind_keeps bytes (table_value es) fits h =
       let P : FieldEntries → Type 0 = λ fs. All (value_bytes (table_value fs)) in
-      subst P (entries_of-pairs es) (tables bytes (pairs es) h.0 fits h.1)
+      subst P (entries_of-pairs es) (table_keeps bytes (pairs es) fits h.1)
   behind_keeps bytes void_value fits h = tt
 
 tagged_keeps : (Spelled : List ℕ → FieldValue → Type 0) → Keeps Spelled value_bytes → Keeps (SpellsTagged plain Spelled) tagged_bytes
-tagged_keeps Spelled keeps bytes v fits h = (tag_below (tag_of v), keeps h.behind v (along bytes (h.byte ∷ h.behind) h.bytes_are fits).1 h.value_is)
+tagged_keeps Spelled keeps bytes v fits h = (tag_below (tag_of v), keeps h.behind v (subst All h.bytes_are fits).1 h.value_is)
 
 value_keeps : (room : ℕ) → Keeps (SpellsValue plain room) tagged_bytes
 unfolding SpellsValue
-value_keeps zero =
-    tagged_keeps (SpellsBehind plain 0 (λ _ _. ⊥))
-    (behind_keeps 0 (λ _ _. ⊥) (λ bytes vs up fits h. absurd (omega (arith, up))) (λ bytes es up fits h. absurd (omega (arith, up))))
+value_keeps zero = tagged_keeps (SpellsBehind plain 0 (λ _ _. ⊥)) (behind_keeps 0 (λ _ _. ⊥) (λ bytes v fits h. absurd h))
 value_keeps (suc room) =
-    tagged_keeps (SpellsBehind plain (suc room) (SpellsValue plain room))
-    (behind_keeps (suc room) (SpellsValue plain room) (λ bytes vs up fits h. array_keeps (SpellsValue plain room) (value_keeps room) bytes vs fits h)
-    (λ bytes es up fits h. table_keeps (SpellsValue plain room) (value_keeps room) bytes es fits h))
+    tagged_keeps _ (behind_keeps (suc room) _ (value_keeps room))
 
 tables_keep : Keeps (SpellsFieldTable plain) table_bytes
 unfolding table_bytes
-tables_keep bytes es fits h = table_keeps (SpellsValue plain 63) (value_keeps 63) bytes es fits h
+tables_keep bytes es fits h = table_keeps 0 _ (value_keeps 63) bytes es fits h
 
 -- ---- fields
 
 flags_keep : (count : ℕ) → Keeps (SpellsFlags plain count) flags_bytes
-flags_keep count bytes flags fits h =
-    let s = (flags_lawful count).canonical_is_strict bytes flags h in
-    along (s.byte ∷ []) (flags_bytes flags) (sym s.bytes_are) (s.fits, tt)
+flags_keep count bytes flags fits h = let s = (flags_lawful count).canonical_is_strict bytes flags h in subst All (sym s.bytes_are) (s.fits, tt)
 
 forms_keep : (form : Form) → Keeps (SpellsForm plain form) (form_bytes form)
 unfolding form_bytes
@@ -223,10 +192,10 @@ forms_keep (flags_form count) =
     (form_bytes (flags_form count)) (λ flags. ap flags_bytes (flags_of-map flags)) (flags_keep count)
 forms_keep short_string_form =
     mapped_keeps (λ text. text_item text ∷ []) SpellsShortString short_string_bytes (form_bytes short_string_form)
-    (λ text. refl) (λ bytes text fits h. along bytes (short_string_bytes text) h.bytes_are fits)
+    (λ text. refl) (λ bytes text fits h. subst All h.bytes_are fits)
 forms_keep long_string_form =
     mapped_keeps (λ content. bytes_item content ∷ []) SpellsLongString with_length (form_bytes long_string_form)
-    (λ content. refl) (λ bytes content fits h. along bytes (with_length content) h.bytes_are fits)
+    (λ content. refl) (λ bytes content fits h. subst All h.bytes_are fits)
 forms_keep table_form = mapped_keeps (λ es. entries_item es ∷ []) (SpellsFieldTable plain) table_bytes (form_bytes table_form) (λ es. refl) tables_keep
 
 constant_all : (form : Form) (constant : List Item) → is_least form constant ≡ true → All (form_bytes form constant)
@@ -234,9 +203,9 @@ unfolding form_bytes
 constant_all (number_form width) (number_item n ∷ []) least = number_all width n
 constant_all (flags_form count) constant least =
     let s = (constant_strict (flags_form count) constant least).spelled in
-    along (s.byte ∷ []) _ (sym s.bytes_are) (s.fits, tt)
-constant_all short_string_form (text_item [] ∷ []) least = (omega arith, tt)
-constant_all long_string_form (bytes_item [] ∷ []) least = long_all [] tt
+    subst All (sym s.bytes_are) (s.fits, tt)
+constant_all short_string_form (text_item [] ∷ []) least = omega arith
+constant_all long_string_form (bytes_item [] ∷ []) least = omega arith
 constant_all form constant least = absurd cc
 
 slots_keep : (slots : List Slot) → are_least slots ≡ true → Keeps (SpellsSlots plain slots) (slots_bytes slots)
@@ -244,7 +213,7 @@ unfolding slots_bytes
 slots_keep [] least = λ bytes items fits h. tt
 slots_keep (kept_slot form ∷ slots) least =
     both_keep (SpellsForm plain form) (SpellsSlots plain slots) (λ xs ys. xs ++ ys) (form_bytes form) (slots_bytes slots) (slots_bytes (kept_slot form ∷ slots))
-    (λ bytes xs ys h. let g = form_gives form bytes xs h in kept_bytes form slots xs ys g.count) (forms_keep form) (slots_keep slots least)
+    (λ bytes xs ys h. kept_bytes form slots xs ys (form_gives form bytes xs h).count) (forms_keep form) (slots_keep slots least)
 slots_keep (reserved_slot form constant ∷ slots) least =
     let b = both_true (is_least form constant) (are_least slots) least in
     both_keep (SpellsReserved plain form constant) (SpellsSlots plain slots) (λ xs ys. xs ++ ys)
@@ -257,17 +226,16 @@ slots_keep (reserved_slot form constant ∷ slots) least =
 payloads_keep : Keeps (SpellsPayload plain) payload_bytes
 payloads_keep bytes m fits h =
     let least = (in_table m.class m.id h.slots h.known).least in
-    let tail = along bytes (h.class_bytes ++ (h.id_bytes ++ h.slot_bytes)) h.bytes_are fits in
-    let slots =
-    slots_keep h.slots least h.slot_bytes m.items (all_back h.id_bytes h.slot_bytes (all_back h.class_bytes (h.id_bytes ++ h.slot_bytes) tail)) h.slots_are in
+    let tail = (halves bytes h.class_bytes (h.id_bytes ++ h.slot_bytes) h.bytes_are fits).1 in
+    let slots = slots_keep h.slots least h.slot_bytes m.items (all_back h.id_bytes h.slot_bytes tail) h.slots_are in
     let method = number_bytes bytes2 m.id ++ slots_bytes h.slots m.items in
-    along (number_bytes bytes2 m.class ++ method) (payload_bytes m) (sym (payload_of_slots m h.slots h.known)) (all_both (number_bytes bytes2 m.class) method
+    rw (payload_of_slots m h.slots h.known) (all_both (number_bytes bytes2 m.class) method
     (number_all bytes2 m.class) (all_both (number_bytes bytes2 m.id) (slots_bytes h.slots m.items) (number_all bytes2 m.id) slots))
 
 optional_keeps : (present : Bool) (form : Form) → gives_one form ≡ true → Keeps (SpellsOptional plain present form) (optional_bytes form)
 unfolding optional_bytes
-optional_keeps true form one = mapped_keeps first_item (SpellsForm plain form) (form_bytes form) (optional_bytes form) (first_bytes form one) (forms_keep form)
-optional_keeps false form one = λ bytes option fits h. subst (λ (o : Option Item). All (optional_bytes form o)) (sym h.1) tt
+optional_keeps true form one = mapped_keeps first_item _ (form_bytes form) (optional_bytes form) (first_bytes form one) (forms_keep form)
+optional_keeps false form one = λ bytes option fits h. rw h.1 tt
 
 sets_keep : (mask : ℕ) (ps : List Property) → give_one ps ≡ true → Keeps (SpellsSet plain mask ps) (set_bytes ps)
 unfolding set_bytes
@@ -281,56 +249,48 @@ properties_keep : Keeps (SpellsProperties plain) properties_bytes
 unfolding properties_bytes form_bytes
 properties_keep bytes options fits h =
     all_both (number_bytes bytes2 (mask_of properties options)) (set_bytes properties options) (number_all bytes2 (mask_of properties options))
-    (sets_keep h.mask properties one_each h.behind options (all_back (number_bytes bytes2 h.mask) h.behind (along bytes _ h.bytes_are fits)) h.set)
+    (sets_keep h.mask properties one_each h.behind options (halves bytes (number_bytes bytes2 h.mask) h.behind h.bytes_are fits).1 h.set)
 
 parts_all : (class size : ℕ) → All (slots_bytes header_slots (number_item class ∷ number_item size ∷ []))
 unfolding header_slots slots_bytes form_bytes
-parts_all class size =
-    let last = number_bytes bytes8 size ++ [] in
-    all_both (number_bytes bytes2 class) (number_bytes bytes2 0 ++ last) (number_all bytes2 class)
-    (all_both (number_bytes bytes2 0) last (number_all bytes2 0) (all_both (number_bytes bytes8 size) [] (number_all bytes8 size) tt))
+parts_all class size = omega arith
 
 headers_keep : Keeps (SpellsContentHeader plain) content_header_bytes
 unfolding content_header_bytes
 headers_keep bytes header fits h =
-    let set = properties_keep h.behind h.two (all_back h.front h.behind (along bytes (h.front ++ h.behind) h.bytes_are fits)) h.second_is in
-    let same : header.options ≡ h.two = ap (λ (x : ContentHeader). x.options) h.joined ∙ options_are h.one h.two in
-    all_both (slots_bytes header_slots (header_items header)) (properties_bytes header.options)
-    (parts_all header.class_id header.body_size) (subst (λ (os : List (Option Item)). All (properties_bytes os)) (sym same) set)
+    let set = properties_keep h.behind h.two (halves bytes h.front h.behind h.bytes_are fits).1 h.second_is in
+    let same : header.options ≡ h.two = cc (h.joined, options_are h.one h.two) in
+    all_both _ _
+    (parts_all header.class_id header.body_size) (rw same set)
 
 -- ---- frames
 
 framed_all : (type channel : ℕ) (payload : List ℕ) → type < 256 → All payload → All (framed type channel payload)
-framed_all type channel payload low h = (
-  low,
-  all_both (number_bytes bytes2 channel ++ number_bytes bytes4 (length payload)) (payload ++ 206 ∷ [])
-      (all_both (number_bytes bytes2 channel) (number_bytes bytes4 (length payload)) (number_all bytes2 channel) (number_all bytes4 (length payload)))
-      (all_both payload (206 ∷ []) h (omega arith, tt)),
-)
+framed_all type channel payload low h =
+    all_both (head type channel (length payload)) _ (omega (arith, low)) (all_both payload _ h (omega arith, tt))
 
 framed_inner : (bytes payload : List ℕ) (type channel : ℕ) → All bytes → IsFramed bytes type channel payload → All payload
 framed_inner bytes payload type channel fits h =
-    all_front payload (206 ∷ []) (all_back (number_bytes bytes2 channel ++ number_bytes bytes4 (length payload))
-    (payload ++ 206 ∷ []) (along bytes (framed type channel payload) h.bytes_are fits).1)
+    all_front payload _ (halves bytes (head type channel (length payload)) (payload ++ 206 ∷ []) h.bytes_are fits).1
 
 frames_keep : Keeps (Spells plain) canon
 unfolding canon
-frames_keep bytes (Proto major minor revision) fits h = along bytes _ h fits
+frames_keep bytes (Proto major minor revision) fits h = subst All h fits
 frames_keep bytes (Meth channel m) fits h =
     framed_all 1 channel (payload_bytes m) (omega arith) (payloads_keep h.payload m (framed_inner bytes h.payload 1 channel fits h.is_framed) h.spelled)
 frames_keep bytes (Head channel header) fits h =
     framed_all 2 channel (content_header_bytes header) (omega arith)
     (headers_keep h.payload header (framed_inner bytes h.payload 2 channel fits h.is_framed) h.spelled)
-frames_keep bytes (Body channel content) fits h = along bytes (framed 3 channel content) h.bytes_are fits
+frames_keep bytes (Body channel content) fits h = subst All h.bytes_are fits
 frames_keep bytes Beat fits h = framed_all 8 0 [] (omega arith) tt
 frames_keep bytes (BadBeat channel) fits h = framed_all 8 channel [] (omega arith) tt
 
 sequences_keep : (m : Option ℕ) (bytes : List ℕ) (frames : List Frame) → All bytes → SpellsFrames plain m bytes frames → All (canon_frames frames)
 sequences_keep m bytes [] fits h = tt
 sequences_keep m bytes (f ∷ fs) fits h =
-    let parts = along bytes (h.0 ++ h.1) h.2 fits in
-    all_both (canon f) (canon_frames fs) (frames_keep h.0 f (all_front h.0 h.1 parts) h.3) (sequences_keep m h.1 fs (all_back h.0 h.1 parts) h.5)
+    let parts = halves bytes h.0 h.1 h.2 fits in
+    all_both _ _ (frames_keep h.0 f parts.0 h.3) (sequences_keep m h.1 fs parts.1 h.5)
 
 -- The canonical bytes of frames that some bytes encode are bytes.
 pub canonical_bytes : (m : Option ℕ) (bytes : List ℕ) (frames : List Frame) → IsBytes bytes → SpellsFrames plain m bytes frames → IsBytes (canon_frames frames)
-canonical_bytes m bytes frames fits h = are_bytes (canon_frames frames) (sequences_keep m bytes frames (all_bytes bytes fits) h)
+canonical_bytes m bytes frames fits h = are_bytes _ (sequences_keep m bytes frames (all_bytes bytes fits) h)

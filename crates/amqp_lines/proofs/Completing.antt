@@ -1,6 +1,6 @@
 -- Valid text ends well, but for memory that runs out.
-use Rattle.std.proofs.Common.{◌≡◌, ◌≢◌, ℕ, List, [], ◌∷◌, ◌++◌, length, drop, Option, Some, None, Result, Ok, Err, refl, sym, ap, subst, ◌∙◌, inl, inr}
-use Rattle.std.proofs.Common.{append_assoc, append-nil, arith}
+use Rattle.std.proofs.Common.{◌≡◌, ◌≢◌, ℕ, List, [], ◌∷◌, ◌++◌, length, drop, Option, Some, None, Result, Ok, Err, refl, sym, ap, ◌∙◌, inl, inr, append_assoc}
+use Rattle.std.proofs.Common.{append-nil, arith}
 use Rattle.std.specs.List.{flat_map}
 use Rattle.std.proofs.lemmas.List.{length-append}
 use Rattle.amqp_wire.specs.Frames.{Frame}
@@ -10,7 +10,7 @@ use Rattle.amqp_stream.specs.Ends.{Supply, Store, prepended, IsEmpty}
 use Rattle.amqp_stream.specs.Causes.{NoFaults}
 use Rattle.amqp_stream.proofs.Adding.{taken_of}
 use Rattle.amqp_lines.specs.Lines.{line, lines}
-use Rattle.amqp_lines.specs.Undumping.{AreStrict, HoldsNewline, Undumps, IsValidText, IsOkOrNoMemory}
+use Rattle.amqp_lines.specs.Undumping.{HoldsNewline, Undumps, IsValidText, IsOkOrNoMemory}
 use Rattle.amqp_lines.specs.declared.errors.UndumpError.{UndumpError}
 use Rattle.amqp_lines.specs.declared.errors.UndumpError.TheVariants as errors
 use Rattle.amqp_lines.proofs.Newlines.{one_newline}
@@ -47,25 +47,18 @@ at_none_more m rest more holds none f x good e = elim (first_or rest) [
       let tail = drop h.end rest in
       let whole = first_line rest h.end first in
       let same =
-      line_first f first.front x (tail ++ more) first.none_before (e ∙ ap (λ (xs : List ℕ). xs ++ more) whole ∙ append_assoc first.front (10 ∷ tail) more) in
-      none f tail good (ap (λ (xs : List ℕ). xs ++ tail) same.0 ∙ append_assoc first.front (10 ∷ []) tail ∙ sym whole)
+      line_first f first.front x (tail ++ more) first.none_before (cc (e, whole, append_assoc first.front (10 ∷ tail) more)) in
+      none f tail good (cc (same.0, append_assoc first.front (10 ∷ []) tail, whole))
 ]
 
-none_held : (m : ℕ) (rest more : List ℕ) → HoldsNewline rest → IsAtNone m rest → Others m (rest ++ more) → ⊥
+-- no text but the empty one is lines of frames where no line is in front
+no_others : (m : ℕ) (text : List ℕ) → text ≢ [] → IsAtNone m text → Others m text → ⊥
 unfolding lines IsAtNone
-none_held m rest more holds none h = by_frames h.frames h.good h.is
+no_others m text some none h = by_frames h.frames h.good h.is
   where
-    by_frames : (gs : List Frame) → AllStrict m gs → lines gs ≡ rest ++ more → ⊥
-    by_frames [] good e = omega (arith, ap length e, length-append rest more, ap length holds.parts, length-append holds.front (10 ∷ holds.back))
-    by_frames (g ∷ gs) good e = at_none_more m rest more holds none g (flat_map line gs) good.0 e
-
-none_cut : (m : ℕ) (rest : List ℕ) → rest ≢ [] → IsAtNone m rest → Others m (rest ++ []) → ⊥
-unfolding lines IsAtNone
-none_cut m rest some none h = by_frames h.frames h.good h.is
-  where
-    by_frames : (gs : List Frame) → AllStrict m gs → lines gs ≡ rest ++ [] → ⊥
-    by_frames [] good e = some (sym (e ∙ append-nil rest))
-    by_frames (g ∷ gs) good e = none g (flat_map line gs) good.0 (e ∙ append-nil rest)
+    by_frames : (gs : List Frame) → AllStrict m gs → lines gs ≡ text → ⊥
+    by_frames [] good e = some (sym e)
+    by_frames (g ∷ gs) good e = none g _ good.0 e
 
 -- ---- a source that reports its bytes
 
@@ -82,33 +75,28 @@ left_of bytes taken (Some more) h = record { more = more; parts = cc; is = refl 
 
 -- Where a source has nothing left, what is left is empty.
 pub empty_left : (left : Option (List ℕ)) (more : List ℕ) → left ≡ Some more → IsEmpty left → more ≡ []
-empty_left left more is empty = subst (λ (o : Option (List ℕ)). IsEmpty o) is empty
-
-after_text : (m : ℕ) (bytes taken more rest : List ℕ) (frames valid : List Frame) → AreStrict m valid
-    → bytes ≡ lines valid → bytes ≡ taken ++ more → taken ≡ lines frames ++ rest → Others m (rest ++ more)
-after_text m bytes taken more rest frames valid strict text parts is =
-    others m frames valid (rest ++ more) (all_strict m valid strict)
-    (sym text ∙ parts ∙ ap (λ (xs : List ℕ). xs ++ more) is ∙ append_assoc (lines frames) rest more)
+empty_left left more is empty = rw is at empty
 
 -- Over a source that reports the bytes of a valid text, without faults of source or sink, the call returns no error but out of memory.
 pub complete : {m budget : ℕ} {a b : Supply} {k l : Store} {r : Result (Unit {0}) UndumpError} (bytes : List ℕ)
     → Undumps (call_of m budget (a ⇒ b) (k ⇒ l)) r → a.left ≡ Some bytes → IsValidText m budget bytes → NoFaults (a ⇒ b) (k ⇒ l) → IsOkOrNoMemory r
-complete {m = m} {budget = budget} {a = a} {b = b} {k = k} {l = l} {r = r} bytes run left valid faults = by_answer r run
+complete {m = m} {budget = budget} {a = a} {b = b} {k = k} {l = l} {r = r} bytes run left valid faults =
+    by_answer r run (left_of bytes run.taken b.left (taken_of left run.takes))
   where
-    by_answer : (r : Result (Unit {0}) UndumpError) → Undumps (call_of m budget (a ⇒ b) (k ⇒ l)) r → IsOkOrNoMemory r
-    by_answer (Ok done) u = tt
-    by_answer (Err errors.NoMemory) u = tt
-    by_answer (Err errors.BadText) u =
-        let is = left_of bytes u.taken b.left (taken_of left u.takes) in
-        none_held m u.rest is.more u.cause (at_none m u.taken u.frames u.rest u.text)
-        (after_text m bytes u.taken is.more u.rest u.frames valid.frames valid.are_strict valid.is_text is.parts u.text.parts)
-    by_answer (Err errors.CutShort) u =
-        let is = left_of bytes u.taken b.left (taken_of left u.takes) in
-        let after = after_text m bytes u.taken is.more u.rest u.frames valid.frames valid.are_strict valid.is_text is.parts u.text.parts in
-        none_cut m u.rest u.cause.0 (at_none m u.taken u.frames u.rest u.text)
-        (subst (λ (xs : List ℕ). Others m (u.rest ++ xs)) (empty_left b.left is.more is.is u.cause.2) after)
-    by_answer (Err errors.TurnsSpent) u =
-        let is = left_of bytes u.taken b.left (taken_of left u.takes) in
-        omega (arith, valid.enough, u.cause.0, ap length is.parts, length-append u.taken is.more)
-    by_answer (Err errors.ReadFault) u = omega (arith, u.cause.0 faults.source_below, faults.source)
-    by_answer (Err errors.WriteFault) u = omega (arith, u.cause faults.sink_below, faults.sink)
+    after : (taken more rest : List ℕ) (frames : List Frame) → bytes ≡ taken ++ more → taken ≡ lines frames ++ rest → Others m (rest ++ more)
+    after taken more rest frames parts is =
+        others m frames valid.frames _ (all_strict m valid.frames valid.are_strict)
+        (sym valid.is_text ∙ parts ∙ ap (λ xs. xs ++ more) is ∙ append_assoc _ rest more)
+
+    by_answer : (r : Result (Unit {0}) UndumpError) (u : Undumps (call_of m budget (a ⇒ b) (k ⇒ l)) r) → Left bytes u.taken b.left → IsOkOrNoMemory r
+    by_answer (Ok done) u is = tt
+    by_answer (Err errors.NoMemory) u is = tt
+    by_answer (Err errors.BadText) u is =
+        no_others m _ (λ e. omega (arith, ap length e, length-append {A = ℕ}, ap length u.cause.parts))
+        (at_none_more m u.rest is.more u.cause (at_none m u.taken u.frames u.rest u.text)) (after u.taken is.more u.rest u.frames is.parts u.text.parts)
+    by_answer (Err errors.CutShort) u is =
+        no_others m u.rest u.cause.0 (at_none m u.taken u.frames u.rest u.text)
+        (rw (empty_left b.left is.more is.is u.cause.2, append-nil) at (after u.taken is.more u.rest u.frames is.parts u.text.parts))
+    by_answer (Err errors.TurnsSpent) u is = omega (arith, valid.enough, u.cause.0, ap length is.parts, length-append u.taken is.more)
+    by_answer (Err errors.ReadFault) u is = omega (arith, u.cause.0 faults.source_below, faults.source)
+    by_answer (Err errors.WriteFault) u is = omega (arith, u.cause faults.sink_below, faults.sink)

@@ -1,15 +1,15 @@
 -- Whether a text is the line of a frame can be decided, and so some sequence of lines in front of a text is the longest.
-use Rattle.std.proofs.Common.{◌≡◌, ◌≢◌, ◌⊎◌, ℕ, zero, suc, ◌+◌, ◌-◌, ◌≤◌, Bool, true, false, List, [], ◌∷◌, ◌++◌, length, take, drop, Some, refl, sym, ap}
-use Rattle.std.proofs.Common.{subst, ◌∙◌, inl, inr, append_assoc, arith}
+use Rattle.std.proofs.Common.{◌≡◌, ◌≢◌, ◌⊎◌, ℕ, zero, suc, ◌+◌, ◌-◌, ◌≤◌, Bool, true, false, List, [], ◌∷◌, ◌++◌, length, take, drop, Some, refl, sym, ap, ◌∙◌}
+use Rattle.std.proofs.Common.{inl, inr, append_assoc, arith}
 use Rattle.std.specs.Str.{bytes_eq}
 use Rattle.std.proofs.lemmas.Bool.{cases_lt}
 use Rattle.std.proofs.lemmas.List.{length-append, length-drop, take_at, take-append-drop}
 use Rattle.std.proofs.lemmas.Slice.Eq.{bytes_eq-Decides}
 use Rattle.amqp_types.specs.Levels.{strict}
-use Rattle.amqp_types.specs.Judging.{IsBytes, Judged, took, past, fault}
+use Rattle.amqp_types.specs.Judging.{IsBytes, Judged, took}
 use Rattle.amqp_types.proofs.Took.{value_took}
 use Rattle.amqp_wire.specs.Frames.{Frame, Raw, channel_id_of}
-use Rattle.amqp_wire.specs.Spelling.{Spells, raw_bytes}
+use Rattle.amqp_wire.specs.Spelling.{raw_bytes}
 use Rattle.amqp_wire.specs.Canonical.{canon, payload_of}
 use Rattle.amqp_wire.specs.Verdicts.{judge_frame}
 use Rattle.amqp_wire.proofs.Spelled.{verdict-spelled}
@@ -34,13 +34,11 @@ raw_in f = record { kind = kind_of f; channel = channel_id_of f; payload = paylo
 
 words_in : (f : Frame) (text : List ℕ) → text ≡ line f → take (length text - 1) text ≡ words f
 unfolding line
-words_in f text e =
-    ap (λ (xs : List ℕ). take (length xs - 1) xs) e
-    ∙ take_at (words f) (10 ∷ []) (length (words f ++ 10 ∷ []) - 1) (omega (arith, length-append (words f) (10 ∷ [])))
+words_in f text e = rw e (take_at (words f) _ _ (omega (arith, length-append (words f) (10 ∷ []))))
 
 -- What is read of the words of a strict frame's line is the frame's kind, channel and canonical payload.
 pub line_back : (f : Frame) (text : List ℕ) → IsStrict f → text ≡ line f → read_words (take (length text - 1) text) ≡ raw_in f
-line_back f text h e = ap read_words (words_in f text e) ∙ strict_back f h
+line_back f text h e = cc (words_in f text e, strict_back f h)
 
 -- ---- tests
 
@@ -49,17 +47,17 @@ bytes_or [] = inl IsBytes-nil
 bytes_or (x ∷ xs) = elim (cases_lt x 256) [
   | inl low ↦ elim (bytes_or xs) [
     | inl h ↦ inl (IsBytes-append (x ∷ []) xs (λ i. one_byte x i low) h)
-    | inr never ↦ inr (λ h. never (bytes_behind (x ∷ []) xs (x ∷ xs) refl h))
+    | inr never ↦ inr (λ h. never (bytes_behind (x ∷ []) xs _ refl h))
   ]
   | inr high ↦ inr (λ h. omega (arith, h 0))
 ]
 
-same_by : (xs ys : List ℕ) (b : Bool) → bytes_eq xs ys ≡ b → (xs ≡ ys) ⊎ (xs ≢ ys)
-same_by xs ys true h = inl ((bytes_eq-Decides xs ys).0 h)
-same_by xs ys false h = inr (λ e. absurd (let x = sym h ∙ (bytes_eq-Decides xs ys).1 e in cc))
-
 same_or : (xs ys : List ℕ) → (xs ≡ ys) ⊎ (xs ≢ ys)
-same_or xs ys = same_by xs ys (bytes_eq xs ys) refl
+same_or xs ys = by_test _ refl
+  where
+    by_test : (b : Bool) → bytes_eq xs ys ≡ b → (xs ≡ ys) ⊎ (xs ≢ ys)
+    by_test true h = inl ((bytes_eq-Decides xs ys).0 h)
+    by_test false h = inr (λ e. absurd (let x = sym h ∙ (bytes_eq-Decides xs ys).1 e in cc))
 
 -- ---- deciding
 
@@ -70,45 +68,37 @@ pub record IsALine (m : ℕ) (text : List ℕ) : Type 0 where
 
 -- what the bytes of a frame are decoded as, of which a text is the line
 judged_line : (m : ℕ) (text : List ℕ) (f : Frame) → IsStrictWithin m f → text ≡ line f → raw_bytes (read_words (take (length text - 1) text)) ≡ canon f
-judged_line m text f good e = ap raw_bytes (line_back f text good.is_strict e) ∙ raw_canon f
+judged_line m text f good e = cc (line_back f text good.is_strict e, raw_canon f)
 
-verdict_line : (m : ℕ) (f : Frame) → IsStrictWithin m f → judge_frame strict (Some m) (canon f) ≡ took f (length (canon f))
-verdict_line m f good = verdict-spelled strict (Some m) (canon f) f good.is_strict.encodes good.within
+verdict_line : (m : ℕ) (text : List ℕ) (f : Frame) → IsStrictWithin m f → text ≡ line f
+    → judge_frame strict (Some m) (raw_bytes (read_words (take (length text - 1) text))) ≡ took f (length (canon f))
+verdict_line m text f good e =
+    rw (judged_line m text f good e) (verdict-spelled strict _ _ f good.is_strict.encodes good.within)
 
 by_verdict : (m : ℕ) (text : List ℕ) (v : Judged Frame)
     → judge_frame strict (Some m) (raw_bytes (read_words (take (length text - 1) text))) ≡ v → IsALine m text ⊎ IsNoLine m text
-by_verdict m text past h =
-    inr (λ f good e. absurd (let x = sym h ∙ ap (judge_frame strict (Some m)) (judged_line m text f good e) ∙ verdict_line m f good in cc))
-by_verdict m text (fault bad) h =
-    inr (λ f good e. absurd (let x = sym h ∙ ap (judge_frame strict (Some m)) (judged_line m text f good e) ∙ verdict_line m f good in cc))
 by_verdict m text (took g n) h =
     let bytes = raw_bytes (read_words (take (length text - 1) text)) in
     elim (bytes_or bytes) [
-      | inr never ↦ inr (λ f good e. absurd (never (subst (λ (bs : List ℕ). IsBytes bs) (sym (judged_line m text f good e)) good.is_strict.are_bytes)))
+      | inr never ↦ inr (λ f good e. absurd (never (rw (judged_line m text f good e) good.is_strict.are_bytes)))
       | inl fits ↦ elim (same_or text (line g)) [
         | inr different ↦
-            inr (λ f good e.
-            absurd (different (e
-            ∙ ap line
-            (value_took f g (length (canon f)) n (sym (verdict_line m f good) ∙ ap (judge_frame strict (Some m)) (sym (judged_line m text f good e)) ∙ h)))))
+            inr (λ f good e. absurd (different (cc (e, value_took f g (length (canon f)) n (sym (verdict_line m text f good e) ∙ h)))))
         | inl same ↦
             let spelled = verdict-spells strict (Some m) bytes g n fits h in
             let is = first_is_canon (take n bytes) g spelled.0 in
             let front = bytes_front (take n bytes) (drop n bytes) bytes (sym (take-append-drop n bytes)) fits in
             inl (record {
               frame = g;
-              good = record {
-                is_strict =
-                    record { are_bytes = subst (λ (bs : List ℕ). IsBytes bs) is front; encodes = subst (λ (bs : List ℕ). Spells strict bs g) is spelled.0 };
-                within = subst (λ (bs : List ℕ). length bs ≤ m + 8) is spelled.1;
-              };
+              good = record { is_strict = record { are_bytes = rw is at front; encodes = rw is at spelled.0 }; within = rw is at spelled.1 };
               is_line = same;
             })
       ]
     ]
+by_verdict m text v h = inr (λ f good e. absurd (let x = sym h ∙ verdict_line m text f good e in cc))
 
 decide_line : (m : ℕ) (text : List ℕ) → IsALine m text ⊎ IsNoLine m text
-decide_line m text = by_verdict m text (judge_frame strict (Some m) (raw_bytes (read_words (take (length text - 1) text)))) refl
+decide_line m text = by_verdict m text _ refl
 
 -- ---- the first line of a text
 
@@ -116,7 +106,7 @@ first_more : (c : ℕ) (text : List ℕ) (end : ℕ) → c ≢ 10 → IsFirstLin
 first_more c text end differs h =
     record {
       front = c ∷ h.front;
-      parts = ap (λ (xs : List ℕ). c ∷ xs) h.parts;
+      parts = ap (λ xs. c ∷ xs) h.parts;
       none_before = (differs, h.none_before);
       some = omega arith;
       within = omega (arith, h.within);
@@ -132,7 +122,7 @@ first_or [] = inr tt
 first_or (c ∷ cs) = elim (same_or (c ∷ []) (10 ∷ [])) [
   | inl same ↦ inl (record { end = 1; is_first = record { front = []; parts = same; none_before = tt; some = omega arith; within = omega arith } })
   | inr other ↦
-      let differs : c ≢ 10 = λ e. other (ap (λ (x : ℕ). x ∷ []) e) in
+      let differs : c ≢ 10 = λ e. other (ap (λ x. x ∷ []) e) in
       elim (first_or cs) [
         | inl h ↦ inl (record { end = suc h.end; is_first = first_more c cs h.end differs h.is_first })
         | inr none ↦ inr (differs, none)
@@ -161,8 +151,7 @@ more_front m text end f good is h = record {
   rest = h.rest;
   good = (good, h.good);
   parts =
-      sym (take-append-drop end text) ∙ ap (λ (xs : List ℕ). xs ++ drop end text) is
-      ∙ ap (λ (xs : List ℕ). line f ++ xs) h.parts ∙ sym (append_assoc (line f) (lines h.frames) h.rest);
+      cc (take-append-drop end text, is, h.parts, append_assoc (line f) (lines h.frames) h.rest);
   none = h.none;
 }
 
@@ -171,13 +160,13 @@ fronts_by m zero text few = none_front m text (at_clean m text (none_in text few
   where
     none_in : (xs : List ℕ) → length xs ≤ 0 → HasNoNewline xs
     none_in [] h = tt
-    none_in (x ∷ xs) h = absurd (omega arith)
+    none_in _ h = absurd (omega arith)
 fronts_by m (suc n) text few = elim (first_or text) [
   | inr none ↦ none_front m text (at_clean m text none)
-  | inl h ↦ elim (decide_line m (take h.end text)) [
+  | inl h ↦ elim (decide_line m _) [
     | inl is ↦
         more_front m text h.end is.frame is.good is.is_line
-        (fronts_by m n (drop h.end text) (omega (arith, few, length-drop h.end text, h.is_first.some, h.is_first.within)))
+        (fronts_by m n _ (omega (arith, few, length-drop h.end text, h.is_first.some, h.is_first.within)))
     | inr other ↦ none_front m text (at_other m text h.end h.is_first other)
   ]
 ]

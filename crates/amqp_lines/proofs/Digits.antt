@@ -21,34 +21,33 @@ short n h = length-decimal-le 20 n (omega arith) (omega arith) h
 -- where more than one digit is left, there is room for one more
 pub has_room : (number : ℕ) (digits : List ℕ) (place rest : ℕ) → number < 2 ^ 64 → length digits ≡ 20 → 10 ≤ rest → ArePut number digits place rest → 1 ≤ place
 has_room number digits place rest fits count more h =
-    let fits_rest : rest < 2 ^ 64 = h.fits in
+    let fits_rest = h.fits in
     let step = ap length (decimal_step rest more fits_rest) ∙ length-append (decimal (rest / 10)) _ in
     let some = decimal_nonempty (rest / 10) (omega arith) in
-    let whole = sym (length-append (decimal rest) (drop (place + 1) digits)) ∙ ap length h.all in
+    let whole = sym (length-append _ (drop (place + 1) digits)) ∙ ap length h.all in
     omega (arith, step, some, whole, short number fits, length-drop (place + 1) digits, h.few)
 
 -- With one digit more put in front of those that were, the last digits of a number are put, and those of the rest are not.
 pub one_more : (number : ℕ) (digits : List ℕ) (place rest : ℕ) → length digits ≡ 20 → 10 ≤ rest → 1 ≤ place
     → ArePut number digits place rest → ArePut number (slice_set digits place (48 + rest % 10)) (place - 1) (rest / 10)
 one_more number digits place rest count more some h =
-    let fits_rest : rest < 2 ^ 64 = h.fits in
-    let few : place < 20 = h.few in
-    let put : drop (place - 1 + 1) (slice_set digits place (48 + rest % 10)) ≡ (48 + rest % 10) ∷ drop (place + 1) digits =
+    let fits_rest = h.fits in
+    let few = h.few in
+    let put =
     drop-set_at digits place (place - 1 + 1) (48 + rest % 10) (omega arith) (omega arith) in
     record {
       few = omega arith;
       fits = omega arith;
-      all = ap (λ (xs : List ℕ). decimal (rest / 10) ++ xs) put ∙ sym (append_assoc (decimal (rest / 10)) ((48 + rest % 10) ∷ []) (drop (place + 1) digits))
-          ∙ ap (λ (xs : List ℕ). xs ++ drop (place + 1) digits) (sym (decimal_step rest more fits_rest)) ∙ h.all;
+      all = cc (put, append_assoc (decimal (rest / 10)) ((48 + rest % 10) ∷ []) (drop (place + 1) digits), decimal_step rest more fits_rest, h.all);
     }
 
 -- Where the rest of a number is its first digit, the digits from there on are the number as it is printed.
 pub last_one : (number : ℕ) (digits : List ℕ) (place rest : ℕ) → length digits ≡ 20 → rest < 10
     → ArePut number digits place rest → drop place (slice_set digits place (48 + rest)) ≡ decimal number
 last_one number digits place rest count less h =
-    let few : place < 20 = h.few in
+    let few = h.few in
     drop-set_at digits place place (48 + rest) (omega arith) (omega arith)
-    ∙ ap (λ (xs : List ℕ). xs ++ drop (place + 1) digits) (sym (decimal_digit rest less)) ∙ h.all
+    ∙ ap (λ xs. xs ++ drop (place + 1) digits) (sym (decimal_digit rest less)) ∙ h.all
 
 -- ---- flags
 
@@ -57,5 +56,4 @@ pub one_more_sign : (k byte : ℕ) (old now next : List ℕ) (one : ℕ) → now
     → one ≡ sign (flag_at byte k) → next ≡ now ++ one ∷ [] → next ≡ old ++ map sign (flags_from (k + 1) 0 byte)
 one_more_sign k byte old now next one h is e =
     let flags = flags_from k 0 byte in
-    e ∙ ap (λ (xs : List ℕ). xs ++ one ∷ []) h ∙ append_assoc old (map sign flags) (one ∷ []) ∙ ap (λ (n : ℕ). old ++ (map sign flags ++ n ∷ [])) is
-    ∙ ap (λ (xs : List ℕ). old ++ xs) (sym (ap (map sign) (flags_from_next k byte) ∙ map-append sign flags (flag_at byte k ∷ [])))
+    cc (e, h, append_assoc old (map sign flags) (one ∷ []), is, flags_from_next k byte, map-append sign flags (flag_at byte k ∷ []))

@@ -1,5 +1,5 @@
 -- A run of a dumper dumps its stream.
-use Rattle.std.proofs.Common.{◌≡◌, ◌≢◌, ℕ, List, [], ◌∷◌, ◌++◌, ◌⊎◌, inl, inr, Some, None, Result, Ok, Err, refl, sym, ap, subst, ◌∙◌}
+use Rattle.std.proofs.Common.{◌≡◌, ◌≢◌, ℕ, List, [], ◌∷◌, ◌++◌, ◌⊎◌, inl, inr, None, Result, Ok, Err, refl, sym, ap, ◌∙◌}
 use Rattle.std.specs.declared.string.ParseError.{Infallible}
 use Rattle.amqp_types.specs.Levels.{plain}
 use Rattle.amqp_wire.specs.Frames.{Frame, Raw}
@@ -7,7 +7,7 @@ use Rattle.amqp_wire.specs.Fronts.{front}
 use Rattle.amqp_wire.specs.Verdicts.{decode_raw}
 use Rattle.amqp_stream.specs.declared.errors.StreamError.{StreamError}
 use Rattle.amqp_stream.specs.declared.errors.StreamError.TheVariants as errors
-use Rattle.amqp_stream.specs.Errors.{Cause, faulty, cut_short, budget_spent, read_failed, write_failed, out_of_memory, cause_of}
+use Rattle.amqp_stream.specs.Errors.{Cause, faulty, write_failed, out_of_memory, cause_of}
 use Rattle.std.specs.Prelude.{IfErr}
 use Rattle.amqp_stream.specs.Changes.{Change, ◌⇒◌}
 use Rattle.amqp_stream.specs.Calls.{Call, as_reported}
@@ -17,7 +17,7 @@ use Rattle.amqp_stream.specs.Steps.{text, refused}
 use Rattle.amqp_stream.specs.Streaming.{finished, stopped_by, ending_of, as_run, plan_of, IsStep, WritesBy, IsWelcome, IsDoneOrWanting}
 use Rattle.amqp_stream.specs.Causes.{IsOkOrNoMemory}
 use Rattle.amqp_stream.specs.declared.report.RunReport.{RunReport}
-use Rattle.amqp_stream.specs.Runs.{WriterRun, NeverRan}
+use Rattle.amqp_stream.specs.Runs.{WriterRun}
 use Rattle.amqp_stream.specs.Reports.{IsReportBy, WriterReport, NeverRanReport, NeverBeganReport, as_run_report, unreported}
 use Rattle.amqp_stream.proofs.Runs.{run_by, stream_error}
 use Rattle.amqp_stream.proofs.Reporting.{unreported_as_run, never_began_report}
@@ -34,22 +34,18 @@ line_step s t raw frame is = record { frame = frame; is_whole = is; at_level = r
 
 pub line_gathered : (s t : Unit {0}) (raw : Raw) (text : List ℕ) (a b : Store) (before after : List ℕ) (done : Unit {0})
     → PutsLine raw text (Ok done) → Gathered a b before after text → WritesBy dumping s t raw a b before after finished
-line_gathered s t raw text a b before after done h g =
-    record { bytes = line h.0; step = line_step s t raw h.0 h.1; gathered = subst (λ (xs : List ℕ). Gathered a b before after xs) h.2 g }
+line_gathered s t raw text a b before after done h g = record { bytes = line h.0; step = line_step s t raw h.0 h.1; gathered = rw h.2 at g }
 
 pub line_failed : (s t : Unit {0}) (raw : Raw) (text : List ℕ) (a b : Store) (before after : List ℕ) (done : Unit {0})
     → PutsLine raw text (Ok done) → GatherFails a b before after text → WritesBy dumping s t raw a b before after (stopped_by write_failed)
 line_failed s t raw text a b before after done h g =
-    record { bytes = line h.0; next = t; step = line_step s t raw h.0 h.1; failed = subst (λ (xs : List ℕ). GatherFails a b before after xs) h.2 g }
+    record { bytes = line h.0; next = t; step = line_step s t raw h.0 h.1; failed = rw h.2 at g }
 
 unrendered_by : (s t : Unit {0}) (raw : Raw) (a : Store) (before : List ℕ) (cause : Cause)
     → HasNoLine raw cause → WritesBy dumping s t raw a a before before (stopped_by cause)
 unrendered_by s t raw a before (faulty bad) h = (h, kept a before before refl, refl)
 unrendered_by s t raw a before out_of_memory h = (refl, kept a before before refl)
-unrendered_by s t raw a before write_failed h = absurd h
-unrendered_by s t raw a before cut_short h = absurd h
-unrendered_by s t raw a before budget_spent h = absurd h
-unrendered_by s t raw a before read_failed h = absurd h
+unrendered_by s t raw a before cause h = absurd h
 
 pub line_unrendered : (s t : Unit {0}) (raw : Raw) (text : List ℕ) (a : Store) (before : List ℕ) (error : StreamError)
     → PutsLine raw text (Err error) → WritesBy dumping s t raw a a before before (stopped_by (cause_of error))
@@ -60,7 +56,7 @@ line_unrendered s t raw text a before error h = unrendered_by s t raw a before (
 lines_text : (frames : List Frame) → text dumping tt frames ≡ lines frames
 unfolding text lines
 lines_text [] = refl
-lines_text (f ∷ fs) = ap (λ (xs : List ℕ). line f ++ xs) (lines_text fs)
+lines_text (f ∷ fs) = ap (λ xs. line f ++ xs) (lines_text fs)
 
 none_refused : (frames : List Frame) → refused dumping tt frames ≡ None
 unfolding refused
@@ -72,22 +68,12 @@ pub writes_lines : WritesLines
 writes_lines = record { text_is = lines_text; none_refused = none_refused }
 
 welcome : (m : ℕ) (bytes : List ℕ) → IsWelcome (plan_of dumping tt m) bytes
-welcome m bytes = record { none_refused = none_refused (front plain (Some m) bytes); ends = refl }
+welcome m bytes = record { none_refused = none_refused (front plain _ bytes); ends = refl }
 
 -- ---- a whole call
 
--- a call that ran, or never began
-abbrev pub RanOrNever : {S K : Type 0} → (S → Supply) → (K → Store) → Call S K → Result (Unit {0}) StreamError → Type 0
-RanOrNever supply store call r =
-    WriterRun dumping (tt ⇒ tt) supply store call (as_run r) ⊎ NeverRan {T = Unit {0}} (tt ⇒ tt) call.source call.sink (as_run {E = Infallible} r)
-
 ending_is : (r : Result (Unit {0}) StreamError) (error : StreamError) → r ≡ Err error → ending_of {E = Infallible} (as_run r) ≡ stopped_by (cause_of error)
 ending_is r error e = ap (λ x. ending_of (as_run x)) e
-
-never_untidy : {S K : Type 0} {supply : S → Supply} {store : K → Store} {call : Call S K} (r : Result (Unit {0}) StreamError)
-    → RanOrNever supply store call r → r ≢ Err errors.NotTidy
-never_untidy r (inl run) e = run.stream.run.tidy_only (ending_is r errors.NotTidy e)
-never_untidy r (inr none) e = let other = sym (ending_is r errors.NotTidy e) ∙ ap ending_of none.0.no_memory in absurd cc
 
 done_or_wanting : (r : Result (Unit {0}) StreamError) → IsDoneOrWanting (ending_of {E = Infallible} (as_run r)) → IsOkOrNoMemory r
 done_or_wanting (Ok done) h = tt
@@ -124,15 +110,13 @@ ReportedOrNever supply store call r =
     WriterReport dumping (tt ⇒ tt) supply store call (as_run_report r)
     ⊎ NeverRanReport {T = Unit {0}} (tt ⇒ tt) call.source call.sink (as_run_report {E = Infallible} r)
 
-error_alone : {S K : Type 0} {supply : S → Supply} {store : K → Store} {call : Call S K} (r : Result (Unit {0}) (RunReport StreamError))
-    → ReportedOrNever supply store call r → RanOrNever supply store call (unreported r)
-error_alone r (inl run) = inl (rw unreported_as_run at run.0)
-error_alone r (inr never) = inr (rw unreported_as_run at never.0)
-
 -- No dump ends with the error that an encoding is not tidy.
 pub untidy_never : {S K : Type 0} {supply : S → Supply} {store : K → Store} {call : Call S K} (r : Result (Unit {0}) (RunReport StreamError))
     → ReportedOrNever supply store call r → unreported r ≢ Err errors.NotTidy
-untidy_never r h = never_untidy (unreported r) (error_alone r h)
+untidy_never r (inl run) e = let alone = rw unreported_as_run at run.0 in alone.stream.run.tidy_only (ending_is (unreported r) errors.NotTidy e)
+untidy_never r (inr never) e =
+    let alone = rw unreported_as_run at never.0 in
+    let other = sym (ending_is (unreported r) errors.NotTidy e) ∙ ap ending_of alone.0.no_memory in absurd cc
 
 -- A dump with its report writes the lines of its stream and reports where it ended, or never began, out of memory.
 pub dump_report : {S K : Type 0} {supply : S → Supply} {store : K → Store} {call : Call S K} (r : Result (Unit {0}) (RunReport StreamError))

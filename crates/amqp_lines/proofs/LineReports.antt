@@ -1,22 +1,22 @@
 -- What a call reports: the line that it reached, by the lines of frames in front.
-use Rattle.std.proofs.Common.{◌≡◌, ℕ, ◌*◌, ◌≤◌, List, [], ◌∷◌, ◌++◌, length, Some, Result, Ok, Err, sym, ap, subst, ◌∙◌, append-nil, arith}
+use Rattle.std.proofs.Common.{◌≡◌, ℕ, ◌*◌, ◌≤◌, List, [], ◌∷◌, ◌++◌, length, Some, Result, Ok, Err, ap, ◌∙◌, append-nil, arith}
 use Rattle.std.specs.Prelude.{IfErr}
 use Rattle.std.specs.List.{flat_map}
 use Rattle.std.proofs.lemmas.List.{length-append}
-use Rattle.amqp_wire.specs.Frames.{Frame, Proto, Meth, Head, Body, Beat, BadBeat}
+use Rattle.amqp_wire.specs.Frames.{Frame, Beat}
 use Rattle.amqp_stream.specs.Changes.{◌⇒◌}
 use Rattle.amqp_stream.specs.Calls.{Call, call_of}
 use Rattle.amqp_stream.specs.Ends.{Supply, Store, last}
 use Rattle.amqp_stream.proofs.Adding.{taken_of}
 use Rattle.amqp_lines.specs.Lines.{words, line, lines}
 use Rattle.amqp_lines.specs.LineReading.{Decides}
-use Rattle.amqp_lines.specs.Undumping.{IsLongestText, UndumpRun}
+use Rattle.amqp_lines.specs.Undumping.{UndumpRun}
 use Rattle.amqp_lines.specs.UndumpReports.{IsLineAfter, EndsAtLine, EndsExactlyAt, IsUndumpReport, PassesLines, first_line, unreported_lines}
 use Rattle.amqp_lines.specs.declared.report.LinePlace.{LinePlace}
 use Rattle.amqp_lines.specs.declared.report.UndumpReport.{UndumpReport}
 use Rattle.amqp_lines.specs.declared.errors.UndumpError.{UndumpError}
 use Rattle.amqp_lines.specs.declared.errors.UndumpError.TheVariants as errors
-use Rattle.amqp_lines.proofs.Completing.{left_of, empty_left}
+use Rattle.amqp_lines.proofs.Completing.{left_of, empty_left, Left}
 use Rattle.amqp_lines.proofs.Exactly.{longest_more}
 use Rattle.amqp_lines.proofs.Undumps.{never_began}
 
@@ -24,12 +24,8 @@ use Rattle.amqp_lines.proofs.Undumps.{never_began}
 
 words_some : (f : Frame) → 1 ≤ length (words f)
 unfolding words
-words_some (Proto major minor revision) = omega arith
-words_some (Meth channel m) = omega arith
-words_some (Head channel header) = omega arith
-words_some (Body channel content) = omega arith
 words_some Beat = omega arith
-words_some (BadBeat channel) = omega arith
+words_some f = omega arith
 
 line_two : (f : Frame) → 2 ≤ length (line f)
 unfolding line
@@ -43,7 +39,7 @@ lines_two (f ∷ fs) = omega (arith, line_two f, lines_two fs, length-append (li
 line_after : (fs : List Frame) (taken rest : List ℕ) (now : LinePlace) → taken ≡ lines fs ++ rest → PassesLines fs first_line now
     → length taken ≤ last → IsLineAfter fs now.line now.place
 line_after fs taken rest now parts passes fits =
-    let size = ap length parts ∙ length-append (lines fs) rest in
+    let size = ap length parts ∙ length-append _ rest in
     let few = lines_two fs in
     record {
       line_is = omega (arith, passes.line (omega (arith, size, few, fits)));
@@ -72,33 +68,26 @@ module _ {call : Call Supply Store} {now : LinePlace} where
 
   ends_exactly : (error : UndumpError) → Decides call now (Err error) → (bytes : List ℕ) → call.source.old.left ≡ Some bytes
       → length bytes ≤ last → EndsExactlyAt call.limit bytes error now.line now.place
-  ends_exactly errors.BadText d bytes left fits =
-      let is = left_of bytes d.taken call.source.new.left (taken_of left d.takes) in
-      record {
+  ends_exactly error d bytes left fits = by_error error d (left_of bytes d.taken call.source.new.left (taken_of left d.takes))
+    where
+      after : {error : UndumpError} (d : Decides call now (Err error)) → Left bytes d.taken call.source.new.left → IsLineAfter d.frames now.line now.place
+      after d is = line_after d.frames d.taken d.rest now d.parts d.passes (omega (arith, fits, ap length is.parts, length-append d.taken is.more))
+
+      by_error : (error : UndumpError) (d : Decides call now (Err error)) → Left bytes d.taken call.source.new.left
+          → EndsExactlyAt call.limit bytes error now.line now.place
+      by_error errors.BadText d is = record {
         frames = d.frames;
         rest = d.rest ++ is.more;
-        text =
-            subst (λ (xs : List ℕ). IsLongestText call.limit xs d.frames (d.rest ++ is.more)) (sym is.parts)
-            (longest_more call.limit d.taken is.more d.frames d.rest d.cause d.decided);
-        line_after =
-            line_after d.frames d.taken d.rest now d.parts d.passes (omega (arith, fits, ap length is.parts, length-append d.taken is.more));
+        text = rw is.parts (longest_more call.limit d.taken is.more d.frames d.rest d.cause d.decided);
+        line_after = after d is;
       }
-  ends_exactly errors.CutShort d bytes left fits =
-      let is = left_of bytes d.taken call.source.new.left (taken_of left d.takes) in
-      let none = empty_left call.source.new.left is.more is.is d.cause.2 in
-      record {
+      by_error errors.CutShort d is = record {
         frames = d.frames;
         rest = d.rest;
-        text =
-            subst (λ (xs : List ℕ). IsLongestText call.limit xs d.frames d.rest)
-            (sym (is.parts ∙ ap (λ (xs : List ℕ). d.taken ++ xs) none ∙ append-nil d.taken)) d.decided;
-        line_after =
-            line_after d.frames d.taken d.rest now d.parts d.passes (omega (arith, fits, ap length is.parts, length-append d.taken is.more));
+        text = rw (is.parts, empty_left call.source.new.left is.more is.is d.cause.2, append-nil) d.decided;
+        line_after = after d is;
       }
-  ends_exactly errors.TurnsSpent d bytes left fits = tt
-  ends_exactly errors.ReadFault d bytes left fits = tt
-  ends_exactly errors.WriteFault d bytes left fits = tt
-  ends_exactly errors.NoMemory d bytes left fits = tt
+      by_error error d is = tt
 
 -- ---- by the result
 
@@ -107,30 +96,22 @@ pub reported : {call : Call Supply Store} {now : LinePlace} {answer : Result (Un
     → unreported_lines r ≡ answer → IfErr r (λ report. report.line ≡ now.line) → IfErr r (λ report. report.place ≡ now.place)
     → Decides call now answer → IfErr r (IsUndumpReport call)
 reported (Ok done) is number place d = tt
-reported {call = call} {now = now} (Err report) is number place d =
-    let h = subst (λ (r : Result (Unit {0}) UndumpError). Decides call now r) (sym is) d in
+reported (Err report) is number place d =
+    let h = rw (← is) at d in
     record {
-      ends =
-          subst (λ (n : ℕ). EndsAtLine call report.error report.line n) (sym place)
-          (subst (λ (n : ℕ). EndsAtLine call report.error n now.place) (sym number) (ends_at_line report.error h));
-      exact = λ bytes left fits.
-          subst (λ (n : ℕ). EndsExactlyAt call.limit bytes report.error report.line n) (sym place)
-          (subst (λ (n : ℕ). EndsExactlyAt call.limit bytes report.error n now.place) (sym number) (ends_exactly report.error h bytes left fits));
+      ends = rw (number, place) (ends_at_line report.error h);
+      exact = λ bytes left fits. rw (number, place) (ends_exactly report.error h bytes left fits);
     }
 
 -- the result without where it ended
 pub unreported : {S K : Type 0} {supply : S → Supply} {store : K → Store} {call : Call S K}
     {answer : Result (Unit {0}) UndumpError} (r : Result (Unit {0}) UndumpReport) → unreported_lines r ≡ answer
     → UndumpRun supply store call answer → UndumpRun supply store call (unreported_lines r)
-unreported {supply = supply} {store = store} {call = call} r is h =
-    subst (λ (x : Result (Unit {0}) UndumpError). UndumpRun supply store call x) (sym is) h
+unreported r is h = rw is h
 
 -- a call that memory did not let begin
 pub never_reported : (m budget : ℕ) (source : Supply) (sink : Store) {first : LinePlace} (r : Result (Unit {0}) UndumpReport)
     → first ≡ first_line → unreported_lines r ≡ Err errors.NoMemory
     → IfErr r (λ report. report.line ≡ first.line) → IfErr r (λ report. report.place ≡ first.place)
     → IfErr r (IsUndumpReport (call_of m budget (source ⇒ source) (sink ⇒ sink)))
-never_reported m budget source sink r first_is is number place =
-    reported r is number place
-    (subst (λ (p : LinePlace). Decides (call_of m budget (source ⇒ source) (sink ⇒ sink)) p (Err errors.NoMemory)) (sym first_is)
-    (never_began m budget source sink))
+never_reported m budget source sink r first_is is number place = reported r is number place (rw first_is (never_began m budget source sink))

@@ -1,19 +1,17 @@
 -- Equal lines are those of equal frames, and equal texts those of equal sequences.
-use Rattle.std.proofs.Common.{◌≡◌, ◌≢◌, ℕ, List, [], ◌∷◌, ◌++◌, length, take, refl, sym, ap, ap₂, subst, ◌∙◌, append_assoc, arith}
-use Rattle.std.specs.Prelude.{codes, None}
-use Rattle.std.specs.List.{AllByRecursion, flat_map}
+use Rattle.std.proofs.Common.{◌≡◌, ◌≢◌, ℕ, List, [], ◌∷◌, ◌++◌, length, take, refl, sym, ap, subst, ◌∙◌, append_assoc, arith}
+use Rattle.std.specs.Prelude.{None}
+use Rattle.std.specs.List.{AllByRecursion}
 use Rattle.std.proofs.lemmas.List.{length-append, take_at}
 use Rattle.amqp_types.specs.Levels.{strict}
 use Rattle.amqp_types.specs.Judging.{IsBytes}
-use Rattle.amqp_types.specs.Methods.{payload_bytes}
-use Rattle.amqp_types.specs.ContentHeaders.{content_header_bytes}
-use Rattle.amqp_types.specs.MethodSpelling.{SpellsPayload}
 use Rattle.amqp_types.specs.ContentHeaders.{SpellsContentHeader}
+use Rattle.amqp_types.specs.MethodSpelling.{SpellsPayload}
 use Rattle.amqp_types.proofs.Took.{value_took}
 use Rattle.amqp_laws.proofs.MethodLaws.{payloads_lawful}
 use Rattle.amqp_laws.proofs.HeaderLaws.{content_headers_lawful}
 use Rattle.amqp_wire.specs.Frames.{Frame, Proto, Meth, Head, Body, Beat, BadBeat, channel_id_of}
-use Rattle.amqp_wire.specs.Spelling.{Spells, framed, head, raw_bytes}
+use Rattle.amqp_wire.specs.Spelling.{Spells, raw_bytes}
 use Rattle.amqp_wire.specs.Canonical.{canon, payload_of}
 use Rattle.amqp_wire.specs.Verdicts.{judge_frame}
 use Rattle.amqp_wire.proofs.Spelled.{verdict-spelled}
@@ -21,27 +19,20 @@ use Rattle.amqp_lines.specs.Lines.{words, line, lines}
 use Rattle.amqp_lines.specs.Payloads.{IsPayload}
 use Rattle.amqp_lines.specs.Laws.{IsStrict}
 use Rattle.amqp_lines.specs.Reading.{read_words}
-use Rattle.amqp_lines.proofs.ReadWords.{bytes_behind, bytes_front}
+use Rattle.amqp_lines.proofs.ReadWords.{bytes_front}
 use Rattle.amqp_lines.proofs.ReadLines.{IsNumbered, kind_of, words_back}
 use Rattle.amqp_lines.proofs.Newlines.{one_newline}
+use Rattle.amqp_types.proofs.Bytes.{IsBytes-drop}
 
 -- ---- what a frame is that its canonical bytes encode strictly
 
-framed_payload : (type channel : ℕ) (payload : List ℕ) → IsBytes (framed type channel payload) → IsBytes payload
-framed_payload type channel payload fits =
-    let front = head type channel (length payload) in
-    bytes_front payload (206 ∷ []) (payload ++ 206 ∷ []) refl (bytes_behind front (payload ++ 206 ∷ []) (framed type channel payload) refl fits)
-
 payload_fits : (f : Frame) → IsBytes (canon f) → IsBytes (payload_of f)
 unfolding canon
-payload_fits (Proto a b c) fits = bytes_behind (65 ∷ 77 ∷ 81 ∷ 80 ∷ 0 ∷ []) (a ∷ b ∷ c ∷ []) _ refl fits
-payload_fits (Meth channel m) fits = framed_payload 1 channel (payload_bytes m) fits
-payload_fits (Head channel header) fits = framed_payload 2 channel (content_header_bytes header) fits
-payload_fits (Body channel content) fits = framed_payload 3 channel content fits
-payload_fits Beat fits = framed_payload 8 0 [] fits
-payload_fits (BadBeat channel) fits = framed_payload 8 channel [] fits
+payload_fits (Proto a b c) fits = IsBytes-drop 5 (canon (Proto a b c)) fits
+payload_fits f fits = bytes_front (payload_of f) (206 ∷ []) (payload_of f ++ 206 ∷ []) refl (IsBytes-drop 7 (canon f) fits)
 
-payload_is : (f : Frame) → Spells strict (canon f) f → IsPayload (payload_of f) f
+-- The canonical payload of a frame that its canonical bytes encode strictly encodes it strictly.
+pub payload_is : (f : Frame) → Spells strict (canon f) f → IsPayload (payload_of f) f
 payload_is (Proto a b c) h = refl
 payload_is (Meth channel m) h =
     let P : List ℕ → Type 0 = λ bs. SpellsPayload strict bs m in
@@ -49,9 +40,7 @@ payload_is (Meth channel m) h =
 payload_is (Head channel header) h =
     let P : List ℕ → Type 0 = λ bs. SpellsContentHeader strict bs header in
     subst P (content_headers_lawful.strict_is_canonical h.payload header h.spelled) h.spelled
-payload_is (Body channel content) h = refl
-payload_is Beat h = refl
-payload_is (BadBeat channel) h = refl
+payload_is f h = refl
 
 numbers_fit : (f : Frame) → IsBytes (canon f) → Spells strict (canon f) f → IsNumbered f
 unfolding canon
@@ -66,49 +55,38 @@ numbers_fit (BadBeat channel) fits h = (h.0, h.1.is_framed.channel_fits)
 pub raw_canon : (f : Frame) → raw_bytes (record { kind = kind_of f; channel = channel_id_of f; payload = payload_of f }) ≡ canon f
 unfolding canon
 raw_canon (Proto a b c) = refl
-raw_canon (Meth channel m) = refl
-raw_canon (Head channel header) = refl
-raw_canon (Body channel content) = refl
-raw_canon Beat = refl
-raw_canon (BadBeat channel) = refl
+raw_canon f = refl
 
 -- what is read of its words
 pub strict_back : (f : Frame) → IsStrict f → read_words (words f) ≡ record { kind = kind_of f; channel = channel_id_of f; payload = payload_of f }
-strict_back f h = words_back f (payload_of f) (payload_fits f h.are_bytes) (payload_is f h.encodes) (numbers_fit f h.are_bytes h.encodes)
+strict_back f h = words_back f _ (payload_fits f h.are_bytes) (payload_is f h.encodes) (numbers_fit f h.are_bytes h.encodes)
 
 -- ---- one frame
 
 same_words : (f g : Frame) → IsStrict f → IsStrict g → words f ≡ words g → f ≡ g
 same_words f g p q h =
-    let bytes : canon f ≡ canon g = sym (raw_canon f) ∙ ap raw_bytes (sym (strict_back f p) ∙ ap read_words h ∙ strict_back g q) ∙ raw_canon g in
-    value_took f g (length (canon f)) (length (canon g))
-    (sym (verdict-spelled strict None (canon f) f p.encodes tt) ∙ ap (judge_frame strict None) bytes ∙ verdict-spelled strict None (canon g) g q.encodes tt)
+    let bytes : canon f ≡ canon g = cc (raw_canon f, strict_back f p, h, strict_back g q, raw_canon g) in
+    value_took f g _ _
+    (sym (verdict-spelled strict None _ f p.encodes tt) ∙ ap (judge_frame strict None) bytes ∙ verdict-spelled strict None _ g q.encodes tt)
 
 same_front : (a b end : List ℕ) → a ++ end ≡ b ++ end → a ≡ b
 same_front a b end h =
     let count : length a ≡ length b = omega (arith, ap length h, length-append a end, length-append b end) in
-    sym (take_at a end (length b) count) ∙ ap (take (length b)) h ∙ take_at b end (length b) refl
+    sym (take_at a end _ count) ∙ ap (take _) h ∙ take_at b end _ refl
 
 -- Strict frames with equal lines are equal.
 pub same_frame : (f g : Frame) → IsStrict f → IsStrict g → line f ≡ line g → f ≡ g
 unfolding line
-same_frame f g p q h = same_words f g p q (same_front (words f) (words g) (codes "\n") h)
+same_frame f g p q h = same_words f g p q (same_front (words f) (words g) _ h)
 
 -- ---- sequences
 
--- Lists that are equal have equal first items and equal rests.
-pub head_same : (x y : ℕ) (xs ys : List ℕ) → x ∷ xs ≡ y ∷ ys → (x ≡ y) × (xs ≡ ys)
-head_same x y xs ys h = (cc, cc)
-
 -- where newlines end the fronts, these are the same
 pub newline_once : (a b x y : List ℕ) → AllByRecursion (λ c. c ≢ 10) a → AllByRecursion (λ c. c ≢ 10) b → a ++ (10 ∷ x) ≡ b ++ (10 ∷ y) → (a ≡ b) × (x ≡ y)
-newline_once [] [] x y p q h = (refl, (head_same 10 10 x y h).1)
-newline_once [] (c ∷ cs) x y p q h = absurd (q.0 (sym (head_same 10 c x (cs ++ (10 ∷ y)) h).0))
-newline_once (c ∷ cs) [] x y p q h = absurd (p.0 (head_same c 10 (cs ++ (10 ∷ x)) y h).0)
-newline_once (c ∷ cs) (d ∷ ds) x y p q h =
-    let e = head_same c d (cs ++ (10 ∷ x)) (ds ++ (10 ∷ y)) h in
-    let r = newline_once cs ds x y p.1 q.1 e.1 in
-    (ap₂ (λ (z : ℕ) (zs : List ℕ). z ∷ zs) e.0 r.0, r.1)
+newline_once [] [] x y p q h = (refl, cc)
+newline_once [] (c ∷ cs) x y p q h = absurd (q.0 cc)
+newline_once (c ∷ cs) [] x y p q h = absurd (p.0 cc)
+newline_once (c ∷ cs) (d ∷ ds) x y p q h = let same = newline_once cs ds x y p.1 q.1 cc in (cc (same.0, h), same.1)
 
 -- a line and the text after it
 pub record Split (f g : Frame) (x y : List ℕ) : Type 0 where
@@ -120,10 +98,10 @@ pub split : (f g : Frame) (x y : List ℕ) → line f ++ x ≡ line g ++ y → S
 split f g x y h =
     let a = one_newline f in
     let b = one_newline g in
-    let left : line f ++ x ≡ a.front ++ (10 ∷ x) = ap (λ (xs : List ℕ). xs ++ x) a.parts ∙ append_assoc a.front (10 ∷ []) x in
-    let right : line g ++ y ≡ b.front ++ (10 ∷ y) = ap (λ (xs : List ℕ). xs ++ y) b.parts ∙ append_assoc b.front (10 ∷ []) y in
-    let same = newline_once a.front b.front x y a.none_before b.none_before (sym left ∙ h ∙ right) in
-    record { first = a.parts ∙ ap (λ (xs : List ℕ). xs ++ codes "\n") same.0 ∙ sym b.parts; others = same.1 }
+    let left : line f ++ x ≡ a.front ++ (10 ∷ x) = cc (a.parts, append_assoc a.front (10 ∷ []) x) in
+    let right : line g ++ y ≡ b.front ++ (10 ∷ y) = cc (b.parts, append_assoc b.front (10 ∷ []) y) in
+    let same = newline_once a.front b.front x y a.none_before b.none_before (cc (left, h, right)) in
+    record { first = cc (a.parts, same.0, b.parts); others = same.1 }
 
 -- No line is empty.
 pub line_some : (f : Frame) (x : List ℕ) → [] ≡ line f ++ x → ⊥
@@ -133,8 +111,8 @@ line_some f x h = let a = one_newline f in omega (arith, ap length h, length-app
 pub same_sequence : (fs gs : List Frame) → AllByRecursion IsStrict fs → AllByRecursion IsStrict gs → lines fs ≡ lines gs → fs ≡ gs
 unfolding lines
 same_sequence [] [] p q h = refl
-same_sequence [] (g ∷ gs) p q h = absurd (line_some g (flat_map line gs) h)
-same_sequence (f ∷ fs) [] p q h = absurd (line_some f (flat_map line fs) (sym h))
+same_sequence [] (g ∷ gs) p q h = absurd (line_some g _ h)
+same_sequence (f ∷ fs) [] p q h = absurd (line_some f _ (sym h))
 same_sequence (f ∷ fs) (g ∷ gs) p q h =
-    let s = split f g (flat_map line fs) (flat_map line gs) h in
-    ap₂ (λ (x : Frame) (xs : List Frame). x ∷ xs) (same_frame f g p.0 q.0 s.first) (same_sequence fs gs p.1 q.1 s.others)
+    let s = split f g _ _ h in
+    cc (same_frame f g p.0 q.0 s.first, same_sequence fs gs p.1 q.1 s.others)

@@ -1,11 +1,9 @@
 -- What calls read, step by step.
-use Rattle.std.proofs.Common.{Bor, ◌≡◌, ℕ, zero, suc, ◌+◌, ◌-◌, ◌*◌, ◌%◌, ◌^◌, ◌<◌, ◌≤◌, List, [], ◌∷◌, ◌++◌, length, replicate, get_or, drop, take, map, Bool}
-use Rattle.std.proofs.Common.{true, false, cond, Option, Some, None, Result, Ok, Err, refl, sym, ap, subst, ◌∙◌, append_assoc, append-nil, arith}
-use Rattle.std.specs.Prelude.{◌==◌}
+use Rattle.std.proofs.Common.{Bor, ◌≡◌, ℕ, zero, suc, ◌+◌, ◌-◌, ◌*◌, ◌%◌, ◌^◌, ◌<◌, ◌≤◌, List, [], ◌∷◌, ◌++◌, length, replicate, get_or, drop, map, Bool, true}
+use Rattle.std.proofs.Common.{false, Option, Some, None, Result, Ok, Err, refl, sym, ap, subst, ◌∙◌, append_assoc, append-nil, arith}
 use Rattle.std.proofs.lemmas.List.{length-append, length-replicate, take_at, drop_at}
 use Rattle.amqp_types.specs.Tags.{tag_at}
 use Rattle.amqp_types.specs.Writing.{written}
-use Rattle.amqp_types.proofs.WrittenParts.{written-length}
 use Rattle.amqp_types.specs.declared.tag.FieldTag.{FieldTag}
 use Rattle.amqp_types.specs.declared.errors.NoMemory.{NoMemory}
 use Rattle.amqp_canonical.specs.declared.shapes.Form.{Form}
@@ -20,42 +18,15 @@ use Rattle.amqp_lines.specs.Reading.{read_slots, strip, with_option, read_set, F
 
 -- ---- either way
 
--- Where a test is true, the first of two choices is taken.
-pub chosen : {A : Type 0} (b : Bool) (x y : A) → b ≡ true → cond b x y ≡ x
-chosen true x y h = refl
-chosen false x y h = absurd cc
-
--- Where a test is false, the second of two choices is taken.
-pub other : {A : Type 0} (b : Bool) (x y : A) → b ≡ false → cond b x y ≡ y
-other true x y h = absurd cc
-other false x y h = refl
-
 -- ---- one thing after another
-
--- the same is read
-pub as_read : {K : Type 0} (view : K → List ℕ) (a b : List ℕ × List ℕ) (old new : List ℕ) (r : Result K NoMemory)
-    → a ≡ b → Reads view b old new r → Reads view a old new r
-as_read view a b old new r e h = let P : List ℕ × List ℕ → Type 0 = λ x. Reads view x old new r in subst P (sym e) h
-
--- Where what is read is some bytes and a rest, appending the bytes and leaving the rest is reading it.
-pub reads_so : (read : List ℕ × List ℕ) (old new bytes rest end : List ℕ) → read ≡ (bytes, end)
-    → rest ≡ end → new ≡ old ++ bytes → (rest ≡ read.1) × (new ≡ old ++ read.0)
-reads_so read old new bytes rest end is at h = (at ∙ ap (λ (x : List ℕ × List ℕ). x.1) (sym is), h ∙ ap (λ (x : List ℕ × List ℕ). old ++ x.0) (sym is))
-
--- What is read as one thing is read as an equal one.
-pub so_read : (read same : List ℕ × List ℕ) (old new rest : List ℕ) → read ≡ same
-    → (rest ≡ same.1) × (new ≡ old ++ same.0) → (rest ≡ read.1) × (new ≡ old ++ read.0)
-so_read read same old new rest is h = (h.0 ∙ ap (λ (x : List ℕ × List ℕ). x.1) (sym is), h.1 ∙ ap (λ (x : List ℕ × List ℕ). old ++ x.0) (sym is))
 
 -- What is read next, after so many characters, is appended to what was read.
 pub then_read : {K : Type 0} (view : K → List ℕ) (one : List ℕ × List ℕ) (next : Reader) (skip : ℕ) (old mid new rest text : List ℕ) (r : Result K NoMemory)
     → (rest ≡ one.1) × (mid ≡ old ++ one.0) → text ≡ drop skip rest
     → Reads view (next text) mid new r → Reads view (followed one (λ t. next (drop skip t))) old new r
 then_read view one next skip old mid new rest text (Ok end) h at k =
-    let same : text ≡ drop skip one.1 = at ∙ ap (drop skip) h.0 in (
-      k.0 ∙ ap (λ t. (next t).1) same,
-      k.1 ∙ ap (λ (xs : List ℕ). xs ++ (next text).0) h.1 ∙ append_assoc old one.0 (next text).0 ∙ ap (λ t. old ++ (one.0 ++ (next t).0)) same,
-    )
+    let later = rw (at, h.0, h.1) at k in
+    (later.0, later.1 ∙ append_assoc old one.0 (next _).0)
 then_read view one next skip old mid new rest text (Err error) h at k = tt
 
 -- ---- loops that read on
@@ -65,32 +36,23 @@ pub record ReadsOn (whole left : List ℕ × List ℕ) (old now : List ℕ) : Ty
   pub bytes : now ++ left.0 ≡ old ++ whole.0
   pub rest : left.1 ≡ whole.1
 
-begins : (whole left : List ℕ × List ℕ) (old : List ℕ) → left ≡ whole → ReadsOn whole left old old
-begins whole left old is = record { bytes = ap (λ (x : List ℕ × List ℕ). old ++ x.0) is; rest = ap (λ (x : List ℕ × List ℕ). x.1) is }
-
 -- With one thing read and appended, what is read from the text after it gives the rest of the whole.
 pub goes_on : (whole left one : List ℕ × List ℕ) (next : Reader) (old now mid rest : List ℕ) → ReadsOn whole left old now
     → left ≡ followed one next → (rest ≡ one.1) × (mid ≡ now ++ one.0) → ReadsOn whole (next rest) old mid
-goes_on whole left one next old now mid rest h is step = record {
-  bytes =
-      ap (λ (xs : List ℕ). xs ++ (next rest).0) step.1 ∙ append_assoc now one.0 (next rest).0
-      ∙ ap (λ t. now ++ (one.0 ++ (next t).0)) step.0 ∙ ap (λ (x : List ℕ × List ℕ). now ++ x.0) (sym is) ∙ h.bytes;
-  rest = ap (λ t. (next t).1) step.0 ∙ ap (λ (x : List ℕ × List ℕ). x.1) (sym is) ∙ h.rest;
-}
+goes_on whole left one next old now mid rest h is step =
+    let all = rw is at h in
+    record { bytes = rw (step.1, step.0) (append_assoc now one.0 (next one.1).0 ∙ all.bytes); rest = rw step.0 all.rest }
 
 -- Where what is left reads no bytes more, the whole was read.
 pub stops : (whole left : List ℕ × List ℕ) (old now end rest : List ℕ) → ReadsOn whole left old now
     → left ≡ ([], end) → rest ≡ end → (rest ≡ whole.1) × (now ≡ old ++ whole.0)
-stops whole left old now end rest h is at = (
-  at ∙ ap (λ (x : List ℕ × List ℕ). x.1) (sym is) ∙ h.rest,
-  sym (append-nil now) ∙ ap (λ (x : List ℕ × List ℕ). now ++ x.0) (sym is) ∙ h.bytes,
-)
+stops whole left old now end rest h is at = let all = rw is at h in (at ∙ all.rest, cc (append-nil now, all.bytes))
 
 -- ---- numbers
 
 -- A number that was read, and the text after it, are found there.
 pub found : (read : ℕ × List ℕ) (n : ℕ) (rest : List ℕ) → read ≡ (n, rest) → Finds read n rest
-found read n rest h = (ap (λ (x : ℕ × List ℕ). x.0) (sym h), ap (λ (x : ℕ × List ℕ). x.1) (sym h))
+found read n rest h = rw h (refl, refl)
 
 -- No digits are read of an empty text.
 pub digits_none : (n : ℕ) (rest : List ℕ) → length rest < 1 → read_digits n rest ≡ (n, rest)
@@ -101,50 +63,47 @@ digits_none n (c ∷ cs) h = absurd (omega arith)
 -- No digits are read where the first character is none.
 pub digits_end : (n : ℕ) (rest : List ℕ) → 1 ≤ length rest → is_digit (get_or rest 0 0) ≡ false → read_digits n rest ≡ (n, rest)
 unfolding read_digits
-digits_end n [] some h = absurd (omega arith)
-digits_end n (c ∷ cs) some h = other (is_digit c) _ _ h
+digits_end n [] some h = refl
+digits_end n (c ∷ cs) some h = rw h
 
 -- Where the first character is a digit, the number so far times ten, and the digit, is read on from the text after it.
 pub digits_next : (n m : ℕ) (rest next : List ℕ) → 1 ≤ length rest → is_digit (get_or rest 0 0) ≡ true
     → m ≡ (10 * n + (get_or rest 0 0 - 48)) % 2 ^ 64 → next ≡ drop 1 rest → read_digits n rest ≡ read_digits m next
 unfolding read_digits
 digits_next n m [] next some d is at = absurd (omega arith)
-digits_next n m (c ∷ cs) next some d is at = chosen (is_digit c) _ _ d ∙ ap (λ (k : ℕ). read_digits k cs) (sym is) ∙ ap (read_digits m) (sym at)
+digits_next n m (c ∷ cs) next some d is at = rw (d, is, at)
 
 -- ---- hex and strings
 
 -- Fewer than two characters give no byte in hex.
 pub hex_few : (rest : List ℕ) → length rest < 2 → read_hex rest ≡ ([], rest)
 unfolding read_hex
-hex_few [] h = refl
-hex_few (a ∷ []) h = refl
 hex_few (a ∷ b ∷ cs) h = absurd (omega arith)
+hex_few rest h = refl
 
 -- Two characters of which the first is no hex digit give no byte.
 pub hex_end : (rest : List ℕ) → 2 ≤ length rest → is_hex (get_or rest 0 0) ≡ false → read_hex rest ≡ ([], rest)
 unfolding read_hex
-hex_end [] some h = absurd (omega arith)
-hex_end (a ∷ []) some h = absurd (omega arith)
-hex_end (a ∷ b ∷ cs) some h = other (is_hex a) _ _ h
+hex_end (a ∷ b ∷ cs) some h = rw h
+hex_end rest some h = refl
 
 -- Two characters, of which the first is a hex digit, give a byte, and what follows is read after them.
 pub hex_next : (rest : List ℕ) → 2 ≤ length rest → is_hex (get_or rest 0 0) ≡ true
     → read_hex rest ≡ followed ((16 * nibble (get_or rest 0 0) + nibble (get_or rest 1 0)) ∷ [], drop 2 rest) read_hex
 unfolding read_hex
-hex_next [] some h = absurd (omega arith)
-hex_next (a ∷ []) some h = absurd (omega arith)
-hex_next (a ∷ b ∷ cs) some h = chosen (is_hex a) _ _ h
+hex_next (a ∷ b ∷ cs) some h = rw h
+hex_next rest some h = absurd (omega arith)
 
 -- A backslash and the two digits after it give the byte of the digits.
 pub escape_two : (text : List ℕ) → first_is 92 text ≡ true → read_escaped text ≡ ((16 * nibble (get_or text 1 0) + nibble (get_or text 2 0)) ∷ [], drop 3 text)
 unfolding read_escaped
-escape_two text on = chosen (first_is 92 text) _ _ on
+escape_two text on = rw on
 
 -- A character that is no backslash gives itself as a byte.
 pub escape_itself : (text : List ℕ) → 1 ≤ length text → first_is 92 text ≡ false → read_escaped text ≡ (get_or text 0 0 ∷ [], drop 1 text)
 unfolding read_escaped
 escape_itself [] some off = absurd (omega arith)
-escape_itself (c ∷ cs) some off = other (c == 92) _ _ off
+escape_itself (c ∷ cs) some off = rw off
 
 -- No byte is read of an empty text.
 pub escape_none : (text : List ℕ) → length text < 1 → read_escaped text ≡ ([], text)
@@ -158,7 +117,7 @@ escape_none (c ∷ cs) h = absurd (omega arith)
 pub listed_over : (item : Reader) (close left : ℕ) (text : List ℕ) → ends_at close text ≡ true → listed item close left text ≡ ([], drop 1 text)
 unfolding listed
 listed_over item close zero text h = refl
-listed_over item close (suc left) text h = chosen (ends_at close text) _ _ h
+listed_over item close (suc left) text h = rw h
 
 -- A list ends where no more of it may be read, and one character is passed.
 pub listed_none : (item : Reader) (close left : ℕ) (text : List ℕ) → left ≡ 0 → listed item close left text ≡ ([], drop 1 text)
@@ -171,14 +130,13 @@ pub listed_next : (item : Reader) (close left less : ℕ) (text : List ℕ) → 
     → ends_at close text ≡ false → listed item close left text ≡ followed (item text) (listed item close less)
 unfolding listed
 listed_next item close zero less text some is off = absurd (omega arith)
-listed_next item close (suc left) less text some is off =
-    other (ends_at close text) _ _ off ∙ ap (λ (k : ℕ). followed (item text) (listed item close k)) {x = left} {y = less} (omega (arith, is))
+listed_next item close (suc left) less text some is off = let same : less ≡ left = omega (arith, is) in rw (off, same)
 
 -- Inside of brackets a list is read from after the opening one, at most as many things as the text is long.
 pub inside_begins : (item : Reader) (close left : ℕ) (text rest old : List ℕ) → left ≡ length text
     → rest ≡ drop 1 text → ReadsOn (inside item close text) (listed item close left rest) old old
 unfolding inside
-inside_begins item close left text rest old is at = begins _ _ old (ap (λ (k : ℕ). listed item close k rest) is ∙ ap (listed item close (length text)) at)
+inside_begins item close left text rest old is at = rw (is, at) (record { bytes = refl; rest = refl })
 
 -- ---- lengths
 
@@ -186,73 +144,46 @@ put_at : (before zeros content new bytes : List ℕ) (place : ℕ) → place ≡
     → new ≡ written (before ++ (zeros ++ content)) place bytes → new ≡ before ++ (bytes ++ content)
 unfolding written
 put_at before zeros content new bytes place at size h =
-    let tail : drop (place + length bytes) (before ++ (zeros ++ content)) ≡ content =
+    let tail =
     ap (drop (place + length bytes)) (sym (append_assoc before zeros content))
-    ∙ drop_at (before ++ zeros) content (place + length bytes) (omega (arith, length-append before zeros)) in
-    h ∙ ap (λ (xs : List ℕ). xs ++ (bytes ++ drop (place + length bytes) (before ++ (zeros ++ content)))) (take_at before (zeros ++ content) place (sym at))
-    ∙ ap (λ (ys : List ℕ). before ++ (bytes ++ ys)) tail
-
--- bytes that were put within a vector
-pub put_whole : (old new bytes : List ℕ) (len place : ℕ) → place + length bytes ≤ length old → len ≡ length old
-    → new ≡ written old place bytes → take len (new ++ drop (length new) old) ≡ written old place bytes
-put_whole old new bytes len place room all put = take_at new (drop (length new) old) len (ap length put ∙ written-length old place bytes room ∙ sym all) ∙ put
+    ∙ drop_at _ content (place + length bytes) (omega (arith, length-append before zeros)) in
+    cc (h, take_at before (zeros ++ content) place (sym at), tail)
 
 -- so many bytes of a number are as many
 last_count : (count n : ℕ) → count ≤ 8 → length (last_bytes count n) ≡ count
-last_count zero n h = refl
-last_count (suc zero) n h = refl
-last_count (suc (suc zero)) n h = refl
-last_count (suc (suc (suc zero))) n h = refl
-last_count (suc (suc (suc (suc zero)))) n h = refl
-last_count (suc (suc (suc (suc (suc zero))))) n h = refl
-last_count (suc (suc (suc (suc (suc (suc zero)))))) n h = refl
-last_count (suc (suc (suc (suc (suc (suc (suc zero))))))) n h = refl
-last_count (suc (suc (suc (suc (suc (suc (suc (suc zero)))))))) n h = refl
 last_count (suc (suc (suc (suc (suc (suc (suc (suc (suc count))))))))) n h = absurd (omega (arith, h))
+last_count count n h = refl
 
--- what was kept in front of what was read
-record Keeps (width place : ℕ) (old a b content : List ℕ) : Type 0 where
-  few : width ≤ 8
-  zeros : a ≡ old ++ replicate width 0
-  at : place ≡ length old
-  read : b ≡ a ++ content
-
-kept_parts : (width place : ℕ) (old a b content : List ℕ) → Keeps width place old a b content → b ≡ old ++ (replicate width 0 ++ content)
-kept_parts width place old a b content h = h.read ∙ ap (λ (xs : List ℕ). xs ++ content) h.zeros ∙ append_assoc old (replicate width 0) content
-
-kept_count : (width place : ℕ) (old a b content : List ℕ) → Keeps width place old a b content → length b ≡ (place + width) + length content
-kept_count width place old a b content h =
-    omega (
-      arith,
-      ap length (kept_parts width place old a b content h),
-      length-append old (replicate width 0 ++ content),
-      length-append (replicate width 0) content,
-      length-replicate width zero,
-      h.at,
-    )
-
-kept_put : (width place n : ℕ) (old a b content new : List ℕ) → Keeps width place old a b content
-    → new ≡ written b place (last_bytes width n) → new ≡ old ++ (last_bytes width n ++ content)
-kept_put width place n old a b content new h put =
-    put_at old (replicate width 0) content new (last_bytes width n) place h.at (length-replicate width zero ∙ sym (last_count width n h.few))
-    (put ∙ ap (λ (xs : List ℕ). written xs place (last_bytes width n)) (kept_parts width place old a b content h))
+-- so many bytes of a number are written in the place of those that were kept in front of what was read
+kept_put : (width place n : ℕ) (old a b content new : List ℕ) → width ≤ 8 → place ≡ length old → a ≡ old ++ replicate width 0
+    → b ≡ a ++ content → new ≡ written b place (last_bytes width n) → new ≡ old ++ (last_bytes width n ++ content)
+kept_put width place n old a b content new few at zeros read put =
+    put_at old (replicate width 0) content new (last_bytes width n) place at (length-replicate width zero ∙ sym (last_count width n few))
+    (rw (read, zeros, append_assoc) at put)
 
 -- Bytes that are read into a buffer after room for their length are read with their length in front, once this is written there.
 pub framed_read : (width place : ℕ) (read : List ℕ × List ℕ) (old a b new rest : List ℕ) → width ≤ 8 → place ≡ length old
     → a ≡ old ++ replicate width 0 → (rest ≡ read.1) × (b ≡ a ++ read.0) → new ≡ written b place (last_bytes width (length b - (place + width)))
     → (rest ≡ (framed width read).1) × (new ≡ old ++ (framed width read).0)
 framed_read width place read old a b new rest few at zeros h put =
-    let kept : Keeps width place old a b read.0 = record { few = few; zeros = zeros; at = at; read = h.1 } in
-    let size : length b - (place + width) ≡ length read.0 = omega (arith, kept_count width place old a b read.0 kept) in
-    (h.0, kept_put width place (length read.0) old a b read.0 new kept (put ∙ ap (λ (n : ℕ). written b place (last_bytes width n)) size))
+    let size : length b - (place + width) ≡ length read.0 =
+    omega (
+      arith,
+      at,
+      ap length h.1,
+      length-append a read.0,
+      ap length zeros,
+      length-append old (replicate width 0),
+      length-replicate width zero,
+    ) in
+    (h.0, kept_put width place _ old a b read.0 new few at zeros h.1 (rw size at put))
 
 -- Properties that are read into a buffer after room for their mask are read with their mask in front, once this is written there.
 pub properties_read : (place n : ℕ) (set : ℕ × (List ℕ × List ℕ)) (old a b new rest : List ℕ)
     → place ≡ length old → a ≡ old ++ replicate 2 0 → (n ≡ set.0) × (rest ≡ set.1.1) × (b ≡ a ++ set.1.0)
     → new ≡ written b place (last_bytes 2 n) → (rest ≡ set.1.1) × (new ≡ old ++ (last_bytes 2 set.0 ++ set.1.0))
 properties_read place n set old a b new rest at zeros h put =
-    let kept : Keeps 2 place old a b set.1.0 = record { few = omega arith; zeros = zeros; at = at; read = h.2 } in
-    (h.1, kept_put 2 place n old a b set.1.0 new kept put ∙ ap (λ (k : ℕ). old ++ (last_bytes 2 k ++ set.1.0)) h.0)
+    (h.1, kept_put 2 place set.0 old a b set.1.0 new (omega arith) at zeros h.2 (rw h.0 at put))
 
 -- ---- values
 
@@ -271,18 +202,15 @@ value_at room (c ∷ cs) some = refl
 -- a letter that is not a tag
 pub value_alone : (room : ℕ) (text old mid next : List ℕ) → 1 ≤ length text → tag_at (get_or text 0 0) ≡ None
     → mid ≡ old ++ get_or text 0 0 ∷ [] → next ≡ drop 1 text → (next ≡ (read_value room text).1) × (mid ≡ old ++ (read_value room text).0)
-value_alone room text old mid next some is pushed at =
-    let letter = get_or text 0 0 ∷ [] in
-    reads_so (read_value room text) old mid letter next (drop 1 text)
-    (value_at room text some ∙ ap (λ t. followed (letter, drop 1 text) (read_after (read_lists room) t)) is) at pushed
+value_alone room text old mid next some is pushed at = rw (value_at room text some, is) (at, pushed)
 
 -- A tag and what is read after it are read as a value.
 pub value_read : {K : Type 0} (view : K → List ℕ) (room : ℕ) (text old mid new next : List ℕ) (o : Option FieldTag) (r : Result K NoMemory)
     → 1 ≤ length text → tag_at (get_or text 0 0) ≡ o → mid ≡ old ++ get_or text 0 0 ∷ [] → next ≡ drop 1 text
     → Reads view (read_after (read_lists room) o next) mid new r → Reads view (read_value room text) old new r
 value_read view room text old mid new next o r some is pushed at h =
-    as_read view _ _ old new r (value_at room text some ∙ ap (λ t. followed (get_or text 0 0 ∷ [], drop 1 text) (read_after (read_lists room) t)) is)
-    (then_read view (get_or text 0 0 ∷ [], drop 1 text) (read_after (read_lists room) o) 0 old mid new (drop 1 text) next r (refl, pushed) at h)
+    rw (value_at room text some, is)
+    (then_read view (get_or text 0 0 ∷ [], drop 1 text) (read_after (read_lists room) o) 0 old mid new _ next r (refl, pushed) at h)
 
 -- Where no room for nesting is left, no list is read.
 pub lists_none : (room : ℕ) (keyed : Bool) (text : List ℕ) → room ≡ 0 → read_lists room keyed text ≡ ([], text)
@@ -295,13 +223,12 @@ pub lists_some : (room : ℕ) (keyed : Bool) (text : List ℕ) → 0 < room
     → read_lists room keyed text ≡ framed 4 (inside (or_comma (read_item (read_value (room - 1)) keyed)) (closing keyed) text)
 unfolding read_lists read_list read_value
 lists_some zero keyed text h = absurd (omega arith)
-lists_some (suc room) keyed text h =
-    ap (λ (k : ℕ). framed 4 (inside (or_comma (read_item (read_tagged (read_lists k)) keyed)) (closing keyed) text)) {x = room} {y = suc room - 1} (omega arith)
+lists_some (suc room) keyed text h = let same : suc room - 1 ≡ room = omega arith in rw same
 
 -- Where no comma comes, the next thing is read.
 pub no_comma : (item : Reader) (text : List ℕ) → first_is 44 text ≡ false → or_comma item text ≡ item text
 unfolding or_comma
-no_comma item text off = other (first_is 44 text) _ _ off
+no_comma item text off = rw off
 
 -- ---- fields
 
@@ -311,13 +238,13 @@ pub constant_read : (slot : Slot) (form : Form) (constant : Bor (List ℕ)) (res
 unfolding read_slot
 constant_read slot form constant rest old new is there h =
     let P : Slot → Type 0 = λ s. has_constant s ≡ true → (rest ≡ (read_slot (slot_of s) rest).1) × (new ≡ old ++ (read_slot (slot_of s) rest).0) in
-    subst P (sym is) (λ has. (refl, h ∙ ap (λ (bs : List ℕ). old ++ bs) (sym (constant_put (form_of form) constant.now has)))) there
+    subst P (sym is) (λ has. (refl, cc (h, constant_put (form_of form) constant.now has))) there
 
 -- A kept field is read as its form is, after the space in front of it.
 pub kept_is : (slot : Slot) (form : Form) (text next : List ℕ) → slot ≡ slots.Kept form
     → next ≡ drop 1 text → read_slot (slot_of slot) text ≡ read_form (form_of form) next
 unfolding read_slot
-kept_is slot form text next is at = ap (λ s. read_slot (slot_of s) text) is ∙ ap (read_form (form_of form)) (sym at)
+kept_is slot form text next is at = rw (is, at)
 
 -- No fields are read where there are no more.
 pub slots_none : (shapes : List Slot) (text : List ℕ) → length shapes < 1 → read_slots (slots_of shapes) text ≡ ([], text)
@@ -339,7 +266,7 @@ pub bit_next : (bit below : ℕ) → 0 < bit → below ≡ 2 ^ (bit - 1) % 2 ^ 1
 bit_next zero below some h = absurd (omega arith)
 bit_next (suc n) below some h =
     let two : 2 ^ suc n ≡ 2 * 2 ^ n = grind arith in
-    let is : below ≡ 2 ^ n % 2 ^ 16 = h ∙ ap (λ (k : ℕ). 2 ^ k % 2 ^ 16) {x = suc n - 1} {y = n} (omega arith) in
+    let is = h ∙ ap (λ k. 2 ^ k % 2 ^ 16) {x = suc n - 1} {y = n} (omega arith) in
     omega (arith, two, is)
 
 -- No properties are read where there are no more.
@@ -355,37 +282,24 @@ set_at : (shapes : List (ℕ × Form)) (none : ℕ × Form) (text next name : Li
     → read_set (map property_of shapes) text ≡ with_option (property_of shape) (read_set (map property_of (drop 1 shapes))) text (strip name next))
 unfolding read_set
 set_at [] none text next name some at is = absurd (omega arith)
-set_at (shape ∷ shapes) none text next name some at is =
-    ap (λ (t : List ℕ). with_option (property_of shape) (read_set (map property_of shapes)) text (strip (property_name shape.0) t)) (sym at)
-    ∙ ap (λ (n : List ℕ). with_option (property_of shape) (read_set (map property_of shapes)) text (strip n next)) (sym is)
+set_at (shape ∷ shapes) none text next name some at is = rw (at, is)
 
--- no property of this name
-pub set_other : {K : Type 0} (view : K → List ℕ) (shapes : List (ℕ × Form)) (none : ℕ × Form) (text next name old new : List ℕ) (r : Result (ℕ × K) NoMemory)
-    → 1 ≤ length shapes → next ≡ drop 1 text → name ≡ property_name (get_or shapes 0 none).0 → strip name next ≡ None
-    → ReadsSet view (read_set (map property_of (drop 1 shapes)) text) old new r → ReadsSet view (read_set (map property_of shapes) text) old new r
-set_other view shapes none text next name old new r some at is absent h =
-    let P : ℕ × (List ℕ × List ℕ) → Type 0 = λ x. ReadsSet view x old new r in
-    subst P
-    (sym (set_at shapes none text next name some at is
-    ∙ ap (with_option (property_of (get_or shapes 0 none)) (read_set (map property_of (drop 1 shapes))) text) absent)) h
+module _ (shapes : List (ℕ × Form)) (none : ℕ × Form) (text next name : List ℕ)
+    (some : 1 ≤ length shapes) (at : next ≡ drop 1 text) (is : name ≡ property_name (get_or shapes 0 none).0) where
+  -- no property of this name
+  pub set_other : {K : Type 0} (view : K → List ℕ) (old new : List ℕ) (r : Result (ℕ × K) NoMemory) → strip name next ≡ None
+      → ReadsSet view (read_set (map property_of (drop 1 shapes)) text) old new r → ReadsSet view (read_set (map property_of shapes) text) old new r
+  set_other view old new r absent h = rw (set_at shapes none text next name some at is, absent) h
 
--- a property, and the others
-pub set_read : (shapes : List (ℕ × Form)) (none : ℕ × Form) (text next name after start rest end old mid new : List ℕ) (bit mask sum : ℕ)
-    → (let shape = get_or shapes 0 none in let x = read_form (form_of shape.1) start in let others = read_set (map property_of (drop 1 shapes)) rest in
-    1 ≤ length shapes → next ≡ drop 1 text → name ≡ property_name shape.0 → strip name next ≡ Some after → start ≡ drop 1 after
-    → (rest ≡ x.1) × (mid ≡ old ++ x.0) → (mask ≡ others.0) × (end ≡ others.1.1) × (new ≡ mid ++ others.1.0)
-    → bit ≡ 2 ^ shape.0 % 2 ^ 16 → sum ≡ (bit + mask) % 2 ^ 16
-    → (let all = read_set (map property_of shapes) text in (sum ≡ all.0) × (end ≡ all.1.1) × (new ≡ old ++ all.1.0)))
-set_read shapes none text next name after start rest end old mid new bit mask sum some at is found from first others worth total =
-    let shape = get_or shapes 0 none in
-    let read = read_set (map property_of (drop 1 shapes)) in
-    let all = set_at shapes none text next name some at is ∙ ap (with_option (property_of shape) read text) found in
-    let x = ap (read_form (form_of shape.1)) from in
-    let here = first.0 ∙ ap (λ (p : List ℕ × List ℕ). p.1) x in (
-      total ∙ ap (λ (k : ℕ). (k + mask) % 2 ^ 16) worth ∙ ap (λ (k : ℕ). (2 ^ shape.0 % 2 ^ 16 + k) % 2 ^ 16) (others.0 ∙ ap (λ t. (read t).0) here)
-          ∙ ap (λ (s : ℕ × (List ℕ × List ℕ)). s.0) (sym all),
-      others.1 ∙ ap (λ t. (read t).1.1) here ∙ ap (λ (s : ℕ × (List ℕ × List ℕ)). s.1.1) (sym all),
-      others.2 ∙ ap (λ (xs : List ℕ). xs ++ (read rest).1.0) (first.1 ∙ ap (λ (p : List ℕ × List ℕ). old ++ p.0) x)
-          ∙ append_assoc old (read_form (form_of shape.1) (drop 1 after)).0 (read rest).1.0
-          ∙ ap (λ t. old ++ ((read_form (form_of shape.1) (drop 1 after)).0 ++ (read t).1.0)) here ∙ ap (λ (s : ℕ × (List ℕ × List ℕ)). old ++ s.1.0) (sym all),
-    )
+  -- a property, and the others
+  pub set_read : (after start rest end old mid new : List ℕ) (bit mask sum : ℕ)
+      → (let x = read_form (form_of (get_or shapes 0 none).1) start in let others = read_set (map property_of (drop 1 shapes)) rest in
+      strip name next ≡ Some after → start ≡ drop 1 after
+      → (rest ≡ x.1) × (mid ≡ old ++ x.0) → (mask ≡ others.0) × (end ≡ others.1.1) × (new ≡ mid ++ others.1.0)
+      → bit ≡ 2 ^ (get_or shapes 0 none).0 % 2 ^ 16 → sum ≡ (bit + mask) % 2 ^ 16
+      → (let all = read_set (map property_of shapes) text in (sum ≡ all.0) × (end ≡ all.1.1) × (new ≡ old ++ all.1.0)))
+  set_read after start rest end old mid new bit mask sum found from first others worth total =
+      let here = rw from at first in
+      let later = rw here.0 at others in
+      rw (set_at shapes none text next name some at is, found)
+      (rw (total, worth, later.0), later.1, rw (later.2, here.1) (append_assoc old (read_form (form_of (get_or shapes 0 none).1) (drop 1 after)).0 _))

@@ -1,24 +1,19 @@
 -- What calls write of the canonical bytes of values, step by step.
-use Rattle.std.proofs.Common.{◌≡◌, ℕ, ℤ, zero, suc, ◌+◌, ◌-◌, ◌<◌, List, [], ◌∷◌, ◌++◌, length, get_or, drop, map, Some, None, Result, Ok, Err, refl, sym, ap}
-use Rattle.std.proofs.Common.{subst, ◌∙◌, append_assoc, append-nil, arith, inl}
+use Rattle.std.proofs.Common.{◌≡◌, ℕ, zero, suc, ◌+◌, ◌-◌, ◌<◌, List, [], ◌∷◌, ◌++◌, length, get_or, drop, map, Some, None, Result, Ok, Err, refl, sym, ap, ◌∙◌}
+use Rattle.std.proofs.Common.{append_assoc, append-nil, arith, inl}
 use Rattle.std.specs.Prelude.{codes}
 use Rattle.std.specs.Fmt.{decimal, signed_decimal}
 use Rattle.std.proofs.lemmas.List.{length-append, take_at, drop_at}
-use Rattle.amqp_types.specs.Levels.{plain, strict}
-use Rattle.amqp_types.specs.Judging.{Judged, Judge, IsExact, took, past, fault, ◌>>=◌}
+use Rattle.amqp_types.specs.Levels.{strict}
+use Rattle.amqp_types.specs.Judging.{Judged, Judge, IsExact, took, ◌>>=◌}
 use Rattle.amqp_types.specs.Sequences.{judge_map}
-use Rattle.amqp_types.specs.Numbers.{NumberWidth, bytes1, bytes2, bytes4, bytes8, judge_number, SpellsNumber}
-use Rattle.amqp_types.specs.Signed.{judge_signed, SpellsSigned}
-use Rattle.amqp_types.specs.Booleans.{judge_boolean, SpellsBoolean}
+use Rattle.amqp_types.specs.Numbers.{bytes1}
 use Rattle.amqp_types.specs.Strings.{judge_long_string, SpellsShortString, SpellsLongString}
-use Rattle.amqp_types.specs.Values.{FieldValue, Entry, short_short_int, short_int, long_int, long_long_int, short_short_uint, short_uint, long_uint, float}
-use Rattle.amqp_types.specs.Values.{double, timestamp, long_string, byte_array, boolean_value, signed_value, unsigned_value, decimal_value, bytes_value}
-use Rattle.amqp_types.specs.Values.{array_value, table_value, void_value, items, pairs, entries_of}
-use Rattle.amqp_types.specs.ValueJudging.{judge_decimal}
-use Rattle.amqp_types.specs.ValueSpelling.{SpellsEach, SpellsEntry, SpellsDecimal, SpellsArray, SpellsTable, SpellsBehind, SpellsTagged, SpellsValue}
+use Rattle.amqp_types.specs.Values.{FieldValue, Entry, short_short_int, short_short_uint, long_string, byte_array, boolean_value, signed_value, unsigned_value}
+use Rattle.amqp_types.specs.Values.{decimal_value, bytes_value, array_value, table_value, void_value}
+use Rattle.amqp_types.specs.ValueSpelling.{SpellsEach, SpellsEntry, SpellsArray, SpellsTable, SpellsBehind, SpellsTagged, SpellsValue}
 use Rattle.amqp_types.specs.Tags.{tag_at, tag_of}
 use Rattle.amqp_types.specs.declared.tag.FieldTag.{FieldTag}
-use Rattle.amqp_types.specs.declared.tag.FieldTag.TheVariants as tag
 use Rattle.amqp_types.specs.declared.errors.NoMemory.{NoMemory}
 use Rattle.amqp_types.proofs.Booleans.{boolean_laws}
 use Rattle.amqp_types.proofs.Numbers.{number_exact}
@@ -31,7 +26,7 @@ use Rattle.amqp_laws.proofs.Exactly.{value_some, decimal_exact}
 use Rattle.amqp_laws.proofs.Tags.{tag_read}
 use Rattle.amqp_canonical.specs.Writes.{IsRead, key_in, after_key}
 use Rattle.amqp_lines.specs.Words.{hex, quoted, parted}
-use Rattle.amqp_lines.specs.Values.{tag_text, truth_text, content_text, entries_texts, value_text, table_text}
+use Rattle.amqp_lines.specs.Values.{tag_text, truth_text, content_text, value_text, table_text}
 use Rattle.amqp_lines.specs.Rendering.{Renders, WritesText, WritesEach, WritesAfter, array_text, comma_before, decimal_text, entry_text}
 use Rattle.amqp_lines.proofs.ReadBack.{values_are, entries_are}
 
@@ -39,120 +34,61 @@ use Rattle.amqp_lines.proofs.ReadBack.{values_are, entries_are}
 pub unrendered : {A : Type 0} (j : Judged A) (f : A × ℕ → Judged (List ℕ)) (old new : List ℕ) (r : Result ℕ NoMemory)
     → (IsRead j → ⊥) → Renders (j >>= f) old new r
 unrendered (took x n) f old new r h = absurd (h tt)
-unrendered past f old new r h = tt
-unrendered (fault bad) f old new r h = tt
+unrendered j f old new r h = tt
 
 -- What is appended after a value was decoded is what is appended for the rest.
 pub rendered_next : {A : Type 0} (j : Judged A) (f : A × ℕ → Judged (List ℕ)) (old new : List ℕ) (r : Result ℕ NoMemory) (x : A) (n : ℕ)
     → j ≡ took x n → Renders (f (x, n)) old new r → Renders (j >>= f) old new r
-rendered_next j f old new r x n e h = let P : Judged _ → Type 0 = λ k. Renders (k >>= f) old new r in subst P (sym e) h
+rendered_next j f old new r x n e h = rw e h
 
 -- what is rendered of what decodes exactly is its text
-pub exactly : {A : Type 0} (judge : Judge A) (Spells : List ℕ → A → Type 0) (text : A → List ℕ) → IsExact judge Spells
+pub exactly : {A : Type 0} {judge : Judge A} {Spells : List ℕ → A → Type 0} (text : A → List ℕ) → IsExact judge Spells
     → (i old new : List ℕ) (r : Result ℕ NoMemory) → Renders (judge_map text judge i) old new r → WritesText Spells text i old new r
-exactly judge Spells text exact i old new (Err error) h = tt
-exactly judge Spells text exact i old new (Ok n) h = λ bytes rest x is spelled.
-    let P : Judged (List ℕ) → Type 0 = λ j. Renders j old new (Ok n) in
-    subst P (ap (judge_map text judge) is ∙ map_taken text judge Spells exact bytes rest x spelled) h
+exactly text exact i old new (Err error) h = tt
+exactly {judge = judge} {Spells = Spells} text exact i old new _ h = λ bytes rest x is spelled.
+    rw (is, map_taken text judge Spells exact bytes rest x spelled) at h
 
 -- ---- what follows a tag
 
--- the text of a value's content is written, in place of these bytes
-WritesContent : List ℕ → FieldValue → List ℕ → List ℕ → ℕ → Type 0
-WritesContent bytes v old new n = (n ≡ length bytes) × (new ≡ old ++ content_text v)
+module _ (room : ℕ) (bytes rest old new : List ℕ) (n : ℕ) where
+  -- the text of what decodes exactly is written in the place of these bytes
+  in_place : {A : Type 0} {judge : Judge A} {Spells : List ℕ → A → Type 0} (text : A → List ℕ) → IsExact judge Spells → (x : A)
+      → Renders (judge_map text judge (bytes ++ rest)) old new (Ok n) → Spells bytes x → (n ≡ length bytes) × (new ≡ old ++ text x)
+  in_place text exact x h s = exactly text exact _ old new _ h bytes rest x refl s
 
-number_after : (width : NumberWidth) (bytes rest : List ℕ) (k : ℕ) (old new : List ℕ) (n : ℕ)
-    → Renders (judge_map decimal (judge_number width) (bytes ++ rest)) old new (Ok n)
-    → SpellsNumber width bytes k → (n ≡ length bytes) × (new ≡ old ++ decimal k)
-number_after width bytes rest k old new n h s =
-    exactly (judge_number width) (SpellsNumber width) decimal (number_exact width) (bytes ++ rest) old new (Ok n) h bytes rest k refl s
-
-signed_after : (width : NumberWidth) (bytes rest : List ℕ) (k : ℤ) (old new : List ℕ) (n : ℕ)
-    → Renders (judge_map signed_decimal (judge_signed width) (bytes ++ rest)) old new (Ok n)
-    → SpellsSigned width bytes k → (n ≡ length bytes) × (new ≡ old ++ signed_decimal k)
-signed_after width bytes rest k old new n h s =
-    exactly (judge_signed width) (SpellsSigned width) signed_decimal (signed_exact width) (bytes ++ rest) old new (Ok n) h bytes rest k refl s
-
-string_after : (text : List ℕ → List ℕ) (bytes rest content old new : List ℕ) (n : ℕ)
-    → Renders (judge_map text judge_long_string (bytes ++ rest)) old new (Ok n)
-    → SpellsLongString bytes content → (n ≡ length bytes) × (new ≡ old ++ text content)
-string_after text bytes rest content old new n h s =
-    exactly judge_long_string SpellsLongString text long_string_exact (bytes ++ rest) old new (Ok n) h bytes rest content refl s
-
-after_tag : (room : ℕ) (v : FieldValue) (bytes rest old new : List ℕ) (n : ℕ) → WritesAfter room (tag_of v) (bytes ++ rest) old new (Ok n)
-    → SpellsBehind strict room (SpellsValue strict (room - 1)) bytes v → WritesContent bytes v old new n
-unfolding WritesAfter WritesContent array_text table_text
-after_tag room (boolean_value b) bytes rest old new n h s =
-    exactly judge_boolean (SpellsBoolean plain) truth_text boolean_laws.exact (bytes ++ rest) old new
-    (Ok n) h bytes rest b refl (boolean_laws.tidy_is_plain bytes b (boolean_laws.strict_is_tidy bytes b s))
-after_tag room (signed_value short_short_int k) bytes rest old new n h s = signed_after bytes1 bytes rest k old new n h s
-after_tag room (signed_value short_int k) bytes rest old new n h s = signed_after bytes2 bytes rest k old new n h s
-after_tag room (signed_value long_int k) bytes rest old new n h s = signed_after bytes4 bytes rest k old new n h s
-after_tag room (signed_value long_long_int k) bytes rest old new n h s = signed_after bytes8 bytes rest k old new n h s
-after_tag room (unsigned_value short_short_uint k) bytes rest old new n h s = number_after bytes1 bytes rest k old new n h s
-after_tag room (unsigned_value short_uint k) bytes rest old new n h s = number_after bytes2 bytes rest k old new n h s
-after_tag room (unsigned_value long_uint k) bytes rest old new n h s = number_after bytes4 bytes rest k old new n h s
-after_tag room (unsigned_value float k) bytes rest old new n h s = number_after bytes4 bytes rest k old new n h s
-after_tag room (unsigned_value double k) bytes rest old new n h s = number_after bytes8 bytes rest k old new n h s
-after_tag room (unsigned_value timestamp k) bytes rest old new n h s = number_after bytes8 bytes rest k old new n h s
-after_tag room (decimal_value scale k) bytes rest old new n h s =
-    exactly judge_decimal SpellsDecimal decimal_text decimal_exact (bytes ++ rest) old new (Ok n) h bytes rest (scale, k) refl s
-after_tag room (bytes_value long_string content) bytes rest old new n h s = string_after quoted bytes rest content old new n h s
-after_tag room (bytes_value byte_array content) bytes rest old new n h s = string_after hex bytes rest content old new n h s
-after_tag room (array_value vs) bytes rest old new n h s =
-    let w = h s.0 bytes rest (items vs) refl s.1 in
-    (w.0, w.1 ∙ ap (λ ts. old ++ (codes "[" ++ (parted ts ++ codes "]"))) (values_are vs))
-after_tag room (table_value es) bytes rest old new n h s =
-    let w = h s.0 bytes rest (pairs es) refl s.1 in
-    (w.0, w.1 ∙ ap (λ fs. old ++ (codes "{" ++ (parted (entries_texts fs) ++ codes "}"))) (entries_of-pairs es))
-after_tag room void_value bytes rest old new n h s = (h.0 ∙ sym (ap length s), h.1)
-
--- what is written for an array or a table, where there is room for one or not
-pub no_array : (room : ℕ) (t : FieldTag) (i old new : List ℕ) (r : Result ℕ NoMemory) → room ≡ 0 → t ≡ tag.FieldArray → WritesAfter room t i old new r
-unfolding WritesAfter
-no_array room t i old new r none is =
-    let P : FieldTag → Type 0 = λ u. WritesAfter room u i old new r in
-    subst P (sym is) (λ some. absurd (omega (arith, none, some)))
-
--- Where no room for nesting is left, nothing is said of what is written for a table.
-pub no_table : (room : ℕ) (t : FieldTag) (i old new : List ℕ) (r : Result ℕ NoMemory) → room ≡ 0 → t ≡ tag.FieldTable → WritesAfter room t i old new r
-unfolding WritesAfter
-no_table room t i old new r none is =
-    let P : FieldTag → Type 0 = λ u. WritesAfter room u i old new r in
-    subst P (sym is) (λ some. absurd (omega (arith, none, some)))
-
--- After the tag of an array, its text is appended where there is room for nesting.
-pub array_after : (room : ℕ) (t : FieldTag) (i old new : List ℕ) (r : Result ℕ NoMemory) → t ≡ tag.FieldArray
-    → WritesText (SpellsArray (SpellsValue strict (room - 1))) array_text i old new r → WritesAfter room t i old new r
-unfolding WritesAfter
-array_after room t i old new r is h = let P : FieldTag → Type 0 = λ u. WritesAfter room u i old new r in subst P (sym is) (λ some. h)
-
--- After the tag of a table, its text is appended where there is room for nesting.
-pub table_after : (room : ℕ) (t : FieldTag) (i old new : List ℕ) (r : Result ℕ NoMemory) → t ≡ tag.FieldTable
-    → WritesText (SpellsTable strict (SpellsValue strict (room - 1))) table_text i old new r → WritesAfter room t i old new r
-unfolding WritesAfter
-table_after room t i old new r is h = let P : FieldTag → Type 0 = λ u. WritesAfter room u i old new r in subst P (sym is) (λ some. h)
+  after_tag : (v : FieldValue) → WritesAfter room (tag_of v) (bytes ++ rest) old new (Ok n)
+      → SpellsBehind strict room (SpellsValue strict (room - 1)) bytes v → (n ≡ length bytes) × (new ≡ old ++ content_text v)
+  unfolding WritesAfter array_text table_text
+  after_tag (boolean_value b) h s =
+      in_place truth_text boolean_laws.exact b h (boolean_laws.tidy_is_plain bytes b (boolean_laws.strict_is_tidy bytes b s))
+  after_tag (signed_value short_short_int k) h s = in_place signed_decimal (signed_exact bytes1) k h s
+  after_tag (signed_value kind k) h s = in_place signed_decimal (signed_exact _) k h s
+  after_tag (unsigned_value short_short_uint k) h s = in_place decimal (number_exact bytes1) k h s
+  after_tag (unsigned_value kind k) h s = in_place decimal (number_exact _) k h s
+  after_tag (decimal_value scale k) h s = in_place decimal_text decimal_exact (scale, k) h s
+  after_tag (bytes_value long_string content) h s = in_place quoted long_string_exact content h s
+  after_tag (bytes_value byte_array content) h s = in_place hex long_string_exact content h s
+  after_tag (array_value vs) h s =
+      let w = h s.0 bytes rest _ refl s.1 in
+      (w.0, cc (w.1, values_are vs))
+  after_tag (table_value es) h s =
+      let w = h s.0 bytes rest _ refl s.1 in
+      (w.0, cc (w.1, entries_of-pairs es))
+  after_tag void_value h s = (cc (h.0, s), h.1)
 
 -- ---- a tag and its value
 
 -- where nothing may be nested, nothing is
 none_nested : (bytes : List ℕ) (v : FieldValue) → SpellsBehind strict 0 (λ _ _. ⊥) bytes v → SpellsBehind strict 0 (SpellsValue strict (0 - 1)) bytes v
-none_nested bytes (boolean_value b) h = h
-none_nested bytes (signed_value kind k) h = h
-none_nested bytes (unsigned_value kind k) h = h
-none_nested bytes (decimal_value scale k) h = h
-none_nested bytes (bytes_value kind content) h = h
 none_nested bytes (array_value vs) h = absurd (omega (arith, h.0))
 none_nested bytes (table_value es) h = absurd (omega (arith, h.0))
-none_nested bytes void_value h = h
+none_nested bytes v h = h
 
 tagged : (room : ℕ) (bytes : List ℕ) (v : FieldValue) → SpellsValue strict room bytes v
     → SpellsTagged strict (SpellsBehind strict room (SpellsValue strict (room - 1))) bytes v
 unfolding SpellsValue
 tagged zero bytes v h = record { byte = h.byte; behind = h.behind; bytes_are = h.bytes_are; tag_is = h.tag_is; value_is = none_nested h.behind v h.value_is }
-tagged (suc room) bytes v h =
-    let same : room ≡ suc room - 1 = omega arith in
-    subst (λ (k : ℕ). SpellsTagged strict (SpellsBehind strict (suc room) (SpellsValue strict k)) bytes v) same h
+tagged (suc room) bytes v h = let same : suc room - 1 ≡ room = omega arith in rw same h
 
 -- the tag that is read of the bytes of a value in front
 record IsTagged (room : ℕ) (i rest : List ℕ) (bytes : List ℕ) (v : FieldValue) : Type 0 where
@@ -165,12 +101,12 @@ record IsTagged (room : ℕ) (i rest : List ℕ) (bytes : List ℕ) (v : FieldVa
 tag_in : (room : ℕ) (i bytes rest : List ℕ) (v : FieldValue) → i ≡ bytes ++ rest → SpellsValue strict room bytes v → IsTagged room i rest bytes v
 tag_in room i bytes rest v is h =
     let t = tagged room bytes v h in
-    let at : i ≡ t.byte ∷ (t.behind ++ rest) = is ∙ ap (λ (bs : List ℕ). bs ++ rest) t.bytes_are in
+    let at = is ∙ ap (λ bs. bs ++ rest) t.bytes_are in
     record {
       behind = t.behind;
       count = ap length t.bytes_are ∙ omega arith;
       rest_is = ap (drop 1) at;
-      tag_is = ap (λ (bs : List ℕ). tag_at (get_or bs 0 0)) at ∙ tag_read t.byte (tag_of v) (inl t.tag_is);
+      tag_is = ap (λ bs. tag_at (get_or bs 0 0)) at ∙ tag_read t.byte (tag_of v) (inl t.tag_is);
       value_is = t.value_is;
     }
 
@@ -185,46 +121,35 @@ value_unknown room n i old new none = λ bytes rest v is h. absurd (let e = sym 
 -- The text of a tag and then that of what stands after it are the text of a value, which takes one byte more.
 pub value_rendered : (room used : ℕ) (i : List ℕ) (t : FieldTag) (old mid new : List ℕ) → tag_at (get_or i 0 0) ≡ Some t → mid ≡ old ++ tag_text t
     → WritesAfter room t (drop 1 i) mid new (Ok used) → WritesText (SpellsValue strict room) value_text i old new (Ok (1 + used))
-unfolding value_text WritesContent
+unfolding value_text
 value_rendered room used i t old mid new is e w = λ bytes rest v at h.
     let g = tag_in room i bytes rest v at h in
     let same : t ≡ tag_of v = let x = sym is ∙ g.tag_is in cc in
-    let P : FieldTag → Type 0 = λ u. WritesAfter room u (g.behind ++ rest) mid new (Ok used) in
-    let Q : List ℕ → Type 0 = λ bs. WritesAfter room t bs mid new (Ok used) in
-    let one = after_tag room v g.behind rest mid new used (subst P same (subst Q g.rest_is w)) g.value_is in (
-      omega (arith, one.0, g.count),
-      one.1 ∙ ap (λ (xs : List ℕ). xs ++ content_text v) (e ∙ ap (λ u. old ++ tag_text u) same) ∙ append_assoc old (tag_text (tag_of v)) (content_text v),
-    )
+    let one = after_tag room g.behind rest mid new used v (rw (same, g.rest_is) at w) g.value_is in
+    (omega (arith, one.0, g.count), rw (one.1, e, same) (append_assoc old _ _))
 
 -- ---- a length and what it covers
 
-content_is : (i bytes rest inner content : List ℕ) (used : ℕ) → i ≡ bytes ++ rest → SpellsLongString bytes inner
-    → judge_long_string i ≡ took content used → (inner ≡ content) × (used ≡ length bytes)
-content_is i bytes rest inner content used is framed found =
-    let same : took inner (length bytes) ≡ took content used = sym (long_string_exact.taken bytes rest inner framed) ∙ sym (ap judge_long_string is) ∙ found in
-    (value_took inner content (length bytes) used same, sym (count_took inner content (length bytes) used same))
+-- where things fill what a long string covers, their texts between brackets are written in its place
+between : {A : Type 0} {Spells : List ℕ → A → Type 0} (text : A → List ℕ) (i content old a b new before after : List ℕ) (used : ℕ)
+    → judge_long_string i ≡ took content used → a ≡ old ++ before → WritesEach Spells text content a b (Ok tt) → new ≡ b ++ after
+    → (bytes rest inner : List ℕ) (xs : List A) → i ≡ bytes ++ rest → SpellsLongString bytes inner → SpellsEach Spells inner xs
+    → (used ≡ length bytes) × (new ≡ old ++ (before ++ (parted (map text xs) ++ after)))
+between text i content old a b new before after used found first each last bytes rest inner xs is framed filled =
+    let same = sym (long_string_exact.taken bytes rest inner framed) ∙ sym (ap judge_long_string is) ∙ found in
+    let written = each xs (rw (value_took inner content (length bytes) used same) at filled) in
+    (sym (count_took inner content _ used same), rw (last, written, first) (simp append_assoc))
 
 no_content : (i bytes rest inner : List ℕ) → i ≡ bytes ++ rest → SpellsLongString bytes inner → (IsRead (judge_long_string i) → ⊥) → ⊥
-no_content i bytes rest inner is framed none =
-    let P : Judged (List ℕ) → Type 0 = λ j. IsRead j in
-    none (subst P (sym (ap judge_long_string is ∙ long_string_exact.taken bytes rest inner framed)) tt)
-
-between : (old a b new before text after : List ℕ) → a ≡ old ++ before → b ≡ a ++ text → new ≡ b ++ after → new ≡ old ++ (before ++ (text ++ after))
-between old a b new before text after first middle last =
-    last ∙ ap (λ (xs : List ℕ). xs ++ after) (middle ∙ ap (λ (xs : List ℕ). xs ++ text) first)
-    ∙ append_assoc (old ++ before) text after ∙ append_assoc old before (text ++ after)
+no_content i bytes rest inner is framed none = (rw (is, long_string_exact.taken bytes rest inner framed) at none) tt
 
 -- The texts of the values between brackets are the text of an array, which takes what its long string takes.
-pub array_written : (room : ℕ) (i content old a b new : List ℕ) (used : ℕ) (done : Unit {0}) → judge_long_string i ≡ took content used
-    → a ≡ old ++ codes "[" → WritesEach (SpellsValue strict room) value_text content a b (Ok done)
+pub array_written : (room : ℕ) (i content old a b new : List ℕ) (used : ℕ) → judge_long_string i ≡ took content used
+    → a ≡ old ++ codes "[" → WritesEach (SpellsValue strict room) value_text content a b (Ok tt)
     → new ≡ b ++ codes "]" → WritesText (SpellsArray (SpellsValue strict room)) array_text i old new (Ok used)
 unfolding array_text
-array_written room i content old a b new used done found first each last = λ bytes rest vs is h.
-    let c = content_is i bytes rest h.inner content used is h.framed found in (
-      c.1,
-      between old a b new (codes "[") (parted (map value_text vs)) (codes "]") first
-          (each vs (subst (λ (bs : List ℕ). SpellsEach (SpellsValue strict room) bs vs) c.0 h.each)) last,
-    )
+array_written room i content old a b new used found first each last = λ bytes rest vs is h.
+    between value_text i content old a b new (codes "[") (codes "]") used found first each last bytes rest h.inner vs is h.framed h.each
 
 -- Where no long string stands in front, nothing is said of what is written for an array.
 pub array_unwritten : (room n : ℕ) (i old new : List ℕ) → (IsRead (judge_long_string i) → ⊥)
@@ -233,18 +158,16 @@ array_unwritten room n i old new none = λ bytes rest vs is h. absurd (no_conten
 
 table_is : (es : List Entry) → codes "{" ++ (parted (map entry_text es) ++ codes "}") ≡ table_text es
 unfolding table_text
-table_is es = ap (λ ts. codes "{" ++ (parted ts ++ codes "}")) (ap (map entry_text) (sym (pairs-entries_of es)) ∙ entries_are (entries_of es))
+table_is es = ap (λ ts. codes "{" ++ (parted ts ++ codes "}")) (ap (map entry_text) (sym (pairs-entries_of es)) ∙ entries_are _)
 
 -- The texts of the entries between brackets are the text of a table, which takes what its long string takes.
-pub table_written : (room : ℕ) (i content old a b new : List ℕ) (used : ℕ) (done : Unit {0}) → judge_long_string i ≡ took content used
-    → a ≡ old ++ codes "{" → WritesEach (SpellsEntry (SpellsValue strict room)) entry_text content a b (Ok done)
+pub table_written : (room : ℕ) (i content old a b new : List ℕ) (used : ℕ) → judge_long_string i ≡ took content used
+    → a ≡ old ++ codes "{" → WritesEach (SpellsEntry (SpellsValue strict room)) entry_text content a b (Ok tt)
     → new ≡ b ++ codes "}" → WritesText (SpellsTable strict (SpellsValue strict room)) table_text i old new (Ok used)
-table_written room i content old a b new used done found first each last = λ bytes rest es is h.
-    let c = content_is i bytes rest h.inner content used is h.framed found in
-    let filled =
-    subst (λ (bs : List ℕ). SpellsEach (SpellsEntry (SpellsValue strict room)) bs es) c.0
-    (subst (λ fs. SpellsEach (SpellsEntry (SpellsValue strict room)) h.inner fs) h.once h.each) in
-    (c.1, between old a b new (codes "{") (parted (map entry_text es)) (codes "}") first (each es filled) last ∙ ap (λ (xs : List ℕ). old ++ xs) (table_is es))
+table_written room i content old a b new used found first each last = λ bytes rest es is h.
+    let w =
+    between entry_text i content old a b new (codes "{") (codes "}") used found first each last bytes rest h.inner es is h.framed (rw h.once at h.each) in
+    (w.0, cc (w.1, table_is es))
 
 -- Where no long string stands in front, nothing is said of what is written for a table.
 pub table_unwritten : (room n : ℕ) (i old new : List ℕ) → (IsRead (judge_long_string i) → ⊥)
@@ -255,15 +178,15 @@ table_unwritten room n i old new none = λ bytes rest es is h. absurd (no_conten
 
 key_is : (i bytes rest text : List ℕ) → i ≡ bytes ++ rest → SpellsShortString bytes text → (key_in i ≡ text) × (after_key i ≡ rest)
 key_is i bytes rest text is h =
-    let at : i ≡ length text ∷ (text ++ rest) = is ∙ ap (λ (bs : List ℕ). bs ++ rest) h.bytes_are in
-    (ap key_in at ∙ take_at text rest (length text) refl, ap after_key at ∙ drop_at text rest (length text) refl)
+    let at : i ≡ length text ∷ (text ++ rest) = cc (is, h.bytes_are) in
+    (ap key_in at ∙ take_at text rest _ refl, ap after_key at ∙ drop_at text rest _ refl)
 
 -- The quoted key of some bytes is the text of their short string, which takes one byte and the key.
 pub short_written : (i text old new : List ℕ) → text ≡ key_in i → new ≡ old ++ quoted text
     → WritesText SpellsShortString quoted i old new (Ok (1 + length text))
 short_written i text old new is e = λ bytes rest x at h.
-    let same : text ≡ x = is ∙ (key_is i bytes rest x at h).0 in
-    (omega (arith, ap length same, ap length h.bytes_are), e ∙ ap (λ (xs : List ℕ). old ++ quoted xs) same)
+    let same = is ∙ (key_is i bytes rest x at h).0 in
+    (omega (arith, ap length same, ap length h.bytes_are), rw (e, same))
 
 -- The quoted key, an equals sign and the text of the value are the text of an entry, which takes both.
 pub entry_written : (room : ℕ) (i key after : List ℕ) (used : ℕ) (old a b new : List ℕ) → key ≡ key_in i → after ≡ after_key i
@@ -271,13 +194,11 @@ pub entry_written : (room : ℕ) (i key after : List ℕ) (used : ℕ) (old a b 
     → WritesText (SpellsEntry (SpellsValue strict room)) entry_text i old new (Ok (1 + length key + used))
 unfolding entry_text
 entry_written room i key after used old a b new is behind first second value = λ bytes rest e at h.
-    let k = key_is i h.front (h.behind ++ rest) h.one (at ∙ ap (λ (bs : List ℕ). bs ++ rest) h.bytes_are ∙ append_assoc h.front h.behind rest) h.first_is in
-    let same : key ≡ h.one = is ∙ k.0 in
+    let k = key_is i h.front _ h.one (cc (at, h.bytes_are, append_assoc h.front h.behind rest)) h.first_is in
+    let same = is ∙ k.0 in
     let w = value h.behind rest h.two (behind ∙ k.1) h.second_is in (
       omega (arith, w.0, ap length same, ap length h.bytes_are, length-append h.front h.behind, ap length h.first_is.bytes_are),
-      w.1 ∙ ap (λ (xs : List ℕ). xs ++ value_text h.two) (second ∙ ap (λ (xs : List ℕ). xs ++ codes "=") (first ∙ ap (λ (ks : List ℕ). old ++ quoted ks) same))
-          ∙ append_assoc (old ++ quoted h.one) (codes "=") (value_text h.two)
-          ∙ append_assoc old (quoted h.one) (codes "=" ++ value_text h.two) ∙ ap (λ (x : Entry). old ++ entry_text x) (sym h.joined),
+      rw (w.1, second, first, same) (simp append_assoc) ∙ ap (λ x. old ++ entry_text x) (sym h.joined),
     )
 
 -- ---- things that fill some bytes, one after another
@@ -296,7 +217,7 @@ module _ {A : Type 0} (Spells : List ℕ → A → Type 0) (text : A → List �
   comma_parts : (rest : List ℕ) (y : A) (ys : List A) → SpellsEach Spells rest ys
       → parted (text y ∷ map text ys) ≡ text y ++ (comma_before rest ++ parted (map text ys))
   unfolding parted
-  comma_parts [] y [] h = sym (append-nil (text y))
+  comma_parts [] y [] h = sym (append-nil _)
   comma_parts (byte ∷ rest) y [] h = absurd cc
   comma_parts [] y (z ∷ zs) h = absurd (omega (arith, some h.0 z h.3, ap length h.2, length-append h.0 h.1))
   comma_parts (byte ∷ rest) y (z ∷ zs) h = refl
@@ -312,14 +233,19 @@ module _ {A : Type 0} (Spells : List ℕ → A → Type 0) (text : A → List �
       on xs [] h joins = absurd (omega (arith, up, ap length h))
       on xs (y ∷ ys) h joins =
           let one = w h.0 h.1 y h.2 h.3 in
-          let next_is : next ≡ h.1 = is ∙ ap (λ (bs : List ℕ). drop used bs) h.2 ∙ drop_at h.0 h.1 used (sym one.0) in
-          let others : SpellsEach Spells next ys = subst (λ (bs : List ℕ). SpellsEach Spells bs ys) (sym next_is) h.4 in
+          let next_is : next ≡ h.1 = cc (is, h.2, drop_at h.0 h.1 used (sym one.0)) in
+          let others : SpellsEach Spells next ys = rw next_is h.4 in
           let more = parted (map text ys) in (
             ys,
             others,
-            ap (λ (bs : List ℕ). bs ++ more) (comma ∙ ap (λ (bs : List ℕ). bs ++ comma_before next) one.1)
-                ∙ append_assoc (now ++ text y) (comma_before next) more ∙ append_assoc now (text y) (comma_before next ++ more)
-                ∙ ap (λ (bs : List ℕ). now ++ bs) (sym (comma_parts next y ys others)) ∙ joins,
+            cc (
+              comma,
+              one.1,
+              append_assoc (now ++ text y) (comma_before next) more,
+              append_assoc now (text y) (comma_before next ++ more),
+              comma_parts next y ys others,
+              joins,
+            ),
           )
 
   -- Where nothing is left, the texts of all things are written, with commas between them.

@@ -1,7 +1,6 @@
 -- The longest sequence of frames whose text stands in front of some bytes.
-use Rattle.std.proofs.Common.{◌≡◌, ◌≢◌, ℕ, zero, suc, ◌+◌, ◌<◌, ◌≤◌, List, [], ◌∷◌, ◌++◌, length, get_or, take, drop, Some, None, refl}
-use Rattle.std.proofs.Common.{sym, ap, subst, ◌∙◌, inl, inr}
-use Rattle.std.proofs.Common.{append_assoc, append-nil, arith}
+use Rattle.std.proofs.Common.{◌≡◌, ◌≢◌, ℕ, zero, suc, ◌+◌, ◌<◌, ◌≤◌, List, [], ◌∷◌, ◌++◌, length, get_or, take, drop, Some, None, refl, sym, ap, subst, ◌∙◌}
+use Rattle.std.proofs.Common.{inl, inr, append_assoc, append-nil, arith}
 use Rattle.std.specs.List.{AllByRecursion, flat_map}
 use Rattle.std.proofs.lemmas.Bool.{cases_lt}
 use Rattle.std.proofs.lemmas.List.{length-append, take-append-drop, take-append-le, take_all, take_at}
@@ -16,9 +15,9 @@ use Rattle.amqp_lines.specs.Lines.{line, lines}
 use Rattle.amqp_lines.specs.LineReading.{HasNoNewline, IsFirstLine}
 use Rattle.amqp_lines.specs.OneLine.{IsStrictWithin, IsNoLine}
 use Rattle.amqp_lines.specs.Undumping.{AreStrict, HoldsNewline, IsLongestText}
-use Rattle.amqp_lines.proofs.Newlines.{one_newline}
+use Rattle.amqp_lines.proofs.Newlines.{one_newline, clean_both}
 use Rattle.amqp_lines.proofs.ReadWords.{bytes_behind, bytes_front}
-use Rattle.amqp_lines.proofs.LinesApart.{newline_once, head_same}
+use Rattle.amqp_lines.proofs.LinesApart.{newline_once}
 
 -- ---- strict sequences, frame by frame
 
@@ -30,7 +29,7 @@ AllStrict m = AllByRecursion (IsStrictWithin m)
 pub first_is_canon : (first : List ℕ) (f : Frame) → Spells strict first f → first ≡ canon f
 first_is_canon first f h =
     let sequence : SpellsFrames strict None first (f ∷ []) = (first, [], sym (append-nil first), h, tt, refl) in
-    (one_strict strict None first (f ∷ []) sequence).only first sequence ∙ append-nil (canon f)
+    (one_strict strict None first (f ∷ []) sequence).only first sequence ∙ append-nil _
 
 -- Frames of which each is strict within the limit are so one by one.
 pub all_strict : (m : ℕ) (frames : List Frame) → AreStrict m frames → AllStrict m frames
@@ -42,12 +41,12 @@ all_strict m (f ∷ fs) h =
       record {
         is_strict = record {
           are_bytes = bytes_front (canon f) (canon_frames fs) (canon_frames (f ∷ fs)) refl h.1;
-          encodes = subst (λ (bs : List ℕ). Spells strict bs f) same sequence.3;
+          encodes = rw same at sequence.3;
         };
-        within = subst (λ (bs : List ℕ). length bs ≤ m + 8) same sequence.4;
+        within = rw same at sequence.4;
       },
       all_strict m fs (
-        subst (λ (bs : List ℕ). SpellsFrames strict (Some m) bs fs) others sequence.5,
+        rw others at sequence.5,
         bytes_behind (canon f) (canon_frames fs) (canon_frames (f ∷ fs)) refl h.1,
       ),
     )
@@ -57,20 +56,15 @@ pub are_strict : (m : ℕ) (frames : List Frame) → AllStrict m frames → AreS
 are_strict m [] h = (refl, IsBytes-nil)
 are_strict m (f ∷ fs) h =
     let others = are_strict m fs h.1 in
-    ((canon f, canon_frames fs, refl, h.0.is_strict.encodes, h.0.within, others.0), IsBytes-append (canon f) (canon_frames fs) h.0.is_strict.are_bytes others.1)
-
--- Frames that are strict within the limit, and more of them after, are so together.
-pub all_both : (m : ℕ) (fs gs : List Frame) → AllStrict m fs → AllStrict m gs → AllStrict m (fs ++ gs)
-all_both m [] gs h k = k
-all_both m (f ∷ fs) gs h k = (h.0, all_both m fs gs h.1 k)
+    ((canon f, canon_frames fs, refl, h.0.is_strict.encodes, h.0.within, others.0), IsBytes-append _ _ h.0.is_strict.are_bytes others.1)
 
 -- ---- newlines
 
 -- bytes without a newline are not parted by one
 pub none_holds : (bytes front back : List ℕ) → HasNoNewline bytes → bytes ≡ front ++ 10 ∷ back → ⊥
 none_holds [] front back h e = omega (arith, ap length e, length-append front (10 ∷ back))
-none_holds (c ∷ cs) [] back h e = h.0 (head_same c 10 cs back e).0
-none_holds (c ∷ cs) (d ∷ ds) back h e = none_holds cs ds back h.1 (head_same c d cs (ds ++ 10 ∷ back) e).1
+none_holds (c ∷ cs) [] back h e = h.0 cc
+none_holds (c ∷ cs) (d ∷ ds) back h e = none_holds cs ds back h.1 cc
 
 -- No bytes have a newline and have none.
 pub holds_none : (bytes : List ℕ) → HasNoNewline bytes → HoldsNewline bytes → ⊥
@@ -83,16 +77,6 @@ none_take zero (x ∷ xs) h = tt
 none_take (suc n) [] h = tt
 none_take (suc n) (x ∷ xs) h = (h.0, none_take n xs h.1)
 
--- Bytes without a newline, and more of them after, have none.
-pub none_both : (xs ys : List ℕ) → HasNoNewline xs → HasNoNewline ys → HasNoNewline (xs ++ ys)
-none_both [] ys h k = k
-none_both (x ∷ xs) ys h k = (h.0, none_both xs ys h.1 k)
-
--- The last bytes of those without a newline have none.
-pub none_back : (xs ys : List ℕ) → HasNoNewline (xs ++ ys) → HasNoNewline ys
-none_back [] ys h = h
-none_back (x ∷ xs) ys h = none_back xs ys h.1
-
 -- the byte at a place
 byte_at : (place : ℕ) (text : List ℕ) → place < length text → take 1 (drop place text) ≡ get_or text place 0 ∷ []
 byte_at zero [] h = absurd (omega arith)
@@ -101,7 +85,7 @@ byte_at (suc place) [] h = absurd (omega arith)
 byte_at (suc place) (x ∷ xs) h = byte_at place xs (omega arith)
 
 up_to : (place : ℕ) (text : List ℕ) (b : ℕ) → place < length text → get_or text place 0 ≡ b → take (place + 1) text ≡ take place text ++ b ∷ []
-up_to place text b h is = take-add place 1 text ∙ ap (λ (xs : List ℕ). take place text ++ xs) (byte_at place text h ∙ ap (λ (x : ℕ). x ∷ []) is)
+up_to place text b h is = cc (take-add place 1 text, byte_at place text h, is)
 
 pub first_found : (place : ℕ) (text : List ℕ) (b : ℕ) → place < length text
     → HasNoNewline (take place text) → get_or text place 0 ≡ b → b ≡ 10 → IsFirstLine text (place + 1)
@@ -110,32 +94,32 @@ first_found place text b h none is same =
 
 pub none_next : (place : ℕ) (text : List ℕ) (b : ℕ) → place < length text → HasNoNewline (take place text)
     → get_or text place 0 ≡ b → b ≢ 10 → HasNoNewline (take (place + 1) text)
-none_next place text b h none is other = subst HasNoNewline (sym (up_to place text b h is)) (none_both (take place text) (b ∷ []) none (other, tt))
+none_next place text b h none is other = subst HasNoNewline (sym (up_to place text b h is)) (clean_both _ _ none (other, tt))
 
 pub none_all : (place : ℕ) (text : List ℕ) → length text ≤ place → HasNoNewline (take place text) → HasNoNewline text
 none_all place text h none = subst HasNoNewline (take_all place text h) none
 
 -- what begins with a line
 pub line_front : (f : Frame) (x : List ℕ) → line f ++ x ≡ (one_newline f).front ++ (10 ∷ x)
-line_front f x = let a = one_newline f in ap (λ (xs : List ℕ). xs ++ x) a.parts ∙ append_assoc a.front (10 ∷ []) x
+line_front f x = let a = one_newline f in cc (a.parts, append_assoc a.front (10 ∷ []) x)
 
 -- a first line that is a line, and what comes after it
 pub line_first : (f : Frame) (front x y : List ℕ) → HasNoNewline front → line f ++ x ≡ front ++ (10 ∷ y) → (line f ≡ front ++ 10 ∷ []) × (x ≡ y)
 line_first f front x y none h =
     let a = one_newline f in
-    let same = newline_once a.front front x y a.none_before none (sym (line_front f x) ∙ h) in
-    (a.parts ∙ ap (λ (xs : List ℕ). xs ++ 10 ∷ []) same.0, same.1)
+    let same = newline_once a.front front x y a.none_before none (cc (line_front f x, h)) in
+    (cc (a.parts, same.0), same.1)
 
 -- A text that begins with a line begins with no more bytes without a newline than the line has.
 pub line_longer : (f : Frame) (held more x : List ℕ) → HasNoNewline held → held ++ more ≡ line f ++ x → length held < length (line f)
 line_longer f held more x clean e =
     let a = one_newline f in
     let n = length (line f) in
-    elim (cases_lt (length held) n) [
+    elim (cases_lt _ n) [
       | inl low ↦ low
       | inr fits ↦
-          let front : take n held ≡ line f = sym (take-append-le n held more fits) ∙ ap (take n) e ∙ take_at (line f) x n refl in
-          absurd (none_holds (take n held) a.front [] (none_take n held clean) (front ∙ a.parts))
+          let front = sym (take-append-le n held more fits) ∙ ap (take n) e ∙ take_at (line f) x n refl in
+          absurd (none_holds _ a.front [] (none_take n held clean) (front ∙ a.parts))
     ]
 
 -- ---- the longest text
@@ -151,23 +135,23 @@ at_clean m bytes h f x good e = none_holds bytes (one_newline f).front x h (sym 
 
 -- A text is its first line, with the newline that ends it, and what follows.
 pub first_line : (text : List ℕ) (end : ℕ) (h : IsFirstLine text end) → text ≡ h.front ++ (10 ∷ drop end text)
-first_line text end h = sym (take-append-drop end text) ∙ ap (λ (xs : List ℕ). xs ++ drop end text) h.parts ∙ append_assoc h.front (10 ∷ []) (drop end text)
+first_line text end h = cc (take-append-drop end text, h.parts, append_assoc h.front (10 ∷ []) (drop end text))
 
 -- Where the first line of a text is that of no frame within the limit, no line is in front.
 pub at_other : (m : ℕ) (text : List ℕ) (end : ℕ) → IsFirstLine text end → IsNoLine m (take end text) → IsAtNone m text
 unfolding IsAtNone
 at_other m text end h none f x good e =
-    none f good (h.parts ∙ sym (line_first f h.front x (drop end text) h.none_before (e ∙ first_line text end h)).0)
+    none f good (h.parts ∙ sym (line_first f h.front x _ h.none_before (e ∙ first_line text end h)).0)
 
 no_longer : (m : ℕ) (fs gs : List Frame) (rest x : List ℕ) → IsAtNone m rest → AllStrict m gs → lines gs ++ x ≡ lines fs ++ rest → length gs ≤ length fs
 unfolding lines IsAtNone
 no_longer m fs [] rest x none good e = omega arith
-no_longer m [] (g ∷ gs) rest x none good e = absurd (none g (flat_map line gs ++ x) good.0 (sym (append_assoc (line g) (flat_map line gs) x) ∙ e))
+no_longer m [] (g ∷ gs) rest x none good e = absurd (none g (flat_map line gs ++ x) good.0 (cc (append_assoc (line g) (flat_map line gs) x, e)))
 no_longer m (f ∷ fs) (g ∷ gs) rest x none good e =
     let a = one_newline f in
     let left : line g ++ (flat_map line gs ++ x) ≡ a.front ++ (10 ∷ (flat_map line fs ++ rest)) =
-    sym (append_assoc (line g) (flat_map line gs) x) ∙ e ∙ append_assoc (line f) (flat_map line fs) rest ∙ line_front f (flat_map line fs ++ rest) in
-    let others = line_first g a.front (flat_map line gs ++ x) (flat_map line fs ++ rest) a.none_before left in
+    cc (append_assoc (line g) (flat_map line gs) x, e, append_assoc (line f) (flat_map line fs) rest, line_front f (flat_map line fs ++ rest)) in
+    let others = line_first g a.front _ _ a.none_before left in
     omega (arith, no_longer m fs gs rest x none good.1 others.1)
 
 -- Lines that are followed by no line are the longest text in front of some bytes.

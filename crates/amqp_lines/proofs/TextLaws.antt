@@ -1,12 +1,12 @@
 -- Laws of texts: the longest is one, what was dumped is read back, and strict bytes and texts correspond.
-use Rattle.std.proofs.Common.{◌≡◌, ◌≢◌, ◌↔◌, ℕ, false, List, [], ◌∷◌, ◌++◌, length, Some, None, Ok, refl, sym, ap, ap₂, subst, ◌∙◌, append_assoc}
-use Rattle.std.proofs.Common.{append-nil, arith, Result, Err}
-use Rattle.std.specs.List.{AllByRecursion, flat_map}
+use Rattle.std.proofs.Common.{◌≡◌, ◌≢◌, ◌↔◌, ℕ, false, List, [], ◌∷◌, ◌++◌, length, Some, None, Ok, refl, sym, ap, subst, ◌∙◌, append_assoc, append-nil, arith}
+use Rattle.std.proofs.Common.{Result, Err}
+use Rattle.std.specs.List.{AllByRecursion}
 use Rattle.std.proofs.lemmas.List.{take_all}
 use Rattle.std.proofs.lemmas.Bool.{ne_eqb}
 use Rattle.amqp_types.specs.Levels.{plain, strict}
 use Rattle.amqp_types.specs.Judging.{IsBytes}
-use Rattle.amqp_wire.specs.Frames.{Frame, Proto, Meth, Head, Body, Beat, BadBeat}
+use Rattle.amqp_wire.specs.Frames.{Frame, BadBeat}
 use Rattle.amqp_wire.specs.Fronts.{front, place}
 use Rattle.amqp_wire.specs.Spelling.{Spells, SpellsFrames}
 use Rattle.amqp_wire.specs.Canonical.{canon, canon_frames, is_deep, is_long, size_of, read_back}
@@ -21,7 +21,6 @@ use Rattle.amqp_lines.specs.Dumping.{dumped}
 use Rattle.amqp_lines.specs.Laws.{IsStrict}
 use Rattle.amqp_lines.specs.Lines.{line, lines}
 use Rattle.amqp_lines.specs.Undumping.{AreStrict, IsLongestText, UndumpsExactly}
-use Rattle.amqp_lines.specs.LineReading.{HasNoNewline}
 use Rattle.amqp_lines.specs.UndumpLaws.{IsSameText, Undoes, AreBytesAndText, IsUsual}
 use Rattle.amqp_lines.specs.declared.errors.UndumpError.{UndumpError}
 use Rattle.amqp_lines.specs.declared.errors.UndumpError.TheVariants as errors
@@ -36,14 +35,13 @@ same_text : (m : ℕ) (fs gs : List Frame) (rest more : List ℕ) → AllStrict 
     → length fs ≡ length gs → lines fs ++ rest ≡ lines gs ++ more → IsSameText fs gs rest more
 unfolding lines
 same_text m [] [] rest more p q n e = record { frames = refl; rests = e }
-same_text m [] (g ∷ gs) rest more p q n e = absurd (omega arith)
-same_text m (f ∷ fs) [] rest more p q n e = absurd (omega arith)
 same_text m (f ∷ fs) (g ∷ gs) rest more p q n e =
     let s =
-    split f g (flat_map line fs ++ rest) (flat_map line gs ++ more)
-    (sym (append_assoc (line f) (flat_map line fs) rest) ∙ e ∙ append_assoc (line g) (flat_map line gs) more) in
+    split f g _ _
+    (sym (append_assoc (line f) _ rest) ∙ e ∙ append_assoc (line g) _ more) in
     let others = same_text m fs gs rest more p.1 q.1 (omega arith) s.others in
-    record { frames = ap₂ (λ (x : Frame) (xs : List Frame). x ∷ xs) (same_frame f g p.0.is_strict q.0.is_strict s.first) others.frames; rests = others.rests }
+    record { frames = cc (same_frame f g p.0.is_strict q.0.is_strict s.first, others.frames); rests = others.rests }
+same_text m fs gs rest more p q n e = absurd (omega arith)
 
 -- Within a limit, some bytes begin with one longest text only.
 pub one_longest : (m : ℕ) (bytes : List ℕ) (fs gs : List Frame) (rest more : List ℕ)
@@ -71,66 +69,58 @@ undoes : (call : Call Supply Store) (bytes : List ℕ) (r : Result (Unit {0}) Un
 undoes call bytes (Ok done) u frames none = record {
   never_bad = λ e. absurd cc;
   never_short = λ e. absurd cc;
-  written = λ e. subst (λ (xs : List ℕ). Gains call.sink.old call.sink.new xs) (u.answer.1 ∙ ap canon_frames frames) u.gains;
+  written = λ e. subst (λ xs. Gains call.sink.old call.sink.new xs) (u.answer.1 ∙ ap canon_frames frames) u.gains;
 }
-undoes call bytes (Err errors.BadText) u frames none = absurd (holds_none u.rest (subst HasNoNewline (sym none) tt) u.answer.0)
+undoes call bytes (Err errors.BadText) u frames none = absurd (holds_none u.rest (rw none tt) u.answer.0)
 undoes call bytes (Err errors.CutShort) u frames none = absurd (u.answer.0 none)
-undoes call bytes (Err errors.TurnsSpent) u frames none = record { never_bad = λ e. absurd cc; never_short = λ e. absurd cc; written = λ e. absurd cc }
-undoes call bytes (Err errors.ReadFault) u frames none = record { never_bad = λ e. absurd cc; never_short = λ e. absurd cc; written = λ e. absurd cc }
-undoes call bytes (Err errors.WriteFault) u frames none = record { never_bad = λ e. absurd cc; never_short = λ e. absurd cc; written = λ e. absurd cc }
-undoes call bytes (Err errors.NoMemory) u frames none = record { never_bad = λ e. absurd cc; never_short = λ e. absurd cc; written = λ e. absurd cc }
+undoes call bytes (Err error) u frames none = record { never_bad = λ e. absurd cc; never_short = λ e. absurd cc; written = λ e. absurd cc }
 
 -- Reading back what was dumped finds no bad line, and writes the canonical bytes of the frames at the front of the bytes.
 pub undump_undoes : (call : Call Supply Store) (bytes : List ℕ) (r : Result (Unit {0}) UndumpError)
     → IsBytes bytes → UndumpsExactly call (dumped call.limit bytes) r → Undoes call.limit bytes call.sink r
 undump_undoes call bytes r fits u =
     let m = call.limit in
-    let same = one_longest m (dumped m bytes) u.frames (front plain (Some m) bytes) u.rest [] u.text (dumped_back m bytes fits) in
+    let same = one_longest m (dumped m bytes) u.frames (front plain _ bytes) u.rest [] u.text (dumped_back m bytes fits) in
     undoes call bytes r u same.frames same.rests
 
 -- ---- strict bytes and texts
-
-only_strict : (m : ℕ) (bytes text : List ℕ) (h : AreBytesAndText m bytes text) → bytes ≡ canon_frames h.frames
-only_strict m bytes text h = (one_strict strict (Some m) bytes h.frames h.is_sequence).only bytes h.is_sequence
-
-are_strict_frames : (m : ℕ) (bytes text : List ℕ) (h : AreBytesAndText m bytes text) → AreStrict m h.frames
-are_strict_frames m bytes text h =
-    let is = only_strict m bytes text h in
-    (subst (λ (bs : List ℕ). SpellsFrames strict (Some m) bs h.frames) is h.is_sequence, subst (λ (bs : List ℕ). IsBytes bs) is h.are_bytes)
 
 each_strict : (m : ℕ) (fs : List Frame) → AllStrict m fs → AllByRecursion IsStrict fs
 each_strict m [] h = tt
 each_strict m (f ∷ fs) h = (h.0.is_strict, each_strict m fs h.1)
 
+only_strict : (m : ℕ) (bytes text : List ℕ) (h : AreBytesAndText m bytes text) → bytes ≡ canon_frames h.frames
+only_strict m bytes text h = (one_strict strict (Some m) bytes h.frames h.is_sequence).only bytes h.is_sequence
+
+are_strict_frames : (m : ℕ) (bytes text : List ℕ) (h : AreBytesAndText m bytes text) → AllByRecursion IsStrict h.frames
+are_strict_frames m bytes text h =
+    let is = only_strict m bytes text h in
+    each_strict m h.frames (all_strict m h.frames (rw is at h.is_sequence, rw is at h.are_bytes))
+
 -- Bytes that encode a sequence of frames strictly have one text only.
 pub one_text : (m : ℕ) (bytes t u : List ℕ) → AreBytesAndText m bytes t → AreBytesAndText m bytes u → t ≡ u
-one_text m bytes t u h k = h.is_text ∙ ap lines (one_sequence strict (Some m) bytes h.frames k.frames h.is_sequence k.is_sequence) ∙ sym k.is_text
+one_text m bytes t u h k = cc (h.is_text, one_sequence strict (Some m) bytes h.frames k.frames h.is_sequence k.is_sequence, k.is_text)
 
 -- One text is that of one sequence of canonical bytes only.
 pub one_text_bytes : (m : ℕ) (b c text : List ℕ) → AreBytesAndText m b text → AreBytesAndText m c text → b ≡ c
 one_text_bytes m b c text h k =
-    let fs = each_strict m h.frames (all_strict m h.frames (are_strict_frames m b text h)) in
-    let gs = each_strict m k.frames (all_strict m k.frames (are_strict_frames m c text k)) in
-    only_strict m b text h ∙ ap canon_frames (same_sequence h.frames k.frames fs gs (sym h.is_text ∙ k.is_text)) ∙ sym (only_strict m c text k)
+    let same = same_sequence h.frames k.frames (are_strict_frames m b text h) (are_strict_frames m c text k) (sym h.is_text ∙ k.is_text) in
+    cc (only_strict m b text h, same, only_strict m c text k)
 
 -- ---- which frames are encoded strictly
 
 not_bad_beat : (f : Frame) → Spells strict (canon f) f → f ≢ BadBeat 0
-not_bad_beat f h e = absurd (let P : Frame → Type 0 = λ g. Spells strict (canon g) g in let x = subst P e h in omega (arith, x.0))
+not_bad_beat f h e = absurd (let x = rw e at h in omega (arith, x.0))
 
 strict_usual : (f : Frame) → IsStrict f → IsUsual f
 strict_usual f h =
-    let sequence : SpellsFrames strict None (canon f) (f ∷ []) = (canon f, [], sym (append-nil (canon f)), h.encodes, tt, refl) in
-    let sized = sequence_shortest strict None (canon f) (f ∷ []) sequence in
+    let sequence : SpellsFrames strict None (canon f) (f ∷ []) = (canon f, [], sym (append-nil _), h.encodes, tt, refl) in
+    let sized = sequence_shortest strict None _ (f ∷ []) sequence in
     record { belongs = not_bad_beat f h.encodes; not_deep = sized.none_is_deep.0; not_long = sized.none_is_long.0 }
 
 back_same : (f : Frame) → f ≢ BadBeat 0 → read_back f ≡ f
-back_same (Proto a b c) h = refl
-back_same (Meth channel m) h = refl
-back_same (Head channel header) h = refl
-back_same (Body channel content) h = refl
-back_same Beat h = refl
 back_same (BadBeat channel) h = rw (ne_eqb channel 0 (λ e. h (ap BadBeat e))) refl
+back_same f h = refl
 
 has_size : (f : Frame) → is_deep f ≡ false → is_long f ≡ false → size_of f ≡ Ok (length (canon f))
 unfolding size_of
@@ -138,15 +128,10 @@ has_size f deep long = rw (deep, long) refl
 
 usual_strict : (f : Frame) → IsFrameHeld f → IsBytes (canon f) → IsUsual f → IsStrict f
 usual_strict f held fits h =
-    let n = length (canon f) in
+    let n = length _ in
     let back = (reads_back strict f held (has_size f h.not_deep h.not_long)).whole [] in
-    let found = verdict-spells strict None (canon f) (read_back f) n fits (rw (append-nil (canon f)) at back) in
-    record {
-      are_bytes = fits;
-      encodes =
-          subst (λ (g : Frame). Spells strict (canon f) g) (back_same f h.belongs)
-          (subst (λ (bs : List ℕ). Spells strict bs (read_back f)) (take_all n (canon f) (omega arith)) found.0);
-    }
+    let found = verdict-spells strict None _ _ n fits (rw (append-nil (canon f)) at back) in
+    record { are_bytes = fits; encodes = rw (back_same f h.belongs, take_all n (canon f) (omega arith)) at found.0 }
 
 -- A frame that programs hold is encoded strictly by its canonical bytes exactly where it is usual.
 pub strict_is_usual : (f : Frame) → IsFrameHeld f → IsBytes (canon f) → IsStrict f ↔ IsUsual f

@@ -9,12 +9,14 @@ ghost use Rattle.amqp_lines.specs.UndumpLaws.{OneLongestText};
 ghost use Rattle.amqp_lines.specs.UndumpLaws.{StrictFramesAreUsual, UndumpUndoesDump};
 
 /// A line holds one newline, which is its last byte.
+#[tactic(auto, using(crate::proofs::Newlines::one_newline))]
 pub fn lines_have_one_newline()
     ensures { LinesHaveOneNewline }
 {}
 
 /// A line is at most four times as long as the bytes that encode its frame strictly, and 400 bytes: one of a frame within
 /// a limit on payloads has at most so many.
+#[tactic(auto, using(crate::proofs::LineLengths::lines_bounded))]
 pub fn lines_are_bounded()
     ensures { LinesAreBounded }
 {}
@@ -25,11 +27,13 @@ pub fn lines_fit_the_limit()
 {}
 
 /// Two frames that their canonical bytes encode strictly are equal where their lines are.
+#[tactic(auto, using(crate::proofs::LinesApart::same_frame))]
 pub fn equal_lines_are_equal_frames()
     ensures { EqualLinesAreEqualFrames }
 {}
 
 /// Two sequences of such frames are equal where their texts are.
+#[tactic(auto, using(crate::proofs::LinesApart::same_sequence))]
 pub fn equal_texts_are_equal_sequences()
     ensures { EqualTextsAreEqualSequences }
 {}
@@ -40,6 +44,7 @@ pub fn one_longest_text()
 {}
 
 /// What `dump` writes for frames are their lines, one after another, and it refuses none.
+#[tactic(auto, using(crate::proofs::Dumps::writes_lines))]
 pub fn dump_writes_lines()
     ensures { WritesLines }
 {}
@@ -62,6 +67,7 @@ pub fn bytes_and_texts_correspond()
 
 /// A frame that programs hold is encoded strictly by its canonical bytes exactly where it is neither too deep nor long,
 /// and no heartbeat on channel 0 that does not belong there.
+#[tactic(auto, using(crate::proofs::TextLaws::strict_is_usual))]
 pub fn strict_frames_are_usual()
     ensures { StrictFramesAreUsual }
 {}

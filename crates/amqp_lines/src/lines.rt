@@ -147,6 +147,7 @@ fn write_beat(out: &mut Vec<u8>, channel_id: ChannelId) -> Result<(), NoMemory>
 }
 
 /// What the line of a frame says, by its outline and its canonical payload.
+#[tactic(auto, using(crate::proofs::Lining::header_by, crate::proofs::Lining::beat_by))]
 fn write_words(out: &mut Vec<u8>, outline: FrameOutline, payload: &[u8]) -> Result<(), NoMemory>
     ensures { (frame : Frame) → IsIn outline payload.now frame
         → AppendsText out.old.items out.new.items (words frame) result }

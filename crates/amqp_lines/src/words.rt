@@ -23,6 +23,7 @@ pub(crate) fn write_bytes(out: &mut Vec<u8>, bytes: &[u8]) -> Result<(), NoMemor
 }
 
 /// Puts the digits of a number at the end of a buffer, and returns where they begin.
+#[tactic(auto, using(crate::proofs::Digits::has_room, crate::proofs::Digits::one_more, crate::proofs::Digits::last_one))]
 fn put_digits(digits: &mut [u8; MOST_DIGITS], number: u64) -> usize
     ensures place { result < 20 }
     ensures digits { drop result digits.new ≡ decimal number }
@@ -136,7 +137,7 @@ fn sign(flag: bool) -> u8
 }
 
 /// Appends a sign for each of so many flags of a byte, flag 0 first.
-#[tactic(auto, unfolding(crate::specs::Words::signs))]
+#[tactic(auto, using(crate::proofs::Digits::one_more_sign), unfolding(crate::specs::Words::signs))]
 pub(crate) fn write_signs(out: &mut Vec<u8>, count: u8, byte: u8) -> Result<(), NoMemory>
     ensures { AppendsText out.old.items out.new.items (signs (flags_from count 0 byte)) result }
 {

@@ -1,17 +1,10 @@
 -- The lemmas of amqp_program.
 pub mod TextReading
-pub mod HexPlaces
 pub mod HexRuns
 pub mod HexApart
 pub mod Ran
-pub mod RawRuns
-pub mod TurnRuns
-pub mod FilterRuns
-pub mod TextRuns
 pub mod Selections
-pub mod SelectRuns
 pub mod Statuses
-pub mod Owners
 pub mod Forms
 pub mod ArgumentFaults
 pub mod RuleParts

@@ -1,5 +1,5 @@
 -- The command that has a number.
-use Rattle.std.proofs.Common.{◌≡◌, ◌≢◌, ℕ, ◌≤◌, Bool, true, false, List, [], ◌∷◌, Option, Some, None, refl, sym, ap, subst, arith}
+use Rattle.std.proofs.Common.{◌≡◌, ℕ, ◌≤◌, Bool, true, false, List, [], ◌∷◌, Option, Some, None, refl, subst, arith}
 use Rattle.std.specs.Prelude.{◌==◌, codes, if◌then◌else◌}
 use Rattle.std.specs.Str.{bytes_eq}
 use Rattle.std.specs.Option.{option_map}
@@ -12,75 +12,47 @@ use Rattle.amqp_program.specs.declared.command.Command.TheVariants as commands
 use Rattle.amqp_program.specs.Reports.{max_payload}
 use Rattle.amqp_program.specs.Commands.{command_named, command_of, recut_by}
 
-few : (most : ℕ) (word : List ℕ) (k : ℕ) → number_named most word ≡ Some k → k ≤ most
-few most word k e = (named most word k e).few
+-- its number is within the limits
+abbrev Fits : Command → Type 0
+Fits (commands.Make n) = n ≤ most_frames
+Fits (commands.Recut n) = (1 ≤ n) × (n ≤ max_payload)
+Fits other = Unit {0}
 
--- ---- commands with a number
+alone : (test : Bool) (command : Command) (rest : Option Command) → Fits command → ((c : Command) → rest ≡ Some c → Fits c)
+    → (c : Command) → (if test then Some command else rest) ≡ Some c → Fits c
+alone true command rest h k c e = subst Fits {x = command} (let same : Some command ≡ Some c = e in cc) h
+alone false command rest h k c e = k c e
 
-abbrev IsNumbered : Command → Type 0
-IsNumbered (commands.Make n) = Unit {0}
-IsNumbered (commands.Recut n) = Unit {0}
-IsNumbered command = ⊥
+alone_fits : (word : List ℕ) (c : Command) → command_named word ≡ Some c → Fits c
+alone_fits word =
+    alone _ commands.Hex _ tt (alone _ commands.Raw _ tt (alone _ commands.Tidy _ tt (alone _ commands.Lent _ tt
+    (alone _ commands.Dump _ tt
+    (alone _ commands.Undump _ tt (alone _ commands.Help _ tt (alone _ commands.Version _ tt (λ (c : Command) (none : None ≡ Some c). absurd cc))))))))
 
--- a single word asks for another command
-other_word : (named : Bool) (command wanted : Command) (rest : Option Command) → command ≢ wanted
-    → rest ≢ Some wanted → (if named then Some command else rest) ≢ Some wanted
-other_word true command wanted rest other none e = other (let same : Some command ≡ Some wanted = e in cc)
-other_word false command wanted rest other none e = none e
+sized : (n : ℕ) (zero : Bool) → (n == 0) ≡ zero → n ≤ max_payload → (c : Command) → (if zero then None else Some (commands.Recut n)) ≡ Some c → Fits c
+sized n true e few c is = absurd cc
+sized n false e few c is = subst Fits {x = commands.Recut n} (let same : Some (commands.Recut n) ≡ Some c = is in cc) (grind (arith, nat_tests, e), few)
 
-one_word : (word : List ℕ) (wanted : Command) → IsNumbered wanted → command_named word ≢ Some wanted
-one_word word wanted h =
-    other_word _ commands.Hex wanted _ (λ (e : commands.Hex ≡ wanted). subst IsNumbered (sym e) h)
-    (other_word _ commands.Raw wanted _ (λ (e : commands.Raw ≡ wanted). subst IsNumbered (sym e) h)
-    (other_word _ commands.Tidy wanted _ (λ (e : commands.Tidy ≡ wanted). subst IsNumbered (sym e) h)
-    (other_word _ commands.Lent wanted _ (λ (e : commands.Lent ≡ wanted). subst IsNumbered (sym e) h)
-    (other_word _ commands.Dump wanted _ (λ (e : commands.Dump ≡ wanted). subst IsNumbered (sym e) h)
-    (other_word _ commands.Undump wanted _ (λ (e : commands.Undump ≡ wanted). subst IsNumbered (sym e) h)
-    (other_word _ commands.Help wanted _ (λ (e : commands.Help ≡ wanted). subst IsNumbered (sym e) h)
-    (other_word _ commands.Version wanted _ (λ (e : commands.Version ≡ wanted). subst IsNumbered (sym e) h)
-    (λ (e : None ≡ Some wanted). cc))))))))
+numbered : (make cuts : Bool) (frames size : Option ℕ) → ((n : ℕ) → frames ≡ Some n → n ≤ most_frames) → ((n : ℕ) → size ≡ Some n → n ≤ max_payload)
+    → (c : Command) → (if make then option_map commands.Make frames else (if cuts then recut_by size else None)) ≡ Some c → Fits c
+numbered true cuts (Some n) size f g c e = subst Fits {x = commands.Make n} (let same : Some (commands.Make n) ≡ Some c = e in cc) (f n refl)
+numbered true cuts None size f g c e = absurd cc
+numbered false true frames (Some n) f g c e = sized n (n == 0) refl (g n refl) c e
+numbered false true frames None f g c e = absurd cc
+numbered false false frames size f g c e = absurd cc
 
--- a size is a number other than 0
-sized : (k n : ℕ) (none : Bool) → (k == 0) ≡ none → (if none then None else Some (commands.Recut k)) ≡ Some (commands.Recut n) → (k ≡ n) × (1 ≤ n)
-sized k n true zero e = absurd cc
-sized k n false zero e = let same : k ≡ n = cc in (same, grind (arith, nat_tests, zero, same))
-
-unsized : (k n : ℕ) (none : Bool) → (if none then None else Some (commands.Recut k)) ≢ Some (commands.Make n)
-unsized k n true e = cc
-unsized k n false e = cc
-
-abbrev with_number : Bool → Bool → Option ℕ → Option ℕ → Option Command
-with_number make cuts frames size = if make then option_map commands.Make frames else (if cuts then recut_by size else None)
-
-make_named : (make cuts : Bool) (frames size : Option ℕ) (n : ℕ) → with_number make cuts frames size ≡ Some (commands.Make n) → frames ≡ Some n
-make_named true cuts (Some k) size n e = cc
-make_named true cuts None size n e = absurd cc
-make_named false true frames (Some k) n e = absurd (unsized k n (k == 0) e)
-make_named false true frames None n e = absurd cc
-make_named false false frames size n e = absurd cc
-
-recut_named : (make cuts : Bool) (frames size : Option ℕ) (n : ℕ) → with_number make cuts frames size ≡ Some (commands.Recut n) → (size ≡ Some n) × (1 ≤ n)
-recut_named true cuts (Some k) size n e = absurd cc
-recut_named true cuts None size n e = absurd cc
-recut_named false true frames (Some k) n e = let found = sized k n (k == 0) refl e in (ap Some found.0, found.1)
-recut_named false true frames None n e = absurd cc
-recut_named false false frames size n e = absurd cc
+fits : (words : List (List ℕ)) (c : Command) → command_of words ≡ Some c → Fits c
+fits [] c e = absurd cc
+fits (word ∷ []) c e = alone_fits word c e
+fits (word ∷ number ∷ []) c e =
+    numbered (bytes_eq word (codes "make")) (bytes_eq word (codes "recut")) (number_named most_frames number) (number_named max_payload number)
+    (λ n e. (named most_frames number n e).few) (λ n e. (named max_payload number n e).few) c e
+fits (word ∷ number ∷ other ∷ more) c e = absurd cc
 
 -- `make` is asked for at most as many frames as may be made
 pub make_few : (words : List (List ℕ)) (n : ℕ) → command_of words ≡ Some (commands.Make n) → n ≤ most_frames
-make_few [] n e = absurd cc
-make_few (word ∷ []) n e = absurd (one_word word (commands.Make n) tt e)
-make_few (word ∷ number ∷ []) n e =
-    few most_frames number n
-    (make_named (bytes_eq word (codes "make")) (bytes_eq word (codes "recut")) (number_named most_frames number) (number_named max_payload number) n e)
-make_few (word ∷ number ∷ other ∷ more) n e = absurd cc
+make_few words n e = fits words (commands.Make n) e
 
 -- `recut` is asked for a size from 1 to the limit on payloads
 pub recut_fits : (words : List (List ℕ)) (n : ℕ) → command_of words ≡ Some (commands.Recut n) → (1 ≤ n) × (n ≤ max_payload)
-recut_fits [] n e = absurd cc
-recut_fits (word ∷ []) n e = absurd (one_word word (commands.Recut n) tt e)
-recut_fits (word ∷ number ∷ []) n e =
-    let found =
-    recut_named (bytes_eq word (codes "make")) (bytes_eq word (codes "recut")) (number_named most_frames number) (number_named max_payload number) n e in
-    (found.1, few max_payload number n found.0)
-recut_fits (word ∷ number ∷ other ∷ more) n e = absurd cc
+recut_fits words n e = fits words (commands.Recut n) e

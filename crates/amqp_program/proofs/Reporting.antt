@@ -1,29 +1,34 @@
 -- What holds of a run by its report, and of a command by what was asked for.
-use Rattle.std.proofs.Common.{◌≡◌, ◌≢◌, ◌↔◌, ◌⊎◌, ℕ, List, Option, Some, None, inl, inr, sym, subst, ◌∙◌, arith}
+use Rattle.std.proofs.Common.{◌≡◌, ◌≢◌, ◌↔◌, ◌⊎◌, ℕ, ◌≤◌, ◌<◌, List, Option, Some, None, inl, inr, sym, subst, ◌∙◌, arith}
 use Rattle.amqp_types.specs.Levels.{plain, tidy}
 use Rattle.amqp_stream.specs.Ends.{Supply, Store}
 use Rattle.amqp_select.specs.declared.rule.Rule.{Rule}
 use Rattle.amqp_program.specs.declared.command.Command.{Command}
 use Rattle.amqp_program.specs.declared.command.Command.TheVariants as commands
 use Rattle.amqp_program.specs.declared.outcome.Outcome.{Outcome}
-use Rattle.amqp_recut.specs.Recutting.{recut_bytes}
-use Rattle.amqp_recut.specs.Stepping.{is_content_type}
-use Rattle.amqp_program.specs.declared.print_command.TheConstants.{HELP, VERSION}
 use Rattle.amqp_program.specs.Commands.{command_of, IsNoForm}
 use Rattle.amqp_program.specs.Makes.{RunsMake}
 use Rattle.amqp_program.specs.Reporting.{ReportsCommand, ReportsFilter, ReportsSelect, RunsCommand}
-use Rattle.amqp_program.specs.Runs.{Prints, RunsFilter, RunsSelect}
+use Rattle.amqp_program.specs.Runs.{MayEndWith, Prints, RunsFilter, RunsSelect}
 use Rattle.amqp_program.proofs.HexRuns.{hex_not_two}
-use Rattle.amqp_program.proofs.RawRuns.{raw_not_two}
-use Rattle.amqp_program.proofs.TextRuns.{dump_not_two, undump_not_two}
-use Rattle.amqp_program.proofs.TurnRuns.{turn_not_two}
+use Rattle.amqp_program.proofs.Statuses.{stream_not_two, turn_not_two, undump_not_two}
 
--- the words ask for no other command
-pub done : (words : List (List ℕ)) (found command : Command) (a b : Supply) (k l : Store) (outcome : Outcome) → command_of words ≡ Some found
-    → ReportsCommand found a b k l outcome → command_of words ≡ Some command → ReportsCommand command a b k l outcome
-done words found command a b k l outcome is report e =
-    let same : found ≡ command = (let both : Some found ≡ Some command = sym is ∙ e in cc) in
-    subst (λ c. ReportsCommand c a b k l outcome) same report
+-- ---- by the report
+
+by_status : {status other : ℕ} → status ≡ other → other ≢ 2 → status ≢ 2
+by_status is other two = other (sym is ∙ two)
+
+print_not_two : {text : List ℕ} {k l : Store} {status : ℕ} → Prints text k l status → status ≢ 2
+print_not_two run two = elim run.ends [
+  | inl done ↦ (let zero = done.0 in absurd (omega arith))
+  | inr failed ↦ (let five = failed.0 in absurd (omega arith))
+]
+
+make_not_two : {n : ℕ} {k l : Store} {status : ℕ} → RunsMake n k l status → status ≢ 2
+make_not_two run two = elim run.ends [
+  | inl done ↦ (let zero = done.0 in absurd (omega arith))
+  | inr other ↦ elim other [ inl memory ↦ (let three = memory.0 in absurd (omega arith)) | inr failed ↦ (let five = failed.0 in absurd (omega arith)) ]
+]
 
 -- what a run does, without where it ended
 pub ran : (command : Command) (a b : Supply) (k l : Store) (outcome : Outcome) → ReportsCommand command a b k l outcome
@@ -49,46 +54,53 @@ pub filtered : (rules : List Rule) (a b : Supply) (k l : Store) (outcome : Outco
     → RunsFilter rules a b k l outcome.status
 filtered rules a b k l outcome report = report.run
 
--- ---- status 2
+module _ (a b : Supply) (k l : Store) (outcome : Outcome) where
+  not_two : (command : Command) → ReportsCommand command a b k l outcome → outcome.status ≢ 2
+  not_two commands.Hex report = hex_not_two plain report.run
+  not_two commands.Raw report = by_status report.run.status_is (stream_not_two report.run.answer)
+  not_two commands.Tidy report = hex_not_two tidy report.run
+  not_two commands.Lent report = by_status report.run.status_is (stream_not_two report.run.answer)
+  not_two commands.Dump report = by_status report.run.status_is (stream_not_two report.run.answer)
+  not_two commands.Undump report = by_status report.run.status_is (undump_not_two report.run.answer)
+  not_two (commands.Recut n) report = by_status report.run.status_is (turn_not_two report.run.answer)
+  not_two (commands.Make n) report = make_not_two report.0
+  not_two commands.Help report = print_not_two report.0
+  not_two commands.Version report = print_not_two report.0
 
-make_not_two : (n : ℕ) (k l : Store) (status : ℕ) → RunsMake n k l status → status ≢ 2
-make_not_two n k l status run h = elim run.ends [
-  | inl done ↦ (let zero = done.0 in absurd (omega arith))
-  | inr other ↦ elim other [ inl memory ↦ (let three = memory.0 in absurd (omega arith)) | inr failed ↦ (let five = failed.0 in absurd (omega arith)) ]
-]
+-- ---- by what was asked for
 
-print_not_two : (text : List ℕ) (k l : Store) (status : ℕ) → Prints text k l status → status ≢ 2
-print_not_two text k l status run h = elim run.ends [
-  | inl done ↦ (let zero = done.0 in absurd (omega arith))
-  | inr failed ↦
-      (let five = failed.0 in absurd (omega arith))
-]
+module _ (words : List (List ℕ)) where
+  -- the words ask for no other command
+  pub done : (found command : Command) (a b : Supply) (k l : Store) (outcome : Outcome) → command_of words ≡ Some found
+      → ReportsCommand found a b k l outcome → command_of words ≡ Some command → ReportsCommand command a b k l outcome
+  done found command a b k l outcome is report e =
+      subst (λ c. ReportsCommand c a b k l outcome) (let both : Some found ≡ Some command = sym is ∙ e in cc) report
 
-not_two : (command : Command) (a b : Supply) (k l : Store) (outcome : Outcome) → ReportsCommand command a b k l outcome → outcome.status ≢ 2
-not_two commands.Hex a b k l outcome report = hex_not_two plain a b k l outcome.status report.run
-not_two commands.Raw a b k l outcome report = raw_not_two a b k l outcome.status report.run
-not_two commands.Tidy a b k l outcome report = hex_not_two tidy a b k l outcome.status report.run
-not_two commands.Lent a b k l outcome report = raw_not_two a b k l outcome.status report.run
-not_two commands.Dump a b k l outcome report = dump_not_two a b k l outcome.status report.run
-not_two commands.Undump a b k l outcome report = undump_not_two a b k l outcome.status report.run
-not_two (commands.Recut n) a b k l outcome report = turn_not_two (recut_bytes n) is_content_type a b k l outcome.status report.run
-not_two (commands.Make n) a b k l outcome report = make_not_two n k l outcome.status report.0
-not_two commands.Help a b k l outcome report = print_not_two HELP.now k l outcome.status report.0
-not_two commands.Version a b k l outcome report = print_not_two VERSION.now k l outcome.status report.0
+  -- words that ask for a command are one of the forms
+  pub is_form : (command : Command) → command_of words ≡ Some command → ¬ IsNoForm words
+  is_form command is none = let same = sym is ∙ none.no_command in cc
 
--- a command does not end with 2, and its words are one of the forms
-pub usage : (words : List (List ℕ)) (command : Command) (a b : Supply) (k l : Store) (outcome : Outcome) → command_of words ≡ Some command
-    → ReportsCommand command a b k l outcome → (outcome.status ≡ 2) ↔ IsNoForm words
-usage words command a b k l outcome is report = (
-  λ two. absurd (not_two command a b k l outcome report two),
-  λ none. absurd
-      (let same = sym is ∙ none.no_command in cc),
-)
+  -- a command does not end with 2, and its words are one of the forms
+  pub usage : (command : Command) (a b : Supply) (k l : Store) (outcome : Outcome) → command_of words ≡ Some command
+      → ReportsCommand command a b k l outcome → (outcome.status ≡ 2) ↔ IsNoForm words
+  usage command a b k l outcome is report = (λ two. absurd (not_two a b k l outcome command report two), λ none. absurd (is_form command is none))
 
--- words that ask for a command are one of the forms
-pub is_form : (words : List (List ℕ)) (command : Command) → command_of words ≡ Some command → ¬ IsNoForm words
-is_form words command is none = let same = sym is ∙ none.no_command in cc
+  -- words that are none of the forms ask for no command
+  pub asks_none : command_of words ≡ None → (command : Command) → command_of words ≢ Some command
+  asks_none none command is = let same = sym none ∙ is in cc
 
--- words that are none of the forms ask for no command
-pub asks_none : (words : List (List ℕ)) → command_of words ≡ None → (command : Command) → command_of words ≢ Some command
-asks_none words none command is = absurd (let same = sym none ∙ is in cc)
+-- ---- statuses from 23 on
+
+-- a run that ends below 23
+pub owns_none : (rules : Option (List (List ℕ))) (asked : Option Command) (status : ℕ) → status < 23 → 23 ≤ status → MayEndWith rules asked status
+owns_none rules asked status below most = absurd (omega (arith, below, most))
+
+-- a run of a command ends with its own statuses
+pub owns : (rules : Option (List (List ℕ))) (words : List (List ℕ)) (command : Command) (status : ℕ) → rules ≡ None → command_of words ≡ Some command
+    → (23 ≤ status → MayEndWith None (Some command) status) → 23 ≤ status → MayEndWith rules (command_of words) status
+owns rules words command status none named may most = rw (none, named) (may most)
+
+-- a run of `filter` ends with those of content faults
+pub owns_filter : (rules : Option (List (List ℕ))) (words : List (List ℕ)) (asked : Option Command) (status : ℕ)
+    → rules ≡ Some words → (23 ≤ status → (status ≡ 24) ⊎ (status ≡ 25)) → 23 ≤ status → MayEndWith rules asked status
+owns_filter rules words asked status some may most = rw some (may most)

@@ -1,7 +1,7 @@
 -- Which argument is the first at fault, and what may stand in its place: by the forms
 -- of words alone.
 use Rattle.std.specs.Prelude.{◌≡◌, ◌≢◌, ◌↔◌, ◌⊎◌, ℕ, ◌+◌, ◌-◌, ◌<◌, ◌≤◌, List, [], ◌∷◌, ◌++◌}
-use Rattle.std.specs.Prelude.{length, take, slice_index, codes, Option, Some, None, IsSome}
+use Rattle.std.specs.Prelude.{length, take, slice_index, codes, Option, Some, IsSome}
 use Rattle.std.specs.List.{AllByRecursion}
 use Rattle.amqp_types.specs.Numerals.{number_named}
 use Rattle.amqp_stream.specs.Made.{most_frames}

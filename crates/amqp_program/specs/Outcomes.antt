@@ -2,39 +2,40 @@
 use Rattle.std.specs.Prelude.{◌≡◌, ◌⊎◌, ℕ, Option, Some, None, Result, Ok, Err}
 use Rattle.amqp_stream.specs.declared.errors.StreamError.{StreamError}
 use Rattle.amqp_stream.specs.declared.report.RunReport.{RunReport}
-use Rattle.amqp_stream.specs.Errors.{stream_error_status}
-use Rattle.amqp_stream.specs.Reports.{IsAtStart}
+use Rattle.amqp_stream.specs.Errors.{status_of}
+use Rattle.amqp_stream.specs.Reports.{IsAtStart, unreported}
 use Rattle.amqp_in_turn.specs.declared.errors.TurnError.{TurnError}
-use Rattle.amqp_in_turn.specs.Errors.{turn_error_status}
 use Rattle.amqp_lines.specs.declared.errors.UndumpError.{UndumpError}
 use Rattle.amqp_lines.specs.declared.report.UndumpReport.{UndumpReport}
-use Rattle.amqp_lines.specs.Errors.{undump_error_status}
+use Rattle.amqp_lines.specs.UndumpReports.{unreported_lines}
 use Rattle.amqp_program.specs.declared.outcome.Place.{Place}
 use Rattle.amqp_program.specs.declared.outcome.Place.TheVariants as places
 use Rattle.amqp_program.specs.declared.outcome.Outcome.{Outcome}
+use Rattle.amqp_program.specs.Runs.{turn_status_of, undump_status_of}
+
+-- the place in the input where a stream ended, unless it ended well
+abbrev pub place_of : {E : Type 0} → Result (Unit {0}) (RunReport E) → Option Place
+place_of (Ok done) = None
+place_of (Err report) = Some (places.Input report.place report.channel)
 
 -- the outcome of a stream: the status of its error, and its place in the input
 abbrev pub streamed : Result (Unit {0}) (RunReport StreamError) → Outcome
-streamed (Ok done) = record { status = 0; place = None }
-streamed (Err report) = record {
-  status = stream_error_status report.error;
-  place = Some (places.Input report.place report.channel);
-}
+streamed answer = record { status = status_of (unreported answer); place = place_of answer }
 
 -- the same of a stream whose frames have to be in turn
 abbrev pub turned : Result (Unit {0}) (RunReport TurnError) → Outcome
-turned (Ok done) = record { status = 0; place = None }
-turned (Err report) = record {
-  status = turn_error_status report.error;
-  place = Some (places.Input report.place report.channel);
-}
+turned answer = record { status = turn_status_of (unreported answer); place = place_of answer }
+
+-- the line in the text where reading lines back ended, unless it ended well
+abbrev pub line_of : Result (Unit {0}) UndumpReport → Option Place
+line_of (Ok done) = None
+line_of (Err report) = Some (places.Line report.line report.place)
 
 -- the same where lines are read back: the line in the text
 abbrev pub undumped : Result (Unit {0}) UndumpReport → Outcome
-undumped (Ok done) = record { status = 0; place = None }
-undumped (Err report) = record {
-  status = undump_error_status report.error;
-  place = Some (places.Line report.line report.place);
+undumped answer = record {
+  status = undump_status_of (unreported_lines answer);
+  place = line_of answer;
 }
 
 -- memory ran out before anything was read

@@ -11,7 +11,7 @@ use amqp_stream::{Sink, Source};
 use std::alloc::Global;
 
 /// Writes the line of each frame.
-#[tactic(auto, using(crate::proofs::TextRuns::dump_reports, crate::proofs::Statuses::streamed_below_23))]
+#[tactic(auto, using(crate::proofs::Statuses::streamed_below_23))]
 pub fn run_dump<S: Source, K: Sink>(alloc: Global, source: &mut S, sink: &mut K) -> Outcome
     ensures run { ReportsDump (S.supply source.old) (S.supply source.new)
         (K.store sink.old) (K.store sink.new) result }

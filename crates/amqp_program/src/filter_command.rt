@@ -18,7 +18,7 @@ use std::alloc::Global;
 /// Writes the canonical bytes of the messages whose openings rules keep, and of each other frame that they keep. It is
 /// called apart, so that its loop is not laid out among those of other commands.
 #[inline(never)]
-#[tactic(auto, using(crate::proofs::TurnRuns::turn_reports, crate::proofs::TurnRuns::own_statuses))]
+#[tactic(auto, using(crate::proofs::Statuses::own_statuses))]
 fn run_rules<S: Source, K: Sink>(
     alloc: Global,
     rules: &Rules,
@@ -33,7 +33,7 @@ fn run_rules<S: Source, K: Sink>(
 }
 
 /// The same for the rules that words stand for.
-#[tactic(auto, using(crate::proofs::FilterRuns::reports_named, crate::proofs::FilterRuns::filter_without_memory))]
+#[tactic(auto, using(crate::proofs::Ran::filters_named, crate::proofs::Ran::filter_without_memory))]
 pub fn run_filter<S: Source, K: Sink>(
     alloc: Global,
     words: &[String],

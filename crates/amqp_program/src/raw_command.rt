@@ -13,7 +13,7 @@ use std::alloc::Global;
 pub const RAW_BUDGET: u64 = 1_099_511_627_776;
 
 /// Canonicalizes bytes.
-#[tactic(auto, using(crate::proofs::RawRuns::raw_reports, crate::proofs::Statuses::streamed_below_23))]
+#[tactic(auto, using(crate::proofs::Statuses::streamed_below_23))]
 pub fn run_raw<S: Source, K: Sink>(alloc: Global, source: &mut S, sink: &mut K) -> Outcome
     ensures run { ReportsRaw (S.supply source.old) (S.supply source.new)
         (K.store sink.old) (K.store sink.new) result }
@@ -23,7 +23,7 @@ pub fn run_raw<S: Source, K: Sink>(alloc: Global, source: &mut S, sink: &mut K) 
 }
 
 /// The same by borrowed frames, which take memory only before the first read.
-#[tactic(auto, using(crate::proofs::RawRuns::raw_reports, crate::proofs::Statuses::streamed_below_23))]
+#[tactic(auto, using(crate::proofs::Statuses::streamed_below_23))]
 pub fn run_lent<S: Source, K: Sink>(alloc: Global, source: &mut S, sink: &mut K) -> Outcome
     ensures run { ReportsRaw (S.supply source.old) (S.supply source.new)
         (K.store sink.old) (K.store sink.new) result }

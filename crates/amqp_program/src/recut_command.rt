@@ -12,7 +12,7 @@ use amqp_stream::{Sink, Source};
 use std::alloc::Global;
 
 /// Writes the canonical bytes of frames, with the bodies of messages cut into bodies of so many bytes.
-#[tactic(auto, using(crate::proofs::TurnRuns::turn_reports, crate::proofs::TurnRuns::own_statuses))]
+#[tactic(auto, using(crate::proofs::Statuses::own_statuses))]
 pub fn run_recut<S: Source, K: Sink>(
     alloc: Global,
     size: u32,

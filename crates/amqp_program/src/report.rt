@@ -91,7 +91,7 @@ fn report_with(
 }
 
 /// The report on decoded bytes.
-#[tactic(auto, using(crate::proofs::HexPlaces::in_bytes), unfolding(crate::specs::Reports::report_at))]
+#[tactic(auto, using(crate::proofs::HexRuns::in_bytes), unfolding(crate::specs::Reports::report_at))]
 fn report_on(alloc: Global, profile: Profile, bytes: &[u8]) -> Result<Report, NoMemory>
     ensures report { IfOk result (λ r. printed_of r ≡ report_at (level_of profile) bytes.now) }
     ensures place { IfOk result (λ r. IsPlaceIn (level_of profile) bytes.now r.outcome) }
@@ -132,7 +132,7 @@ fn count_digits(text: &[u8]) -> usize
 }
 
 /// The report on a hex text, read in a profile.
-#[tactic(auto, using(crate::proofs::HexPlaces::hex_placed, crate::proofs::HexPlaces::bad_hex_placed))]
+#[tactic(auto, using(crate::proofs::HexRuns::hex_placed, crate::proofs::HexRuns::bad_hex_placed))]
 pub fn report_of(alloc: Global, profile: Profile, text: &[u8]) -> Result<Report, NoMemory>
     ensures report { IfOk result (λ r. printed_of r ≡ report (level_of profile) text.now) }
     ensures place { IfOk result

@@ -28,7 +28,7 @@ use std::alloc::Global;
 
 /// Does all that the program does, and reports how it ended and where: its exit status, and the place in the input, in the
 /// text or among the arguments of what ended it. The words are those after the program's name.
-#[tactic(auto, using(crate::proofs::Reporting::done, crate::proofs::Reporting::usage, crate::proofs::Reporting::is_form, crate::proofs::Reporting::asks_none, crate::proofs::Owners::owns_none, crate::proofs::Owners::owns, crate::proofs::Owners::owns_filter))]
+#[tactic(auto, using(crate::proofs::Reporting::done, crate::proofs::Reporting::usage, crate::proofs::Reporting::is_form, crate::proofs::Reporting::asks_none, crate::proofs::Reporting::owns_none, crate::proofs::Reporting::owns, crate::proofs::Reporting::owns_filter))]
 pub fn run_reported<S: Source, K: Sink>(
     alloc: Global,
     words: &[String],

@@ -15,7 +15,7 @@ use amqp_stream::{Sink, Source};
 use std::alloc::Global;
 
 /// Writes the canonical bytes of the frames that rules keep.
-#[tactic(auto, using(crate::proofs::SelectRuns::select_reports, crate::proofs::Statuses::streamed_below_23))]
+#[tactic(auto, using(crate::proofs::Statuses::streamed_below_23))]
 fn run_rules<S: Source, K: Sink>(
     alloc: Global,
     rules: &Rules,
@@ -30,7 +30,7 @@ fn run_rules<S: Source, K: Sink>(
 }
 
 /// The same for the rules that words stand for.
-#[tactic(auto, using(crate::proofs::SelectRuns::reports_named, crate::proofs::SelectRuns::select_without_memory))]
+#[tactic(auto, using(crate::proofs::Ran::selects_named, crate::proofs::Ran::select_without_memory))]
 pub fn run_select<S: Source, K: Sink>(
     alloc: Global,
     words: &[String],

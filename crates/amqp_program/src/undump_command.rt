@@ -11,7 +11,7 @@ use amqp_stream::{Sink, Source};
 use std::alloc::Global;
 
 /// Writes the canonical bytes of the frame of each line.
-#[tactic(auto, using(crate::proofs::TextRuns::undump_reports, crate::proofs::TextRuns::undump_statuses))]
+#[tactic(auto, using(crate::proofs::Statuses::undump_statuses))]
 pub fn run_undump<S: Source, K: Sink>(alloc: Global, source: &mut S, sink: &mut K) -> Outcome
     ensures run { ReportsUndump (S.supply source.old) (S.supply source.new)
         (K.store sink.old) (K.store sink.new) result }

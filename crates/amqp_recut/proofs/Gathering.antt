@@ -1,5 +1,7 @@
 -- What is gathered one after another, and the steps that are made of it.
-use Rattle.std.proofs.Common.{◌≡◌, ℕ, List, [], ◌++◌, refl, sym, ap, subst, ◌∙◌, append_assoc, append-nil, Result, Ok, Err}
+use Rattle.std.proofs.lemmas.Grind.{common_steps}
+use Rattle.std.proofs.Common.{arith}
+use Rattle.std.proofs.Common.{◌≡◌, ℕ, List, [], ◌++◌, sym, ap, subst, ◌∙◌, append_assoc, append-nil, Result, Ok, Err}
 use Rattle.amqp_wire.specs.Frames.{Raw, Body}
 use Rattle.amqp_wire.specs.Verdicts.{decode_payload}
 use Rattle.amqp_stream.specs.declared.sink.SinkFault.{SinkFault}
@@ -45,31 +47,27 @@ gathers_less {x = x} {p = p} q f = record {
 
 -- other words for the same bytes
 pub gathers_as : {p q : List ℕ} (a b : Store) (x y : List ℕ) (r : Result (Unit {0}) SinkFault) → p ≡ q → Gathers a b x y p r → Gathers a b x y q r
-gathers_as a b x y (Ok done) e h = subst (λ (bytes : List ℕ). Gathered a b x y bytes) e h
-gathers_as a b x y (Err bad) e h = subst (λ (bytes : List ℕ). GatherFails a b x y bytes) e h
+gathers_as a b x y r e h = grind (arith, common_steps)
 
 -- Where the pending bytes are as they were, nothing was gathered.
 pub gathered_none : (a : Store) (x y : List ℕ) → y ≡ x → Gathered a a x y []
-gathered_none a x y e = record { written = []; gains = Gains-none a; parts = e ∙ sym (append-nil x) }
+gathered_none a x y e = grind (arith, common_steps, Gains-none, append-nil)
 
 -- all that was pending was written
 pub all_written : (a b : Store) (x y : List ℕ) (r : Result (Unit {0}) SinkFault) → y ≡ [] → WritesAll a b x r → Gathers a b x y [] r
-all_written a b x y (Ok done) e h =
-    record { written = h.piece; gains = h.gains; parts = ap (λ (bytes : List ℕ). h.piece ++ bytes) e ∙ append-nil h.piece ∙ h.ok ∙ sym (append-nil x) }
-all_written a b x y (Err bad) e h = record { piece = h.piece; gains = h.gains; prefix = (h.prefix.0, h.prefix.1 ∙ sym (append-nil x)); rises = h.err; none = e }
+all_written a b x y r e h = grind (arith, common_steps, append-nil)
 
 -- ---- a step
 
 body_step : (s t : Recutter) (channel : ℕ) (payload bytes : List ℕ)
     → step_recutting s (Body channel payload) ≡ Ok (bytes, t) → IsStep recutting s t (body_raw channel payload) bytes
 unfolding decode_payload
-body_step s t channel payload bytes e = record { frame = Body channel payload; is_whole = refl; at_level = refl; steps = e }
+body_step s t channel payload bytes e = grind (arith, common_steps)
 
 -- what is written for a body was gathered, or not
 pub body_written : {s t : Recutter} {channel : ℕ} {payload bytes : List ℕ} (a b : Store) (x y : List ℕ)
     → step_recutting s (Body channel payload) ≡ Ok (bytes, t) → Gathered a b x y bytes → Writes recutting s t (body_raw channel payload) a b x y
-body_written {s = s} {t = t} {channel = channel} {payload = payload} {bytes = bytes} a b x y e h =
-    record { bytes = bytes; step = body_step s t channel payload bytes e; gathered = h }
+body_written a b x y e h = grind (arith, common_steps, body_step)
 
 -- Where gathering the bytes that a body is replaced by fails, writing for its frame fails.
 pub body_unwritten : {s t : Recutter} {channel : ℕ} {payload bytes : List ℕ} (a b : Store) (x y : List ℕ)

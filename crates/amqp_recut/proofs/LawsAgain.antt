@@ -1,10 +1,10 @@
 -- Frames recut again: bodies that are cut stay, and the last of two sizes counts.
-use Rattle.std.proofs.Common.{◌≡◌, ℕ, ◌+◌, ◌*◌, ◌/◌, ◌<◌, ◌≤◌, Bool, true, false, eqb, leb, List, [], ◌∷◌, ◌++◌, length, map, refl, sym, ap}
-use Rattle.std.proofs.Common.{ap₂, subst, ◌∙◌, arith, inl, inr}
+use Rattle.std.proofs.lemmas.Grind.{common_steps}
+use Rattle.std.proofs.Common.{◌≡◌, ℕ, ◌+◌, ◌≤◌, Bool, true, false, eqb, leb, List, [], ◌∷◌, ◌++◌, length, refl, sym, ap}
+use Rattle.std.proofs.Common.{ap₂, subst, ◌∙◌, arith}
 use Rattle.std.specs.List.{flat_map}
 use Rattle.std.proofs.lemmas.Bool.{cases_eq, eqb-false}
-use Rattle.std.proofs.lemmas.Bool.Decides.{nat_tests}
-use Rattle.std.proofs.lemmas.List.{append_assoc, drop_all}
+use Rattle.std.proofs.lemmas.List.{append_assoc}
 use Rattle.amqp_types.specs.Methods.{Method}
 use Rattle.amqp_types.specs.ContentHeaders.{ContentHeader}
 use Rattle.amqp_wire.specs.Frames.{Frame, Proto, Meth, Head, Body, Beat, BadBeat, channel_id_of}
@@ -13,10 +13,9 @@ use Rattle.amqp_turns.specs.Units.{is_content, is_opening_id, of_channel, Nothin
 use Rattle.amqp_turns.specs.Stands.{State, At, Lost}
 use Rattle.amqp_turns.specs.Steps.{step, run_state}
 use Rattle.amqp_turns.specs.Messages.{joined}
-use Rattle.amqp_turns.specs.Splits.{pieces, whole_pieces, left_over}
-use Rattle.amqp_turns.proofs.Pieces.{given-ended, left-more, left-none, one-whole}
+use Rattle.amqp_turns.specs.Splits.{left_over}
+use Rattle.amqp_turns.proofs.Pieces.{given-ended, one-whole}
 use Rattle.amqp_turns.proofs.Running.{turn_runs, stands_run}
-use Rattle.amqp_turns.proofs.Telling.{joined-push}
 use Rattle.amqp_turns.specs.InTurn.{greatest, AreInTurn, NoneIsOpen, state_on}
 use Rattle.amqp_recut.specs.Cuts.{pieces_brought, frame_recut, recut_after, recut}
 use Rattle.amqp_recut.specs.Laws.{IsPiece, AreCut}
@@ -38,19 +37,11 @@ IsWhole size Lost = Unit {0}
 piece_stays : (size : ℕ) (opening header : Frame) (bodies : List Frame) (content : List ℕ) (ends : Bool)
     → 1 ≤ size → left_over size (joined bodies) ≡ [] → IsPiece size (At (Headed opening header bodies)) content
     → eqb (bytes_in outline_of bodies + length content) (size_in (outline_of header)) ≡ ends → pieces_brought size ends (joined bodies) content ≡ content ∷ []
-piece_stays size opening header bodies content true some none piece e =
-    brought size true (joined bodies) content some ∙ ap (λ l. pieces size (l ++ content)) none ∙ given-ended size content some piece.0 (omega (arith, piece.1))
-piece_stays size opening header bodies content false some none piece e =
-    let goes : (bytes_in outline_of bodies + length content ≡ size_in (outline_of header)) → ⊥ =
-    eqb-false (bytes_in outline_of bodies + length content) (size_in (outline_of header)) e in
-    let long : length content ≡ size = grind (arith, piece.0, piece.1, goes) in
-    brought size false (joined bodies) content some ∙ ap (λ l. whole_pieces size (l ++ content)) none ∙ one-whole size content some long
+piece_stays size opening header bodies content ends some none piece e = grind (arith, common_steps, brought, eqb-false, given-ended, one-whole)
 
 frame_stays : (size : ℕ) (state : State Frame) (frame : Frame) → 1 ≤ size
     → IsWhole size state → IsCut size state frame → frame_recut size state frame ≡ frame ∷ []
-frame_stays size (At (Headed opening header bodies)) (Body channel content) some whole cut =
-    ap (λ ps. map (λ part. Body channel part) ps)
-    (piece_stays size opening header bodies content (eqb (bytes_in outline_of bodies + length content) (size_in (outline_of header))) some whole cut refl)
+frame_stays size (At (Headed opening header bodies)) (Body channel content) some whole cut = grind (arith, common_steps, piece_stays)
 frame_stays size (At Nothing) (Body channel content) some whole cut = refl
 frame_stays size (At (Opened opening)) (Body channel content) some whole cut = refl
 frame_stays size Lost (Body channel content) some whole cut = refl
@@ -68,55 +59,22 @@ whole_method size channel m false e = rw e tt
 whole_header : (size : ℕ) (opening : Frame) (channel : ℕ) (header : ContentHeader) (basic fits none : Bool)
     → eqb header.class_id 60 ≡ basic → leb header.body_size greatest ≡ fits → eqb 0 header.body_size ≡ none
     → IsWhole size (step outline_of greatest (At (Opened opening)) (Head channel header)).1
-whole_header size opening channel header false fits none basic fit done = rw basic tt
-whole_header size opening channel header true false none basic fit done = rw basic (rw fit tt)
-whole_header size opening channel header true true true basic fit done = rw basic (rw fit (rw done tt))
-whole_header size opening channel header true true false basic fit done = rw basic (rw fit (rw done (drop_all ((0 / size) * size) [] (omega arith))))
+whole_header size opening channel header basic fits none h fit done = grind (arith, common_steps)
 
 left_whole : (size : ℕ) (bodies : List Frame) (channel : ℕ) (content : List ℕ) → 1 ≤ size → left_over size (joined bodies) ≡ []
     → length content ≡ size → left_over size (joined (bodies ++ Body channel content ∷ [])) ≡ []
-left_whole size bodies channel content some none long =
-    ap (left_over size) (joined-push bodies (Body channel content))
-    ∙ sym (left-more size (joined bodies) content some)
-    ∙ ap (λ l. left_over size (l ++ content)) none
-    ∙ left-none size content some long
+left_whole size bodies channel content some none long = grind (arith, common_steps)
 
 whole_body : (size : ℕ) (opening header : Frame) (bodies : List Frame) (channel : ℕ) (content : List ℕ) (fits all : Bool)
     → 1 ≤ size → left_over size (joined bodies) ≡ [] → IsPiece size (At (Headed opening header bodies)) content
     → leb (bytes_in outline_of bodies + length content) (size_in (outline_of header)) ≡ fits
     → eqb (bytes_in outline_of bodies + length content) (size_in (outline_of header)) ≡ all
     → IsWhole size (step outline_of greatest (At (Headed opening header bodies)) (Body channel content)).1
-whole_body size opening header bodies channel content false all some none piece fit done = rw fit tt
-whole_body size opening header bodies channel content true true some none piece fit done = rw fit (rw done tt)
-whole_body size opening header bodies channel content true false some none piece fit done =
-    let less : bytes_in outline_of bodies + length content < size_in (outline_of header) = grind (arith, nat_tests) in
-    let long : length content ≡ size = omega (arith, piece.1, less) in
-    rw fit (rw done (left_whole size bodies channel content some none long))
+whole_body size opening header bodies channel content fits all some none piece fit done = grind (arith, common_steps, left_whole)
 
 whole_step : (size : ℕ) (state : State Frame) (frame : Frame) → 1 ≤ size → IsWhole size state
     → IsCut size state frame → IsWhole size (step outline_of greatest state frame).1
-whole_step size (At Nothing) (Meth channel m) some whole cut = whole_method size channel m (is_opening_id m.class m.id) refl
-whole_step size (At Nothing) (Head channel header) some whole cut = tt
-whole_step size (At Nothing) (Body channel content) some whole cut = tt
-whole_step size (At Nothing) (Proto major minor revision) some whole cut = tt
-whole_step size (At Nothing) Beat some whole cut = tt
-whole_step size (At Nothing) (BadBeat channel) some whole cut = tt
-whole_step size (At (Opened opening)) (Head channel header) some whole cut =
-    whole_header size opening channel header (eqb header.class_id 60) (leb header.body_size greatest) (eqb 0 header.body_size) refl refl refl
-whole_step size (At (Opened opening)) (Meth channel m) some whole cut = tt
-whole_step size (At (Opened opening)) (Body channel content) some whole cut = tt
-whole_step size (At (Opened opening)) (Proto major minor revision) some whole cut = tt
-whole_step size (At (Opened opening)) Beat some whole cut = tt
-whole_step size (At (Opened opening)) (BadBeat channel) some whole cut = tt
-whole_step size (At (Headed opening header bodies)) (Body channel content) some whole cut =
-    whole_body size opening header bodies channel content (leb (bytes_in outline_of bodies + length content) (size_in (outline_of header)))
-    (eqb (bytes_in outline_of bodies + length content) (size_in (outline_of header))) some whole cut refl refl
-whole_step size (At (Headed opening header bodies)) (Meth channel m) some whole cut = tt
-whole_step size (At (Headed opening header bodies)) (Head channel second) some whole cut = tt
-whole_step size (At (Headed opening header bodies)) (Proto major minor revision) some whole cut = tt
-whole_step size (At (Headed opening header bodies)) Beat some whole cut = tt
-whole_step size (At (Headed opening header bodies)) (BadBeat channel) some whole cut = tt
-whole_step size Lost frame some whole cut = tt
+whole_step size state frame some whole cut = grind (arith, common_steps, whole_body, whole_header, whole_method)
 
 -- the same on each channel
 abbrev AreWhole : ℕ → List Frame → Type 0
@@ -124,14 +82,7 @@ AreWhole size frames = (channel : ℕ) → IsWhole size (state_on frames channel
 
 whole_later : (size : ℕ) (earlier : List Frame) (frame : Frame) (content : Bool) → is_content (outline_of frame) ≡ content → 1 ≤ size
     → AreWhole size earlier → IsCut size (state_on earlier (channel_id_of frame)) frame → AreWhole size (earlier ++ frame ∷ [])
-whole_later size earlier frame false e some whole cut channel = subst (IsWhole size) (sym (state_on-outside earlier frame channel e)) (whole channel)
-whole_later size earlier frame true e some whole cut channel = elim (cases_eq channel (channel_id_of frame)) [
-  | inl same ↦
-      subst (λ (c : ℕ). IsWhole size (state_on (earlier ++ frame ∷ []) c)) (sym same)
-      (subst (IsWhole size) (sym (state_on-own earlier frame e))
-      (whole_step size (state_on earlier (channel_id_of frame)) frame some (whole (channel_id_of frame)) cut))
-  | inr apart ↦ subst (IsWhole size) (sym (state_on-other earlier frame channel apart)) (whole channel)
-]
+whole_later size earlier frame content e some whole cut = grind (arith, common_steps, cases_eq, state_on-other, state_on-outside, state_on-own, whole_step)
 
 cut_here : (size : ℕ) (earlier : List Frame) (frame : Frame) (frames : List Frame)
     → AreCut size (earlier ++ frame ∷ frames) → IsCut size (state_on earlier (channel_id_of frame)) frame
@@ -159,7 +110,7 @@ cut_bodies_stay size frames some cut = stay_after size [] frames some (λ channe
 
 -- Recutting frames in turn twice at one size is recutting them once.
 pub twice_is_once : (size : ℕ) (frames : List Frame) → 1 ≤ size → AreInTurn frames → recut size (recut size frames) ≡ recut size frames
-twice_is_once size frames some turn = cut_bodies_stay size (recut size frames) some (bodies_are_cut size frames some turn)
+twice_is_once size frames some turn = grind (arith, common_steps, bodies_are_cut, cut_bodies_stay)
 
 nothing_begun : (xs : List Frame) (h : IsInTurn outline_of greatest xs) → run_state outline_of greatest (At Nothing) xs ≡ At Nothing → h.begun ≡ Nothing
 nothing_begun xs h e =

@@ -1,107 +1,48 @@
 -- The frames of a channel are recut by themselves, whatever comes on other channels.
-use Rattle.std.proofs.Common.{◌≡◌, ℕ, ◌+◌, Bool, true, false, eqb, List, [], ◌∷◌, ◌++◌, length, map, refl, sym, ap, ap₂, subst, ◌∙◌}
+use Rattle.std.proofs.Common.{◌≡◌, ℕ, true, List, [], ◌∷◌, ◌++◌, map, refl, ap, subst, ◌∙◌}
+use Rattle.std.specs.List.{AllByRecursion}
 use Rattle.std.proofs.lemmas.List.Elements.{filter-append}
-use Rattle.amqp_wire.specs.Frames.{Frame, Proto, Meth, Head, Body, Beat, BadBeat, channel_id_of}
+use Rattle.amqp_wire.specs.Frames.{Frame, Proto, Meth, Head, Body, Beat, BadBeat}
 use Rattle.amqp_wire.specs.Outlines.{outline_of}
-use Rattle.amqp_turns.specs.Units.{Nothing, Opened, Headed, is_of_channel, of_channel, size_in, bytes_in}
+use Rattle.amqp_turns.specs.Units.{Nothing, Opened, Headed, is_of_channel, of_channel}
 use Rattle.amqp_turns.specs.Stands.{State, At, Lost}
 use Rattle.amqp_turns.specs.Steps.{step, run_state}
-use Rattle.amqp_turns.specs.Messages.{joined}
-use Rattle.amqp_turns.proofs.Running.{run_state-append}
-use Rattle.amqp_turns.proofs.Apart.{of_channel-in, of_channel-out, of_own}
-use Rattle.amqp_turns.proofs.Messages.{channel_is}
-use Rattle.amqp_turns.specs.InTurn.{greatest, state_on}
-use Rattle.amqp_recut.specs.Cuts.{pieces_brought, frame_recut, recut_after, recut}
+use Rattle.amqp_turns.proofs.Apart.{of_own}
+use Rattle.amqp_turns.specs.InTurn.{greatest}
+use Rattle.amqp_in_turn.proofs.Alone.{GoesByChannel, channel_made, made_on}
+use Rattle.amqp_recut.specs.Cuts.{frame_recut, recut_after, recut}
 use Rattle.amqp_recut.specs.Laws.{IsPiece, AreCut}
 
 -- the frames of one channel recut, after what has come on it
 abbrev pub channel_recut : ℕ → State Frame → List Frame → List Frame
-channel_recut size state [] = []
-channel_recut size state (frame ∷ frames) = frame_recut size state frame ++ channel_recut size (step outline_of greatest state frame).1 frames
+channel_recut size state frames = channel_made (frame_recut size) state frames
 
--- ---- one frame
+-- what a frame becomes is of its channel
 
-alone_in : (channel : ℕ) (frame : Frame) → is_of_channel outline_of channel frame ≡ true → of_channel outline_of channel (frame ∷ []) ≡ frame ∷ []
-alone_in channel frame h = rw h refl
+pieces_alike : (channel other : ℕ) (content : List ℕ) (parts : List (List ℕ))
+    → AllByRecursion (λ x. is_of_channel outline_of channel x ≡ is_of_channel outline_of channel (Body other content)) (map (λ part. Body other part) parts)
+pieces_alike channel other content [] = tt
+pieces_alike channel other content (part ∷ parts) = (refl, pieces_alike channel other content parts)
 
-alone_out : (channel : ℕ) (frame : Frame) → is_of_channel outline_of channel frame ≡ false → of_channel outline_of channel (frame ∷ []) ≡ []
-alone_out channel frame h = rw h refl
-
-bodies_in : (channel other : ℕ) (parts : List (List ℕ)) → eqb other channel ≡ true
-    → of_channel outline_of channel (map (λ part. Body other part) parts) ≡ map (λ part. Body other part) parts
-bodies_in channel other [] h = refl
-bodies_in channel other (part ∷ parts) h = rw h (ap (λ fs. Body other part ∷ fs) (bodies_in channel other parts h))
-
-bodies_out : (channel other : ℕ) (parts : List (List ℕ)) → eqb other channel ≡ false → of_channel outline_of channel (map (λ part. Body other part) parts) ≡ []
-bodies_out channel other [] h = refl
-bodies_out channel other (part ∷ parts) h = rw h (bodies_out channel other parts h)
-
--- what a frame becomes is on its channel
-own : (size channel : ℕ) (state : State Frame) (frame : Frame) → is_of_channel outline_of channel frame ≡ true
-    → of_channel outline_of channel (frame_recut size state frame) ≡ frame_recut size state frame
-own size channel state (Proto major minor revision) h = alone_in channel (Proto major minor revision) h
-own size channel state (Meth other m) h = alone_in channel (Meth other m) h
-own size channel state (Head other header) h = alone_in channel (Head other header) h
-own size channel state Beat h = alone_in channel Beat h
-own size channel state (BadBeat other) h = alone_in channel (BadBeat other) h
-own size channel (At Nothing) (Body other content) h = alone_in channel (Body other content) h
-own size channel (At (Opened opening)) (Body other content) h = alone_in channel (Body other content) h
-own size channel (At (Headed opening header bodies)) (Body other content) h =
-    bodies_in channel other (pieces_brought size (eqb (bytes_in outline_of bodies + length content) (size_in (outline_of header))) (joined bodies) content) h
-own size channel Lost (Body other content) h = alone_in channel (Body other content) h
-
-none : (size channel : ℕ) (state : State Frame) (frame : Frame) → is_of_channel outline_of channel frame ≡ false
-    → of_channel outline_of channel (frame_recut size state frame) ≡ []
-none size channel state (Proto major minor revision) h = alone_out channel (Proto major minor revision) h
-none size channel state (Meth other m) h = alone_out channel (Meth other m) h
-none size channel state (Head other header) h = alone_out channel (Head other header) h
-none size channel state Beat h = alone_out channel Beat h
-none size channel state (BadBeat other) h = alone_out channel (BadBeat other) h
-none size channel (At Nothing) (Body other content) h = alone_out channel (Body other content) h
-none size channel (At (Opened opening)) (Body other content) h = alone_out channel (Body other content) h
-none size channel (At (Headed opening header bodies)) (Body other content) h =
-    bodies_out channel other (pieces_brought size (eqb (bytes_in outline_of bodies + length content) (size_in (outline_of header))) (joined bodies) content) h
-none size channel Lost (Body other content) h = alone_out channel (Body other content) h
-
--- ---- frames one after another
-
-recut_later : (size channel : ℕ) (earlier frames : List Frame)
-    → of_channel outline_of channel (recut_after size earlier frames) ≡ channel_recut size (state_on earlier channel) (of_channel outline_of channel frames)
-recut_later size channel earlier [] = refl
-recut_later size channel earlier (frame ∷ frames) =
-    by_test (is_of_channel outline_of channel frame) refl (recut_later size channel (earlier ++ frame ∷ []) frames)
-  where
-    by_test : (test : Bool) → is_of_channel outline_of channel frame ≡ test
-        → of_channel outline_of channel (recut_after size (earlier ++ frame ∷ []) frames)
-        ≡ channel_recut size (state_on (earlier ++ frame ∷ []) channel) (of_channel outline_of channel frames)
-        → of_channel outline_of channel (recut_after size earlier (frame ∷ frames))
-        ≡ channel_recut size (state_on earlier channel) (of_channel outline_of channel (frame ∷ frames))
-    by_test true e rest =
-        let now = state_on earlier channel in
-        let more = recut_after size (earlier ++ frame ∷ []) frames in
-        let first : of_channel outline_of channel (frame_recut size (state_on earlier (channel_id_of frame)) frame) ≡ frame_recut size now frame =
-        ap (λ c. of_channel outline_of channel (frame_recut size (state_on earlier c) frame)) (channel_is channel frame e) ∙ own size channel now frame e in
-        let next : state_on (earlier ++ frame ∷ []) channel ≡ (step outline_of greatest now frame).1 =
-        ap (run_state outline_of greatest (At Nothing)) (of_channel-in channel earlier frame e)
-        ∙ run_state-append outline_of greatest (At Nothing) (of_channel outline_of channel earlier) (frame ∷ []) in
-        let has : of_channel outline_of channel (frame ∷ frames) ≡ frame ∷ of_channel outline_of channel frames = rw e refl in
-        filter-append (is_of_channel outline_of channel) (frame_recut size (state_on earlier (channel_id_of frame)) frame) more
-        ∙ ap₂ (λ xs ys. xs ++ ys) first (rest ∙ ap (λ s. channel_recut size s (of_channel outline_of channel frames)) next)
-        ∙ sym (ap (channel_recut size now) has)
-    by_test false e rest =
-        let now = state_on earlier channel in
-        let more = recut_after size (earlier ++ frame ∷ []) frames in
-        let next : state_on (earlier ++ frame ∷ []) channel ≡ now = ap (run_state outline_of greatest (At Nothing)) (of_channel-out channel earlier frame e) in
-        let has : of_channel outline_of channel (frame ∷ frames) ≡ of_channel outline_of channel frames = rw e refl in
-        filter-append (is_of_channel outline_of channel) (frame_recut size (state_on earlier (channel_id_of frame)) frame) more
-        ∙ ap₂ (λ xs ys. xs ++ ys) (none size channel (state_on earlier (channel_id_of frame)) frame e)
-        (rest ∙ ap (λ s. channel_recut size s (of_channel outline_of channel frames)) next)
-        ∙ sym (ap (channel_recut size now) has)
+alike : (size channel : ℕ) (state : State Frame) (frame : Frame)
+    → AllByRecursion (λ x. is_of_channel outline_of channel x ≡ is_of_channel outline_of channel frame) (frame_recut size state frame)
+alike size channel (At (Headed opening header bodies)) (Body other content) = pieces_alike channel other content _
+alike size channel (At Nothing) (Body other content) = (refl, tt)
+alike size channel (At (Opened opening)) (Body other content) = (refl, tt)
+alike size channel Lost (Body other content) = (refl, tt)
+alike size channel state (Proto major minor revision) = (refl, tt)
+alike size channel state (Meth other m) = (refl, tt)
+alike size channel state (Head other header) = (refl, tt)
+alike size channel state Beat = (refl, tt)
+alike size channel state (BadBeat other) = (refl, tt)
 
 -- The frames of a channel among frames that are recut are the channel's frames recut by themselves.
 pub recut_on : (size channel : ℕ) (frames : List Frame)
     → of_channel outline_of channel (recut size frames) ≡ channel_recut size (At Nothing) (of_channel outline_of channel frames)
-recut_on size channel frames = recut_later size channel [] frames
+recut_on size channel frames =
+    let by : GoesByChannel (frame_recut size) (frame_recut size) (recut_after size) =
+    record { none = λ earlier. refl; more = λ earlier frame frames. refl; alike = alike size; inside_is = λ channel state frame h. refl } in
+    made_on by channel [] frames
 
 -- ---- bodies that are cut
 

@@ -1,4 +1,6 @@
 -- Frames recut once: they are in turn, with the same messages, and their bodies are cut.
+use Rattle.std.proofs.lemmas.Grind.{common_steps}
+use Rattle.std.proofs.Common.{arith}
 use Rattle.std.proofs.Common.{◌≡◌, ℕ, ◌≤◌, List, ◌++◌, refl, sym, ap, ap₂, subst, ◌∙◌}
 use Rattle.std.specs.List.{AllByRecursion, flat_map}
 use Rattle.amqp_wire.specs.Frames.{Frame}
@@ -9,16 +11,13 @@ use Rattle.amqp_turns.proofs.Messages.{IsOn, all_on, all_front, done_of, turn_do
 use Rattle.amqp_turns.specs.InTurn.{greatest, AreInTurn}
 use Rattle.amqp_recut.specs.Cuts.{recut}
 use Rattle.amqp_recut.specs.Laws.{messages_on, AreCut}
-use Rattle.amqp_recut.proofs.LawsChannels.{recut_on, channel_recut, AreCutAfter, cut_append, are_cut}
+use Rattle.amqp_recut.proofs.LawsChannels.{recut_on, AreCutAfter, cut_append, are_cut}
 use Rattle.amqp_recut.proofs.LawsUnits.{unit_recut, begun_recut, units_cut, AllRemade, all_remade, BegunRemade, begun_remade}
 
 -- the frames of a channel, recut, by its units
 pub by_units : (size channel : ℕ) (frames : List Frame) → 1 ≤ size → (h : IsInTurn outline_of greatest (of_channel outline_of channel frames))
     → of_channel outline_of channel (recut size frames) ≡ flat_map (unit_recut size channel) h.units ++ begun_recut size channel h.begun
-by_units size channel frames some h =
-    recut_on size channel frames
-    ∙ ap (channel_recut size (At Nothing)) h.are
-    ∙ units_cut size channel h.units h.begun some h.finished h.is_begun (subst (AllByRecursion (IsOn channel)) h.are (all_on channel frames))
+by_units size channel frames some h = grind (arith, common_steps, all_on, recut_on, units_cut)
 
 -- units of a channel that are the frames recut, with the same messages
 pub record IsRemade (size channel : ℕ) (frames : List Frame) (h : IsInTurn outline_of greatest (of_channel outline_of channel frames)) : Type 0 where

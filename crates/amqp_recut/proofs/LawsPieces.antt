@@ -1,24 +1,21 @@
 -- Bodies of one message after another, recut: the pieces of their joined bytes.
-use Rattle.std.proofs.Common.{◌≡◌, ℕ, ◌+◌, ◌<◌, ◌≤◌, zero, suc, Bool, true, false, eqb, ltb, List, [], ◌∷◌, ◌++◌, length, map, take, drop, refl}
-use Rattle.std.proofs.Common.{sym, ap, ap₂, subst, ◌∙◌, arith}
+use Rattle.std.proofs.lemmas.Grind.{common_steps}
+use Rattle.std.proofs.Common.{◌≡◌, ℕ, ◌+◌, ◌<◌, ◌≤◌, zero, suc, Bool, true, false, ltb, List, [], ◌∷◌, ◌++◌, length, map, drop, refl}
+use Rattle.std.proofs.Common.{sym, ap, ◌∙◌, arith}
 use Rattle.std.specs.List.{AllByRecursion, flat_map}
 use Rattle.std.proofs.lemmas.Bool.Decides.{nat_tests}
 use Rattle.std.proofs.lemmas.List.{append-nil, append_assoc, length-drop, length-take-le, length-append, map-append}
 use Rattle.amqp_wire.specs.Frames.{Frame, Body}
 use Rattle.amqp_wire.specs.Outlines.{outline_of}
 use Rattle.amqp_turns.specs.Units.{Nothing, Headed, size_in, bytes_in, IsBody}
-use Rattle.amqp_turns.specs.Answers.{Answer}
 use Rattle.amqp_turns.specs.Stands.{State, At}
 use Rattle.amqp_turns.specs.Steps.{step}
 use Rattle.amqp_turns.specs.Messages.{joined}
 use Rattle.amqp_turns.specs.Splits.{pieces, whole_pieces, left_over, pieces_given}
 use Rattle.amqp_turns.proofs.Pieces.{given_after, given-more, given-ended, given-nothing, left-more, left_short, whole-none}
 use Rattle.amqp_turns.proofs.Moving.{bytes_in-push}
-use Rattle.amqp_turns.proofs.Running.{body_step, last_step}
 use Rattle.amqp_turns.proofs.Telling.{joined-push, length-joined}
 use Rattle.amqp_turns.specs.InTurn.{greatest}
-use Rattle.amqp_recut.specs.Cuts.{pieces_brought}
-use Rattle.amqp_recut.specs.Laws.{IsPiece}
 use Rattle.amqp_recut.proofs.Cutting.{brought}
 use Rattle.amqp_recut.proofs.LawsChannels.{channel_recut, AreCutAfter}
 
@@ -60,25 +57,18 @@ module _ (size channel : ℕ) (opening header : Frame) (some : 1 ≤ size) where
 
   grown : (before : List Frame) (part : List ℕ) → bytes_in outline_of before + length part < size_in (outline_of header)
       → (step outline_of greatest (headed before) (Body channel part)).1 ≡ headed (before ++ Body channel part ∷ [])
-  grown before part less =
-      ap (λ (p : Answer Frame × State Frame). p.1)
-      (body_step outline_of greatest opening header before (Body channel part) (outline_of (Body channel part)) refl tt less)
+  grown before part less = grind (arith, common_steps)
 
   ended : (before : List Frame) (part : List ℕ) → bytes_in outline_of before + length part ≡ size_in (outline_of header)
       → (step outline_of greatest (headed before) (Body channel part)).1 ≡ At Nothing
-  ended before part all =
-      ap (λ (p : Answer Frame × State Frame). p.1)
-      (last_step outline_of greatest opening header before (Body channel part) (outline_of (Body channel part)) refl tt all)
+  ended before part all = grind (arith, common_steps)
 
   -- a body before the last
   one_more : (before : List Frame) (part : List ℕ) (frames : List Frame) → bytes_in outline_of before + length part < size_in (outline_of header)
       → channel_recut size (headed before) (Body channel part ∷ frames)
       ≡ bodies_with channel (whole_pieces size (left_over size (joined before) ++ part))
       ++ channel_recut size (headed (before ++ Body channel part ∷ [])) frames
-  one_more before part frames less =
-      let goes : eqb (bytes_in outline_of before + length part) (size_in (outline_of header)) ≡ false = grind (arith, nat_tests) in
-      ap₂ (λ ps s. bodies_with channel ps ++ channel_recut size s frames)
-      (ap (λ ends. pieces_brought size ends (joined before) part) goes ∙ brought size false (joined before) part some) (grown before part less)
+  one_more before part frames less = grind (arith, common_steps, brought, grown)
 
   -- its pieces, and those of the bytes after it
   pieces_more : (ends : Bool) (before : List Frame) (part bytes : List ℕ)
@@ -97,11 +87,7 @@ module _ (size channel : ℕ) (opening header : Frame) (some : 1 ≤ size) where
   -- bodies of a message that is not complete then
   pub open_bodies : (before : List Frame) (parts : List (List ℕ)) → bytes_in outline_of before + length (flat parts) < size_in (outline_of header)
       → channel_recut size (headed before) (bodies_with channel parts) ≡ bodies_with channel (whole_pieces size (left_over size (joined before) ++ flat parts))
-  open_bodies before [] less =
-      let short = left_short size (joined before) some in
-      let none : whole_pieces size (left_over size (joined before) ++ []) ≡ [] =
-      whole-none size (left_over size (joined before) ++ []) (omega (arith, short, length-append (left_over size (joined before)) [])) in
-      ap (bodies_with channel) (sym none)
+  open_bodies before [] less = grind (arith, common_steps, left_short, length-append, whole-none)
   open_bodies before (part ∷ parts) less =
       let total = length-append part (flat parts) in
       let rest = open_bodies (before ++ Body channel part ∷ []) parts (omega (arith, total, bytes_in-push outline_of before (Body channel part))) in
@@ -115,11 +101,7 @@ module _ (size channel : ℕ) (opening header : Frame) (some : 1 ≤ size) where
       → bytes_in outline_of before + length (flat parts) + length last ≡ size_in (outline_of header)
       → channel_recut size (headed before) (bodies_with channel parts ++ Body channel last ∷ frames)
       ≡ bodies_with channel (pieces size (left_over size (joined before) ++ (flat parts ++ last))) ++ channel_recut size (At Nothing) frames
-  closed_bodies before [] last frames less all =
-      let sum : bytes_in outline_of before + length last ≡ size_in (outline_of header) = omega arith in
-      let ends : eqb (bytes_in outline_of before + length last) (size_in (outline_of header)) ≡ true = grind (arith, nat_tests) in
-      ap₂ (λ ps s. bodies_with channel ps ++ channel_recut size s frames)
-      (ap (λ b. pieces_brought size b (joined before) last) ends ∙ brought size true (joined before) last some) (ended before last sum)
+  closed_bodies before [] last frames less all = grind (arith, common_steps, brought, ended)
   closed_bodies before (part ∷ parts) last frames less all =
       let total = length-append part (flat parts) in
       let grown = bytes_in-push outline_of before (Body channel part) in
@@ -145,18 +127,12 @@ module _ (size channel : ℕ) (opening header : Frame) (some : 1 ≤ size) where
 
   cut_nothing : (ends : Bool) (state : State Frame) (bytes : List ℕ) → length bytes ≡ 0
       → AreCutAfter size state (bodies_with channel (pieces_given size ends bytes))
-  cut_nothing ends state bytes none =
-      subst (λ (ps : List (List ℕ)). AreCutAfter size state (bodies_with channel ps)) (sym (given-nothing size ends bytes some none)) tt
+  cut_nothing ends state bytes none = grind (arith, common_steps, given-nothing)
 
   -- the last piece, or bytes that are kept back
   cut_short : (ends : Bool) (before : List Frame) (bytes : List ℕ) → length bytes < size → 1 ≤ length bytes
       → Fits ends (bytes_in outline_of before + length bytes) → AreCutAfter size (headed before) (bodies_with channel (pieces_given size ends bytes))
-  cut_short true before bytes less one h =
-      let piece : IsPiece size (headed before) bytes = (omega arith, omega arith) in
-      subst (λ (ps : List (List ℕ)). AreCutAfter size (headed before) (bodies_with channel ps))
-      (sym (given-ended size bytes some one (omega arith))) (piece, tt)
-  cut_short false before bytes less one h =
-      subst (λ (ps : List (List ℕ)). AreCutAfter size (headed before) (bodies_with channel ps)) (sym (whole-none size bytes less)) tt
+  cut_short ends before bytes less one h = grind (arith, common_steps, given-ended, whole-none)
 
   -- what comes after a piece of the whole size
   cut_next : (ends more : Bool) (before : List Frame) (piece bytes : List ℕ) → length piece ≡ size
@@ -164,33 +140,13 @@ module _ (size channel : ℕ) (opening header : Frame) (some : 1 ≤ size) where
       → (Fits ends (bytes_in outline_of (before ++ Body channel piece ∷ []) + length bytes)
       → AreCutAfter size (headed (before ++ Body channel piece ∷ [])) (bodies_with channel (pieces_given size ends bytes)))
       → AreCutAfter size (step outline_of greatest (headed before) (Body channel piece)).1 (bodies_with channel (pieces_given size ends bytes))
-  cut_next ends true before piece bytes long e h rest =
-      let less : bytes_in outline_of before + length piece < size_in (outline_of header) = grind (arith, nat_tests) in
-      let same : bytes_in outline_of before + (size + length bytes) ≡ bytes_in outline_of (before ++ Body channel piece ∷ []) + length bytes =
-      omega (arith, bytes_in-push outline_of before (Body channel piece)) in
-      subst (λ (s : State Frame). AreCutAfter size s (bodies_with channel (pieces_given size ends bytes)))
-      (sym (grown before piece less)) (rest (subst (Fits ends) same h))
-  cut_next ends false before piece bytes long e h rest =
-      let within = fits_within ends (bytes_in outline_of before + (size + length bytes)) h in
-      let over : size_in (outline_of header) ≤ bytes_in outline_of before + size = grind (arith, nat_tests) in
-      cut_nothing ends (step outline_of greatest (headed before) (Body channel piece)).1 bytes (omega arith)
+  cut_next ends more before piece bytes long e h rest = grind (arith, common_steps, bytes_in-push, cut_nothing, fits_within, grown)
 
   cut_long : (ends : Bool) (before : List Frame) (bytes : List ℕ) → size ≤ length bytes → Fits ends (bytes_in outline_of before + length bytes)
       → ((next : List Frame) → Fits ends (bytes_in outline_of next + length (drop size bytes))
       → AreCutAfter size (headed next) (bodies_with channel (pieces_given size ends (drop size bytes))))
       → AreCutAfter size (headed before) (bodies_with channel (pieces_given size ends bytes))
-  cut_long ends before bytes fits h rest =
-      let first = take size bytes in
-      let within = fits_within ends (bytes_in outline_of before + length bytes) h in
-      let long : length first ≡ size = length-take-le size bytes fits in
-      let piece : IsPiece size (headed before) first = (omega arith, omega arith) in
-      let same : bytes_in outline_of before + length bytes ≡ bytes_in outline_of before + (size + length (drop size bytes)) =
-      omega (arith, length-drop size bytes) in
-      subst (λ (ps : List (List ℕ)). AreCutAfter size (headed before) (bodies_with channel ps)) (sym (given-more size ends bytes some fits)) (
-        piece,
-        cut_next ends (ltb (bytes_in outline_of before + size) (size_in (outline_of header))) before first
-            (drop size bytes) long refl (subst (Fits ends) same h) (rest (before ++ Body channel first ∷ [])),
-      )
+  cut_long ends before bytes fits h rest = grind (arith, common_steps, cut_next, fits_within, given-more, length-drop, length-take-le)
 
   cut_within : (ends : Bool) (fuel : ℕ) (before : List Frame) (bytes : List ℕ) → length bytes ≤ fuel
       → Fits ends (bytes_in outline_of before + length bytes) → AreCutAfter size (headed before) (bodies_with channel (pieces_given size ends bytes))

@@ -1,15 +1,14 @@
 -- The units of one channel, recut: each by itself, with the same message.
-use Rattle.std.proofs.Common.{◌≡◌, ℕ, ◌+◌, ◌*◌, ◌/◌, ◌<◌, ◌≤◌, true, false, List, [], ◌∷◌, ◌++◌, length, map, refl, sym, ap, ap₂, subst, ◌∙◌, arith}
+use Rattle.std.proofs.lemmas.Grind.{common_steps}
+use Rattle.std.proofs.Common.{◌≡◌, ℕ, ◌+◌, ◌<◌, ◌≤◌, true, false, List, [], ◌∷◌, ◌++◌, length, map, refl, sym, ap, ap₂, subst, ◌∙◌, arith}
 use Rattle.std.specs.List.{AllByRecursion, flat_map}
-use Rattle.std.proofs.lemmas.Bool.{eqb-true}
 use Rattle.std.proofs.lemmas.List.{append_assoc, length-append, map-append, drop_all}
 use Rattle.amqp_wire.specs.declared.outline.FrameOutline.{FrameOutline}
-use Rattle.amqp_wire.specs.declared.outline.FrameOutline.TheVariants as outlines
-use Rattle.amqp_wire.specs.Frames.{Frame, Proto, Meth, Head, Body, Beat, BadBeat, channel_id_of}
+use Rattle.amqp_wire.specs.Frames.{Frame, Body, channel_id_of}
 use Rattle.amqp_wire.specs.Outlines.{outline_of}
 use Rattle.amqp_turns.specs.Units.{Finished, Lone, Empty, Full, Begun, Nothing, Opened, Headed, IsOpening, IsOtherMethod, IsBasicHeader, IsBody, size_in}
 use Rattle.amqp_turns.specs.Units.{count_in, bytes_in, begun_frames, finished_frames, frames_in, IsBegun, IsFinished}
-use Rattle.amqp_turns.specs.Answers.{Answer, finished_answers}
+use Rattle.amqp_turns.specs.Answers.{finished_answers}
 use Rattle.amqp_turns.specs.Stands.{State, At}
 use Rattle.amqp_turns.specs.Steps.{step, run_state}
 use Rattle.amqp_turns.specs.Messages.{method_in, header_in, bytes_of, joined}
@@ -19,6 +18,7 @@ use Rattle.amqp_turns.proofs.Running.{empty_step, finished_runs, run_state-appen
 use Rattle.amqp_turns.proofs.Telling.{joined-push, length-joined}
 use Rattle.amqp_turns.proofs.Messages.{IsOn, all_front, all_back, opened, headed_by, done_by, done_by_append, full_done}
 use Rattle.amqp_turns.specs.InTurn.{greatest}
+use Rattle.amqp_in_turn.proofs.Alone.{units_made, IsUnitOn, units_on}
 use Rattle.amqp_recut.specs.Cuts.{frame_recut}
 use Rattle.amqp_recut.proofs.LawsChannels.{channel_recut, IsCut, AreCutAfter, cut_append}
 use Rattle.amqp_recut.proofs.LawsPieces.{bodies_with, flat, joined_bodies, bytes_bodies, all_bodies, flat_push, open_bodies, closed_bodies, cut_given}
@@ -41,60 +41,33 @@ abbrev IsNoBody : Frame → Type 0
 IsNoBody frame = IsBody (outline_of frame) → ⊥
 
 opening_no_body : (o : FrameOutline) → IsOpening o → IsBody o → ⊥
-opening_no_body (outlines.Method channel class id) h body = body
-opening_no_body outlines.ProtocolHeader h body = body
-opening_no_body (outlines.Header channel class size) h body = body
-opening_no_body (outlines.Body channel count) h body = h
-opening_no_body (outlines.Heartbeat channel) h body = body
+opening_no_body o h body = grind (arith, common_steps)
 
 other_no_body : (o : FrameOutline) → IsOtherMethod o → IsBody o → ⊥
-other_no_body (outlines.Method channel class id) h body = body
-other_no_body outlines.ProtocolHeader h body = body
-other_no_body (outlines.Header channel class size) h body = body
-other_no_body (outlines.Body channel count) h body = h
-other_no_body (outlines.Heartbeat channel) h body = body
+other_no_body o h body = grind (arith, common_steps)
 
 header_no_body : (o : FrameOutline) → IsBasicHeader o → IsBody o → ⊥
-header_no_body (outlines.Method channel class id) h body = body
-header_no_body outlines.ProtocolHeader h body = body
-header_no_body (outlines.Header channel class size) h body = body
-header_no_body (outlines.Body channel count) h body = h
-header_no_body (outlines.Heartbeat channel) h body = body
+header_no_body o h body = grind (arith, common_steps)
 
 itself_recut : (size : ℕ) (state : State Frame) (frame : Frame) → IsNoBody frame → frame_recut size state frame ≡ frame ∷ []
-itself_recut size state (Proto major minor revision) h = refl
-itself_recut size state (Meth channel m) h = refl
-itself_recut size state (Head channel header) h = refl
-itself_recut size state (Body channel content) h = absurd (h tt)
-itself_recut size state Beat h = refl
-itself_recut size state (BadBeat channel) h = refl
+itself_recut size state frame h = grind (arith, common_steps)
 
 itself_cut : (size : ℕ) (state : State Frame) (frame : Frame) → IsNoBody frame → IsCut size state frame
-itself_cut size state (Proto major minor revision) h = tt
-itself_cut size state (Meth channel m) h = tt
-itself_cut size state (Head channel header) h = tt
-itself_cut size state (Body channel content) h = absurd (h tt)
-itself_cut size state Beat h = tt
-itself_cut size state (BadBeat channel) h = tt
+itself_cut size state frame h = grind (arith, common_steps)
 
 -- such a frame first
 recut_first : (size : ℕ) (state next : State Frame) (frame : Frame) (frames : List Frame) → IsNoBody frame
     → (step outline_of greatest state frame).1 ≡ next → channel_recut size state (frame ∷ frames) ≡ frame ∷ channel_recut size next frames
-recut_first size state next frame frames h e = ap₂ (λ fs s. fs ++ channel_recut size s frames) (itself_recut size state frame h) e
+recut_first size state next frame frames h e = grind (arith, common_steps)
 
 cut_first : (size : ℕ) (state next : State Frame) (frame : Frame) (frames : List Frame) → IsNoBody frame
     → (step outline_of greatest state frame).1 ≡ next → AreCutAfter size next frames → AreCutAfter size state (frame ∷ frames)
-cut_first size state next frame frames h e cut = (itself_cut size state frame h, subst (λ (s : State Frame). AreCutAfter size s frames) (sym e) cut)
+cut_first size state next frame frames h e cut = grind (arith, common_steps)
 
 -- ---- bodies of one channel
 
 body_is : (channel : ℕ) (frame : Frame) → IsBody (outline_of frame) → IsOn channel frame → frame ≡ Body channel (bytes_of frame)
-body_is channel (Body other content) h on = ap (λ c. Body c content) (eqb-true other channel on)
-body_is channel (Proto major minor revision) h on = absurd h
-body_is channel (Meth other m) h on = absurd h
-body_is channel (Head other header) h on = absurd h
-body_is channel Beat h on = absurd h
-body_is channel (BadBeat other) h on = absurd h
+body_is channel frame h on = grind (arith, common_steps)
 
 bodies_are : (channel : ℕ) (frames : List Frame) → AllByRecursion (λ x. IsBody (outline_of x)) frames
     → AllByRecursion (IsOn channel) frames → frames ≡ bodies_with channel (map bytes_of frames)
@@ -109,28 +82,18 @@ flat_length : (frames : List Frame) → length (flat (map bytes_of frames)) ≡ 
 flat_length frames = ap length (flat_bytes frames) ∙ length-joined frames
 
 body_count : (o : Frame) → length (bytes_of o) ≡ count_in (outline_of o)
-body_count (Proto major minor revision) = refl
-body_count (Meth channel m) = refl
-body_count (Head channel header) = refl
-body_count (Body channel content) = refl
-body_count Beat = refl
-body_count (BadBeat channel) = refl
+body_count o = grind (arith, common_steps)
 
 none_left_over : (size : ℕ) (bytes : List ℕ) → left_over size [] ++ bytes ≡ bytes
-none_left_over size bytes = ap (λ l. l ++ bytes) (drop_all ((0 / size) * size) [] (omega arith))
+none_left_over size bytes = grind (arith, common_steps, drop_all)
 
 -- ---- a unit recut
 
 unit_cut : (size channel : ℕ) (unit : Finished Frame) (frames : List Frame) → 1 ≤ size
     → IsFinished outline_of greatest unit → AllByRecursion (IsOn channel) (finished_frames unit)
     → channel_recut size (At Nothing) (finished_frames unit ++ frames) ≡ unit_recut size channel unit ++ channel_recut size (At Nothing) frames
-unit_cut size channel (Lone method) frames some h on =
-    recut_first size (At Nothing) (At Nothing) method frames (other_no_body (outline_of method) h) (finished_runs outline_of greatest (Lone method) h).state_is
-unit_cut size channel (Empty opening header) frames some h on =
-    let closes : (step outline_of greatest (At (Opened opening)) header).1 ≡ At Nothing =
-    ap (λ (p : Answer Frame × State Frame). p.1) (empty_step outline_of greatest opening header (outline_of header) refl h.1 h.2) in
-    recut_first size (At Nothing) (At (Opened opening)) opening (header ∷ frames) (opening_no_body (outline_of opening) h.0) (opened opening h.0)
-    ∙ ap (λ fs. opening ∷ fs) (recut_first size (At (Opened opening)) (At Nothing) header frames (header_no_body (outline_of header) h.1) closes)
+unit_cut size channel (Lone method) frames some h on = grind (arith, common_steps, finished_runs, other_no_body, recut_first)
+unit_cut size channel (Empty opening header) frames some h on = grind (arith, common_steps, empty_step, header_no_body, opened, opening_no_body, recut_first)
 unit_cut size channel (Full opening header bodies last) frames some h on =
     let n = size_in (outline_of header) in
     let parts = map bytes_of bodies in
@@ -153,8 +116,7 @@ unit_cut size channel (Full opening header bodies last) frames some h on =
 begun_cut : (size channel : ℕ) (begun : Begun Frame) → 1 ≤ size → IsBegun outline_of greatest begun
     → AllByRecursion (IsOn channel) (begun_frames begun) → channel_recut size (At Nothing) (begun_frames begun) ≡ begun_recut size channel begun
 begun_cut size channel Nothing some h on = refl
-begun_cut size channel (Opened opening) some h on =
-    recut_first size (At Nothing) (At (Opened opening)) opening [] (opening_no_body (outline_of opening) h) (opened opening h)
+begun_cut size channel (Opened opening) some h on = grind (arith, common_steps, opened, opening_no_body, recut_first)
 begun_cut size channel (Headed opening header bodies) some h on =
     let n = size_in (outline_of header) in
     let parts = map bytes_of bodies in
@@ -171,17 +133,12 @@ begun_cut size channel (Headed opening header bodies) some h on =
 pub units_cut : (size channel : ℕ) (units : List (Finished Frame)) (begun : Begun Frame) → 1 ≤ size
     → AllByRecursion (IsFinished outline_of greatest) units → IsBegun outline_of greatest begun → AllByRecursion (IsOn channel) (frames_in units begun)
     → channel_recut size (At Nothing) (frames_in units begun) ≡ flat_map (unit_recut size channel) units ++ begun_recut size channel begun
-units_cut size channel [] begun some finished is_begun on = begun_cut size channel begun some is_begun on
-units_cut size channel (unit ∷ units) begun some finished is_begun on =
-    let rest = frames_in units begun in
-    let assoc : frames_in (unit ∷ units) begun ≡ finished_frames unit ++ rest =
-    append_assoc (finished_frames unit) (flat_map finished_frames units) (begun_frames begun) in
-    let on_all = subst (AllByRecursion (IsOn channel)) assoc on in
-    ap (channel_recut size (At Nothing)) assoc
-    ∙ unit_cut size channel unit rest some finished.0 (all_front (IsOn channel) (finished_frames unit) rest on_all)
-    ∙ ap (λ fs. unit_recut size channel unit ++ fs)
-    (units_cut size channel units begun some finished.1 is_begun (all_back (IsOn channel) (finished_frames unit) rest on_all))
-    ∙ sym (append_assoc (unit_recut size channel unit) (flat_map (unit_recut size channel) units) (begun_recut size channel begun))
+units_cut size channel units begun some finished is_begun on =
+    let front = flat_map finished_frames units in
+    units_made (frame_recut size) (IsUnitOn channel) (unit_recut size channel) begun (begun_recut size channel begun)
+    (λ unit frames h. unit_cut size channel unit frames some h.0 h.1)
+    (begun_cut size channel begun some is_begun (all_back (IsOn channel) front (begun_frames begun) on)) units
+    (units_on channel units finished (all_front (IsOn channel) front (begun_frames begun) on))
 
 -- ---- a unit recut is a unit, of the same message, whose bodies are cut
 
@@ -207,7 +164,7 @@ last_of part (next ∷ parts) h =
     record { front = part ∷ rest.front; last = rest.last; are = ap (λ ps. part ∷ ps) rest.are; some = rest.some }
 
 last_some : (body : List ℕ) (parts : List (List ℕ)) → 1 ≤ length body → ArePieces body parts → HasLast parts
-last_some body [] some h = let none : 0 ≡ length body = ap length h.joined in absurd (omega arith)
+last_some body [] some h = grind (arith, common_steps)
 last_some body (part ∷ parts) some h = last_of part parts h.some
 
 remade_full : (size channel : ℕ) (opening header : Frame) (bodies : List Frame) (last : Frame) → 1 ≤ size
@@ -289,7 +246,7 @@ pub record AllRemade (size channel : ℕ) (units : List (Finished Frame)) : Type
 -- Finished units, recut, are finished units with the same messages, whose bodies are cut to the size.
 pub all_remade : (size channel : ℕ) (units : List (Finished Frame)) → 1 ≤ size → AllByRecursion (IsFinished outline_of greatest) units
     → AllByRecursion (IsOn channel) (flat_map finished_frames units) → AllRemade size channel units
-all_remade size channel [] some h on = record { made = []; finished = tt; frames = refl; same = refl; again = λ other. refl; ends = refl; cut = tt }
+all_remade size channel [] some h on = grind (arith, common_steps)
 all_remade size channel (unit ∷ units) some h on =
     let one = remade size channel unit some h.0 (all_front (IsOn channel) (finished_frames unit) (flat_map finished_frames units) on) in
     let rest = all_remade size channel units some h.1 (all_back (IsOn channel) (finished_frames unit) (flat_map finished_frames units) on) in
@@ -320,7 +277,7 @@ pub record BegunRemade (size channel : ℕ) (begun : Begun Frame) : Type 0 where
 
 -- A begun unit, recut, is a begun unit whose bodies are cut to the size.
 pub begun_remade : (size channel : ℕ) (begun : Begun Frame) → 1 ≤ size → IsBegun outline_of greatest begun → BegunRemade size channel begun
-begun_remade size channel Nothing some h = record { made = Nothing; is_begun = tt; frames = refl; nothing = λ e. refl; cut = tt }
+begun_remade size channel Nothing some h = grind (arith, common_steps)
 begun_remade size channel (Opened opening) some h = record {
   made = Opened opening;
   is_begun = h;

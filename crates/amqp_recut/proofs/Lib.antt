@@ -2,7 +2,6 @@
 pub mod Cutting
 pub mod Gathering
 pub mod Piecing
-pub mod Channels
 pub mod Stepping
 pub mod Running
 pub mod Writing

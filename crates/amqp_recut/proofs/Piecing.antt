@@ -1,4 +1,5 @@
 -- Pieces that are cut out of two parts.
+use Rattle.std.proofs.lemmas.Grind.{common_steps}
 use Rattle.std.proofs.Common.{◌≡◌, ℕ, ◌+◌, ◌-◌, ◌<◌, ◌≤◌, min, Bool, true, false, List, [], ◌∷◌, ◌++◌, length, map, take, drop, sym, ap, ap₂, subst, ◌∙◌, arith}
 use Rattle.std.proofs.Common.{inl, inr, append_assoc, append-nil, Result}
 use Rattle.std.proofs.lemmas.Bool.{cases_lt}
@@ -18,10 +19,7 @@ use Rattle.amqp_stream.proofs.Transcribing.{gathered_then}
 -- a body frame of two parts
 pub piece_bytes : (channel n : ℕ) (h front back : List ℕ) → h ≡ head 3 channel n
     → n ≡ length front + length back → h ++ (front ++ (back ++ 206 ∷ [])) ≡ framed 3 channel (front ++ back)
-piece_bytes channel n h front back e is =
-    let count : n ≡ length (front ++ back) = is ∙ sym (length-append front back) in
-    ap (λ (bs : List ℕ). bs ++ (front ++ (back ++ 206 ∷ []))) (e ∙ ap (head 3 channel) count)
-    ∙ ap (λ (bs : List ℕ). head 3 channel (length (front ++ back)) ++ bs) (sym (append_assoc front back (206 ∷ [])))
+piece_bytes channel n h front back e is = grind (arith, common_steps, append_assoc, length-append)
 
 -- the first bytes of two parts
 pub first_of_two : (size : ℕ) (front back : List ℕ) → take size (front ++ back) ≡ take size front ++ take (size - length front) back
@@ -37,28 +35,16 @@ first_of_two size front back = elim (cases_lt size (length front)) [
 
 -- the bytes after them
 pub rest_of_two : (size : ℕ) (front back : List ℕ) → drop size (front ++ back) ≡ drop size front ++ drop (size - length front) back
-rest_of_two size front back = elim (cases_lt size (length front)) [
-  | inl less ↦
-      let none : size - length front ≡ 0 = omega arith in
-      drop-append-le size front back (omega arith) ∙ ap (λ n. drop size front ++ drop n back) (sym none)
-  | inr more ↦
-      let whole : length front + (size - length front) ≡ size = omega arith in
-      ap (λ n. drop n (front ++ back)) (sym whole) ∙ drop-append-add front back (size - length front)
-      ∙ ap (λ (xs : List ℕ). xs ++ drop (size - length front) back) (sym (drop_all size front (omega arith)))
-]
+rest_of_two size front back = grind (arith, common_steps, cases_lt, drop-append-add, drop-append-le, drop_all)
 
 -- as much of the first part as there is, and of the second what is still needed
 pub first_parts : (size : ℕ) (front back : List ℕ)
     → take (min (length front) size) front ++ take (size - min (length front) size) back ≡ take size (front ++ back)
-first_parts size front back =
-    let rest : size - min (length front) size ≡ size - length front = omega arith in
-    ap₂ (λ (xs ys : List ℕ). xs ++ ys) (short_take front size) (ap (λ n. take n back) rest) ∙ sym (first_of_two size front back)
+first_parts size front back = grind (arith, common_steps, first_of_two, short_take)
 
 pub rest_parts : (size : ℕ) (front back : List ℕ)
     → drop (min (length front) size) front ++ drop (size - min (length front) size) back ≡ drop size (front ++ back)
-rest_parts size front back =
-    let rest : size - min (length front) size ≡ size - length front = omega arith in
-    ap₂ (λ (xs ys : List ℕ). xs ++ ys) (short_drop front size) (ap (λ n. drop n back) rest) ∙ sym (rest_of_two size front back)
+rest_parts size front back = grind (arith, common_steps, rest_of_two, short_drop)
 
 -- the last bytes of two parts
 pub last_parts : (front back : List ℕ) (count m : ℕ) → m ≡ min count (length back) → count ≤ length front + length back
@@ -110,30 +96,20 @@ pub given_of_two : {a b c : Store} {x y z all : List ℕ} (size channel : ℕ) (
     → 1 ≤ size → size ≤ length front + length back → n ≡ min (length front) size → m ≡ size - n
     → HasGiven a b x y all (canon_frames (frames_given size channel ends (front ++ back))) → Gathered b c y z (framed 3 channel (take n front ++ take m back))
     → HasGiven a c x z all (canon_frames (frames_given size channel ends (take (length front - n) (drop n front) ++ take (length back - m) (drop m back))))
-given_of_two {a = a} {b = b} {c = c} {x = x} {y = y} {z = z} {all = all} size channel ends front back n m h fits is rest so_far g =
-    let place : m ≡ size - min (length front) size = rest ∙ ap (λ k. size - k) is in
-    let piece : take n front ++ take m back ≡ take size (front ++ back) =
-    ap₂ (λ (xs ys : List ℕ). xs ++ ys) (ap (λ k. take k front) is) (ap (λ k. take k back) place) ∙ first_parts size front back in
-    let more : take (length front - n) (drop n front) ++ take (length back - m) (drop m back) ≡ drop size (front ++ back) =
-    ap₂ (λ (xs ys : List ℕ). xs ++ ys) (take_rest front n ∙ ap (λ k. drop k front) is) (take_rest back m ∙ ap (λ k. drop k back) place)
-    ∙ rest_parts size front back in
-    let total : size ≤ length (front ++ back) = omega (arith, length-append front back) in
-    subst (λ (bs : List ℕ). HasGiven a c x z all (canon_frames (frames_given size channel ends bs))) (sym more)
-    (given_on size channel ends (front ++ back) h total so_far (subst (λ (bs : List ℕ). Gathered b c y z (framed 3 channel bs)) piece g))
+given_of_two size channel ends front back n m h fits is rest so_far g = grind (arith, common_steps, first_parts, given_on, length-append, rest_parts, take_rest)
 
 -- what is given of fewer bytes than a piece has
 pub given_last_piece : (size channel : ℕ) (bytes : List ℕ) → 1 ≤ size → 1 ≤ length bytes
     → length bytes < size → canon_frames (frames_given size channel true bytes) ≡ framed 3 channel bytes
 unfolding canon
-given_last_piece size channel bytes h some less =
-    ap (λ ps. canon_frames (map (λ piece. Body channel piece) ps)) (given-ended size bytes h some (omega arith)) ∙ append-nil (framed 3 channel bytes)
+given_last_piece size channel bytes h some less = grind (arith, common_steps, append-nil, given-ended)
 
 pub given_no_piece : (size channel : ℕ) (ends : Bool) (bytes : List ℕ) → 1 ≤ size → length bytes ≡ 0 → canon_frames (frames_given size channel ends bytes) ≡ []
-given_no_piece size channel ends bytes h none = ap (λ ps. canon_frames (map (λ piece. Body channel piece) ps)) (given-nothing size ends bytes h none)
+given_no_piece size channel ends bytes h none = grind (arith, common_steps, given-nothing)
 
 -- Fewer bytes than the size of a piece give no body frames where the message goes on.
 pub given_too_few : (size channel : ℕ) (bytes : List ℕ) → length bytes < size → canon_frames (frames_given size channel false bytes) ≡ []
-given_too_few size channel bytes less = ap (λ ps. canon_frames (map (λ piece. Body channel piece) ps)) (whole-none size bytes less)
+given_too_few size channel bytes less = grind (arith, common_steps, whole-none)
 
 -- ---- how giving ends
 
@@ -167,14 +143,12 @@ given_end {a = a} {x = x} c z size channel ends bytes r h some less e so_far g =
     gathers_as a c x z r (ap (λ (bs : List ℕ). so_far.done ++ bs) (sym last) ∙ so_far.parts) (gathers_then c z (framed 3 channel bytes) r so_far.gathered g)
 
 given_none : {a b : Store} {x y all left : List ℕ} → left ≡ [] → HasGiven a b x y all left → Gathered a b x y all
-given_none {a = a} {b = b} {x = x} {y = y} e so_far =
-    subst (λ (bs : List ℕ). Gathered a b x y bs) (sym (append-nil so_far.done) ∙ ap (λ (bs : List ℕ). so_far.done ++ bs) (sym e) ∙ so_far.parts) so_far.gathered
+given_none e so_far = grind (arith, common_steps, append-nil)
 
 -- nothing more is to be given: the body goes on, or nothing is left of it
 pub given_short : {a b : Store} {x y all : List ℕ} (size channel : ℕ) (ends : Bool) (bytes : List ℕ) → length bytes < size
     → ends ≡ false → HasGiven a b x y all (canon_frames (frames_given size channel ends bytes)) → Gathered a b x y all
-given_short size channel ends bytes less e so_far =
-    given_none (ap (λ b. canon_frames (frames_given size channel b bytes)) e ∙ given_too_few size channel bytes less) so_far
+given_short size channel ends bytes less e so_far = grind (arith, common_steps, given_none, given_too_few)
 
 -- Where no bytes are left to give, what was gathered is all.
 pub given_whole : {a b : Store} {x y all : List ℕ} (size channel : ℕ) (ends : Bool) (bytes : List ℕ) → 1 ≤ size

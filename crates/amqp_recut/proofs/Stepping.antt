@@ -1,8 +1,9 @@
 -- What is written for one frame, and what is kept then, by its mark.
-use Rattle.std.proofs.Common.{◌≡◌, ℕ, ◌+◌, Bool, true, false, eqb, leb, List, [], ◌∷◌, ◌++◌, length, refl, sym, ap, ◌∙◌, inl, inr, Option, Some}
+use Rattle.std.proofs.lemmas.Grind.{common_steps}
+use Rattle.std.proofs.Common.{arith}
+use Rattle.std.proofs.Common.{◌≡◌, ◌≢◌, ℕ, ◌+◌, Bool, true, false, eqb, leb, List, [], ◌++◌, length, refl, sym, ap, ◌∙◌, Option, Some}
 use Rattle.std.proofs.Common.{None, Result, Ok, Err, IsTrue}
 use Rattle.std.specs.Prelude.{IsSome}
-use Rattle.std.proofs.lemmas.Bool.{cases_eq, eq-eqb, ne_eqb}
 use Rattle.std.specs.FinMap as finite
 use Rattle.amqp_types.specs.Levels.{plain}
 use Rattle.amqp_types.specs.Methods.{Method, judge_payload}
@@ -10,7 +11,7 @@ use Rattle.amqp_types.specs.ContentHeaders.{ContentHeader, judge_content_header}
 use Rattle.amqp_wire.specs.declared.frame_type.AMQPFrameType.{AMQPFrameType}
 use Rattle.amqp_wire.specs.declared.frame_type.AMQPFrameType.TheVariants as kinds
 use Rattle.amqp_wire.specs.declared.outline.FrameOutline.{FrameOutline}
-use Rattle.amqp_wire.specs.Frames.{Raw, Frame, Proto, Meth, Head, Body, channel_id_of, beat_on, IsTyped}
+use Rattle.amqp_wire.specs.Frames.{Raw, Frame, Meth, Head, Body, channel_id_of, IsTyped}
 use Rattle.amqp_wire.specs.Outlines.{outline_of}
 use Rattle.amqp_wire.specs.Canonical.{canon, canon_frames}
 use Rattle.amqp_wire.specs.Verdicts.{decode_raw, decode_payload, all_of}
@@ -20,10 +21,10 @@ use Rattle.amqp_turns.specs.declared.mark.Mark.{Mark}
 use Rattle.amqp_turns.specs.declared.mark.Mark.TheVariants as marks
 use Rattle.amqp_turns.specs.declared.progress.Progress.{Progress}
 use Rattle.amqp_turns.specs.declared.progress.Progress.TheVariants as progresses
-use Rattle.amqp_turns.specs.Units.{is_content, is_opening_id}
-use Rattle.amqp_turns.specs.Steps.{mark_after, progress_after, progress_marked, header_mark, method_mark, body_mark, headed_progress}
+use Rattle.amqp_turns.specs.Units.{is_opening_id}
+use Rattle.amqp_turns.specs.Steps.{mark_after, progress_after, header_mark, method_mark, body_mark, headed_progress}
 use Rattle.amqp_stream.specs.declared.errors.StreamError.{StreamError}
-use Rattle.amqp_stream.specs.Errors.{Cause, faulty, cut_short, budget_spent, read_failed, write_failed, out_of_memory, cause_of}
+use Rattle.amqp_stream.specs.Errors.{Cause, faulty, cut_short, budget_spent, read_failed, write_failed, out_of_memory}
 use Rattle.amqp_stream.specs.Ends.{Store}
 use Rattle.amqp_stream.specs.Writing.{IsUnwritten, WritesFrame}
 use Rattle.amqp_stream.specs.Streaming.{refused_by, stopped_by, ending_of, as_run, WritesBy}
@@ -33,10 +34,10 @@ use Rattle.amqp_recut.specs.declared.recutter.Recutter.{Recutter}
 use Rattle.amqp_turns.specs.InTurn.{greatest}
 use Rattle.amqp_recut.specs.Held.{Held, progress_in, kept_in, held_with, set_at}
 use Rattle.amqp_turns.specs.Splits.{frames_given, left_over}
-use Rattle.amqp_recut.specs.Stepping.{bytes_kept, mark_held, held_at, step_marked, step_recutting, recutting, is_content_type, body_raw}
+use Rattle.amqp_recut.specs.Stepping.{mark_held, held_at, held_after, step_marked, step_recutting, recutting, is_content_type, body_raw}
 use Rattle.amqp_turns.proofs.Holding.{set_at-same}
 use Rattle.amqp_in_turn.proofs.Judging.{passed_mark}
-use Rattle.amqp_recut.proofs.Channels.{passed_keeps}
+use Rattle.amqp_in_turn.proofs.Placing.{IsOutsideType, outside_is, IsOutlineOf, same_outline, marked_by, channel_by}
 
 -- ---- which frames there are of a type
 
@@ -58,55 +59,19 @@ typed_whole kinds.ProtocolHeader channel payload frame typed h = absurd typed
 typed_whole kinds.Body channel payload frame typed h = absurd typed
 typed_whole kinds.Heartbeat channel payload frame typed h = absurd typed
 
-part_channel : (channel : ℕ) (frame : Frame) → IsPartOn channel frame → channel_id_of frame ≡ channel
-part_channel channel frame (method_on m e) = ap channel_id_of (sym e)
-part_channel channel frame (header_on header e) = ap channel_id_of (sym e)
-
 -- A method or a content header is content.
 pub typed_wants : (kind : AMQPFrameType) → IsTyped kind → IsTrue (is_content_type kind)
-typed_wants kinds.Method typed = refl
-typed_wants kinds.Header typed = refl
-typed_wants kinds.ProtocolHeader typed = absurd typed
-typed_wants kinds.Body typed = absurd typed
-typed_wants kinds.Heartbeat typed = absurd typed
-
-proto_outside : (channel : ℕ) (payload : List ℕ) (frame : Frame)
-    → decode_payload kinds.ProtocolHeader channel payload ≡ Ok frame → is_content (outline_of frame) ≡ false
-unfolding decode_payload
-proto_outside channel [] frame h = absurd cc
-proto_outside channel (a ∷ []) frame h = absurd cc
-proto_outside channel (a ∷ b ∷ []) frame h = absurd cc
-proto_outside channel (a ∷ b ∷ c ∷ []) frame h =
-    let is : Proto a b c ≡ frame = cc in
-    ap (λ f. is_content (outline_of f)) (sym is)
-proto_outside channel (a ∷ b ∷ c ∷ d ∷ more) frame h = absurd cc
-
-beat_outside : (channel : ℕ) → is_content (outline_of (beat_on channel)) ≡ false
-beat_outside channel = elim (cases_eq channel 0) [
-  | inl none ↦ rw (eq-eqb channel 0 none) refl
-  | inr some ↦ rw (ne_eqb channel 0 some) refl
-]
-
--- a frame that is no content
-pub IsOutsideType : AMQPFrameType → Type 0
-IsOutsideType kinds.ProtocolHeader = Unit {0}
-IsOutsideType kinds.Heartbeat = Unit {0}
-IsOutsideType kinds.Method = ⊥
-IsOutsideType kinds.Header = ⊥
-IsOutsideType kinds.Body = ⊥
-
-outside_whole : (kind : AMQPFrameType) (channel : ℕ) (payload : List ℕ) (frame : Frame)
-    → IsOutsideType kind → decode_payload kind channel payload ≡ Ok frame → is_content (outline_of frame) ≡ false
-unfolding decode_payload IsOutsideType
-outside_whole kinds.ProtocolHeader channel payload frame out h = proto_outside channel payload frame h
-outside_whole kinds.Heartbeat channel payload frame out h =
-    let is : beat_on channel ≡ frame = cc in
-    ap (λ f. is_content (outline_of f)) (sym is) ∙ beat_outside channel
-outside_whole kinds.Method channel payload frame out h = absurd out
-outside_whole kinds.Header channel payload frame out h = absurd out
-outside_whole kinds.Body channel payload frame out h = absurd out
+typed_wants kind typed = grind (arith, common_steps)
 
 -- ---- steps by marks
+
+held_again : (held : Option Held) → held_with (progress_in held) (kept_in held) ≡ held
+held_again None = refl
+held_again (Some held) = refl
+
+-- what is kept is kept by a frame that has this mark
+pub passed_keeps : (size : ℕ) (held : Option Held) (frame : Frame) → mark_held held frame ≡ marks.Passed → held_after size held frame ≡ held
+passed_keeps size held frame e = rw e (held_again held)
 
 passed_step : (s : Recutter) (frame : Frame) → mark_held (held_at s (channel_id_of frame)) frame ≡ marks.Passed → step_recutting s frame ≡ Ok (canon frame, s)
 passed_step s frame e =
@@ -123,6 +88,9 @@ IsPart marks.Header = Unit {0}
 IsPart (marks.Body before after n) = Unit {0}
 IsPart marks.Passed = ⊥
 IsPart (marks.Fault bad) = ⊥
+
+part_other : (mark : Mark) → IsPart mark → mark ≢ marks.Passed
+part_other mark h = grind (arith, common_steps)
 
 no_body : (held : Option Held) (channel : ℕ) (frame : Frame) (before after n : ℕ)
     → IsPartOn channel frame → mark_held held frame ≡ marks.Body before after n → ⊥
@@ -167,42 +135,26 @@ part_step : (s : Recutter) (channel : ℕ) (frame : Frame) (mark : Mark) → IsP
             set_at s.messages (channel_id_of frame) (held_with (progress_after greatest (progress_in (held_at s (channel_id_of frame))) (outline_of frame)) []);
       },
     )
-part_step s channel frame marks.Opening on part e = rw e (rw e refl)
-part_step s channel frame marks.Header on part e = rw e (rw e refl)
-part_step s channel frame (marks.Body before after n) on part e = absurd (no_body (held_at s (channel_id_of frame)) channel frame before after n on e)
-part_step s channel frame marks.Passed on part e = absurd part
-part_step s channel frame (marks.Fault bad) on part e = absurd part
+part_step s channel frame mark on part e = grind (arith, common_steps, no_body)
 
 -- ---- methods and content headers, by the outline that stands in their payloads
 
--- the outline is that of the frame, where the payload is one
-abbrev pub IsOutlineOf : Raw → FrameOutline → Type 0
-IsOutlineOf raw outline = (frame : Frame) → decode_raw raw ≡ Ok frame → Some outline ≡ Some (outline_of frame)
+-- how far the content of each channel has come
+abbrev progress_on : Recutter → ℕ → Option Progress
+progress_on s channel = progress_in (held_at s channel)
 
-same_outline : (outline other : FrameOutline) → Some outline ≡ Some other → outline ≡ other
-same_outline outline other e = cc
-
--- the mark by what is kept of the channel of a payload is that of the frame
-marked_by : (s : Recutter) (raw : Raw) (outline : FrameOutline) (mark : Mark) (frame : Frame) → IsTyped raw.kind → IsOutlineOf raw outline
-    → mark ≡ mark_after greatest (progress_in (held_at s raw.channel)) outline → decode_raw raw ≡ Ok frame
-    → mark_held (held_at s (channel_id_of frame)) frame ≡ mark
-marked_by s raw outline mark frame typed is e h =
-    let channel = part_channel raw.channel frame (typed_whole raw.kind raw.channel raw.payload frame typed h) in
-    ap (λ c. mark_held (held_at s c) frame) channel
-    ∙ ap (mark_after greatest (progress_in (held_at s raw.channel))) (sym (same_outline outline (outline_of frame) (is frame h))) ∙ sym e
-
--- A method or a content header that is not in turn is refused with its fault.
-pub typed_refused : (s : Recutter) (raw : Raw) (outline : FrameOutline) (bad : ContentFault) → IsTyped raw.kind
+-- A frame that is not in turn is refused with its fault.
+pub typed_refused : (s : Recutter) (raw : Raw) (outline : FrameOutline) (bad : ContentFault)
     → IsOutlineOf raw outline → marks.Fault bad ≡ mark_after greatest (progress_in (held_at s raw.channel)) outline
     → (frame : Frame) → decode_raw raw ≡ Ok frame → step_recutting s frame ≡ Err (refusals.BadContent bad)
-typed_refused s raw outline bad typed is e frame h =
-    ap (step_marked s (held_at s (channel_id_of frame)) frame) (marked_by s raw outline (marks.Fault bad) frame typed is e h)
+typed_refused s raw outline bad is e frame h =
+    ap (step_marked s (held_at s (channel_id_of frame)) frame) (marked_by (progress_on s) raw outline (marks.Fault bad) frame is e h)
 
--- A method outside of messages is written as it is, and all that is kept stays.
-pub typed_passed : (s : Recutter) (raw : Raw) (outline : FrameOutline) → IsTyped raw.kind
+-- A frame outside of messages is written as it is, and all that is kept stays.
+pub typed_passed : (s : Recutter) (raw : Raw) (outline : FrameOutline)
     → IsOutlineOf raw outline → marks.Passed ≡ mark_after greatest (progress_in (held_at s raw.channel)) outline
     → (frame : Frame) → decode_raw raw ≡ Ok frame → step_recutting s frame ≡ Ok (canon frame, s)
-typed_passed s raw outline typed is e frame h = passed_step s frame (marked_by s raw outline marks.Passed frame typed is e h)
+typed_passed s raw outline is e frame h = passed_step s frame (marked_by (progress_on s) raw outline marks.Passed frame is e h)
 
 -- A method or a content header of a message is written as it is, and its message is kept as far as it has come, with no bytes left over.
 pub typed_part : (s : Recutter) (raw : Raw) (outline : FrameOutline) (mark : Mark) (progress : Option Progress) → IsTyped raw.kind
@@ -211,30 +163,18 @@ pub typed_part : (s : Recutter) (raw : Raw) (outline : FrameOutline) (mark : Mar
     → step_recutting s frame ≡ Ok (canon frame, record s { messages = set_at s.messages raw.channel (held_with progress []) })
 typed_part s raw outline mark progress typed is part e after frame h =
     let on = typed_whole raw.kind raw.channel raw.payload frame typed h in
-    let channel = part_channel raw.channel frame on in
-    let same = same_outline outline (outline_of frame) (is frame h) in
-    part_step s raw.channel frame mark on part (marked_by s raw outline mark frame typed is e h)
+    let channel = channel_by (progress_on s) raw outline mark frame is e h (part_other mark part) in
+    part_step s raw.channel frame mark on part (marked_by (progress_on s) raw outline mark frame is e h)
     ∙ ap
     (λ c. Ok (canon frame, record s { messages = set_at s.messages c (held_with (progress_after greatest (progress_in (held_at s c)) (outline_of frame)) []) }))
     channel
     ∙ ap (λ p. Ok (canon frame, record s { messages = set_at s.messages raw.channel (held_with p []) }))
-    (ap (progress_after greatest (progress_in (held_at s raw.channel))) (sym same) ∙ sym after)
+    (ap (progress_after greatest (progress_in (held_at s raw.channel))) (sym (same_outline raw outline frame is h)) ∙ sym after)
 
 -- A protocol header or a heartbeat is written as it is, and all that is kept stays.
 pub outside_passed : (s : Recutter) (raw : Raw) → IsOutsideType raw.kind → (frame : Frame) → decode_raw raw ≡ Ok frame
     → step_recutting s frame ≡ Ok (canon frame, s)
-outside_passed s raw out frame h =
-    passed_step s frame (passed_mark (progress_in (held_at s (channel_id_of frame))) frame (outside_whole raw.kind raw.channel raw.payload frame out h))
-
--- A protocol header is no content.
-pub proto_is_outside : IsOutsideType kinds.ProtocolHeader
-unfolding IsOutsideType
-proto_is_outside = tt
-
--- A heartbeat is no content.
-pub beat_is_outside : IsOutsideType kinds.Heartbeat
-unfolding IsOutsideType
-beat_is_outside = tt
+outside_passed s raw out frame h = grind (arith, common_steps, outside_is, passed_mark, passed_step)
 
 -- ---- what is returned
 
@@ -253,9 +193,7 @@ passing_cause s raw a b x y out_of_memory steps h = absurd h
 pub passing : (s : Recutter) (raw : Raw) (a b : Store) (x y : List ℕ) (r : Result (Unit {0}) StreamError)
     → ((frame : Frame) → decode_raw raw ≡ Ok frame → step_recutting s frame ≡ Ok (canon frame, s))
     → WritesFrame raw a b x y r → WritesBy recutting s s raw a b x y (ending_of (as_run r))
-passing s raw a b x y (Ok done) steps h =
-    record { bytes = canon h.0; step = record { frame = h.0; is_whole = h.1; at_level = refl; steps = steps h.0 h.1 }; gathered = h.2 }
-passing s raw a b x y (Err error) steps h = passing_cause s raw a b x y (cause_of error) steps h
+passing s raw a b x y r steps h = grind (arith, common_steps, passing_cause)
 
 -- ---- bodies
 
@@ -298,29 +236,18 @@ body_steps : (s : Recutter) (channel : ℕ) (payload : List ℕ) (before after n
       canon_frames (frames_given s.size channel (eqb after n) (kept_in (held_at s channel) ++ payload)),
       record s { messages = set_at s.messages channel (held_with progress (left_over s.size (kept_in (held_at s channel) ++ payload))) },
     )
-body_steps s channel payload before after n progress e is =
-    let held = held_at s channel in
-    let frame = Body channel payload in
-    let bytes = canon_frames (frames_given s.size channel (eqb after n) (kept_in held ++ payload)) in
-    ap (step_marked s held frame) (sym e)
-    ∙ ap (λ m. Ok (bytes, record s { messages = set_at s.messages channel (held_with (body_progress s channel payload) (bytes_kept s.size held frame m)) }))
-    (sym e)
-    ∙ ap (λ p. Ok (bytes, record s { messages = set_at s.messages channel (held_with p (left_over s.size (kept_in held ++ payload))) })) (sym is)
+body_steps s channel payload before after n progress e is = grind (arith, common_steps)
 
 headed_by : (s : Recutter) (channel : ℕ) (payload : List ℕ) (before after n : ℕ)
     → marks.Body before after n ≡ body_mark_of s channel payload → body_progress s channel payload ≡ headed_progress n after
-headed_by s channel payload before after n e = ap (progress_marked (progress_in (held_at s channel)) (outline_of (Body channel payload))) (sym e)
+headed_by s channel payload before after n e = grind (arith, common_steps)
 
 -- A body that ends its message is replaced by all pieces of what was left over and its own bytes, and nothing of the message is kept.
 pub body_ends : (s : Recutter) (channel : ℕ) (payload : List ℕ) (before after n : ℕ)
     → marks.Body before after n ≡ body_mark_of s channel payload → None ≡ body_progress s channel payload
     → step_recutting s (Body channel payload)
     ≡ Ok (canon_frames (frames_given s.size channel true (kept_in (held_at s channel) ++ payload)), record s { messages = finite.remove s.messages channel })
-body_ends s channel payload before after n e none =
-    body_steps s channel payload before after n None e none
-    ∙ ap
-    (λ b. Ok (canon_frames (frames_given s.size channel b (kept_in (held_at s channel) ++ payload)), record s { messages = finite.remove s.messages channel }))
-    (ends_at n after (none ∙ headed_by s channel payload before after n e))
+body_ends s channel payload before after n e none = grind (arith, common_steps, body_steps, ends_at, headed_by)
 
 -- A body that does not end its message is replaced by the whole pieces of what was left over and its own bytes, and the rest is kept.
 pub body_goes_on : (s : Recutter) (channel : ℕ) (payload : List ℕ) (before after n : ℕ) (progress : Progress)
@@ -332,22 +259,11 @@ pub body_goes_on : (s : Recutter) (channel : ℕ) (payload : List ℕ) (before a
         messages = finite.insert s.messages channel (record { progress = progress; kept = left_over s.size (kept_in (held_at s channel) ++ payload) });
       },
     )
-body_goes_on s channel payload before after n progress e some =
-    body_steps s channel payload before after n (Some progress) e some
-    ∙ ap
-    (λ b.
-    Ok (
-      canon_frames (frames_given s.size channel b (kept_in (held_at s channel) ++ payload)),
-      record s {
-        messages = finite.insert s.messages channel (record { progress = progress; kept = left_over s.size (kept_in (held_at s channel) ++ payload) });
-      },
-    ))
-    (goes_at n after progress (some ∙ headed_by s channel payload before after n e))
+body_goes_on s channel payload before after n progress e some = grind (arith, common_steps, body_steps, goes_at, headed_by, kept)
 
 pub body_there : (held : Option Held) (channel : ℕ) (payload : List ℕ) (before after n : ℕ)
     → marks.Body before after n ≡ mark_held held (Body channel payload) → IsSome held
-body_there (Some held) channel payload before after n e = refl
-body_there None channel payload before after n e = absurd cc
+body_there held channel payload before after n e = grind (arith, common_steps)
 
 -- a body is a piece, or it is refused
 abbrev pub IsBodyMark : Mark → Type 0

@@ -1,5 +1,6 @@
 -- What the writer returns for a frame, by what its calls return.
-use Rattle.std.proofs.Common.{◌≡◌, ℕ, ◌%◌, ◌≤◌, Bool, true, false, eqb, List, [], ◌∷◌, ◌++◌, map, length, refl, sym, ap, subst, ◌∙◌}
+use Rattle.std.proofs.lemmas.Grind.{common_steps}
+use Rattle.std.proofs.Common.{◌≡◌, ℕ, ◌%◌, ◌≤◌, Bool, true, false, eqb, List, [], ◌++◌, length, refl, sym, subst}
 use Rattle.std.proofs.Common.{arith, append-nil, Some, None, Ok}
 use Rattle.std.specs.FinMap as finite
 use Rattle.std.proofs.lemmas.Bool.{ne_eqb}
@@ -13,8 +14,7 @@ use Rattle.amqp_wire.specs.Outlines.{outline_of}
 use Rattle.amqp_wire.specs.Verdicts.{decode_payload}
 use Rattle.amqp_wire.proofs.Judged.{body_frame}
 use Rattle.amqp_stream.specs.declared.errors.RunError.{RunError}
-use Rattle.amqp_stream.specs.declared.errors.RunError.TheVariants as runs
-use Rattle.amqp_stream.specs.Errors.{Cause, faulty, cut_short, budget_spent, read_failed, write_failed, out_of_memory, cause_of}
+use Rattle.amqp_stream.specs.Errors.{Cause}
 use Rattle.amqp_stream.specs.Ends.{Store}
 use Rattle.amqp_stream.specs.Decisions.{IsKept}
 use Rattle.amqp_stream.specs.Writing.{Keeps}
@@ -26,7 +26,7 @@ use Rattle.amqp_turns.specs.declared.progress.Progress.{Progress}
 use Rattle.amqp_turns.specs.Steps.{progress_after}
 use Rattle.amqp_turns.specs.InTurn.{greatest}
 use Rattle.amqp_recut.specs.Held.{progress_in, kept_in}
-use Rattle.amqp_turns.specs.Splits.{frames_given, left_over}
+use Rattle.amqp_turns.specs.Splits.{frames_given}
 use Rattle.amqp_turns.proofs.Pieces.{given-ended, left-none, one-whole}
 use Rattle.amqp_recut.specs.Stepping.{recutting, step_recutting, mark_held, held_at}
 use Rattle.amqp_recut.proofs.Stepping.{body_ends, body_goes_on}
@@ -52,25 +52,19 @@ body_kept s t raw is steps =
 -- the whole of a body that is no longer than a piece
 pub one_piece : (size channel : ℕ) (payload : List ℕ) → 1 ≤ size → length payload ≡ size
     → canon_frames (frames_given size channel false payload) ≡ canon (Body channel payload)
-one_piece size channel payload some full =
-    ap (λ (ps : List (List ℕ)). canon_frames (map (λ piece. Body channel piece) ps)) (one-whole size payload some full)
-    ∙ append-nil (canon (Body channel payload))
+one_piece size channel payload some full = grind (arith, common_steps, append-nil, one-whole)
 
 pub last_piece : (size channel : ℕ) (payload : List ℕ) → 1 ≤ length payload → length payload ≤ size
     → canon_frames (frames_given size channel true payload) ≡ canon (Body channel payload)
-last_piece size channel payload some few =
-    ap (λ (ps : List (List ℕ)). canon_frames (map (λ piece. Body channel piece) ps)) (given-ended size payload (omega arith) some few)
-    ∙ append-nil (canon (Body channel payload))
+last_piece size channel payload some few = grind (arith, common_steps, append-nil, given-ended)
 
 -- no bytes
 pub empty_is : (xs : List ℕ) (empty : Bool) → empty ≡ eqb (length xs) 0 → empty ≡ true → xs ≡ []
-empty_is [] empty told is = refl
-empty_is (x ∷ xs) empty told is = absurd (let other = sym is ∙ told ∙ ne_eqb (length (x ∷ xs)) 0 (λ e. absurd (omega (arith, e))) in cc)
+empty_is xs empty told is = grind (arith, common_steps, ne_eqb)
 
 -- Bytes that are not empty are at least one.
 pub some_are : (xs : List ℕ) (empty : Bool) → empty ≡ eqb (length xs) 0 → empty ≡ false → 1 ≤ length xs
-some_are [] empty told is = absurd (let other = sym is ∙ told in cc)
-some_are (x ∷ xs) empty told is = omega arith
+some_are xs empty told is = grind (arith, common_steps)
 
 -- the last body of a message is one piece, and nothing was kept
 pub body_last : (s t : Recutter) (channel : ℕ) (payload : List ℕ) (before after n : ℕ)
@@ -78,12 +72,7 @@ pub body_last : (s t : Recutter) (channel : ℕ) (payload : List ℕ) (before af
     → None ≡ progress_after greatest (progress_in (held_at s channel)) (outline_of (Body channel payload)) → kept_in (held_at s channel) ≡ []
     → 1 ≤ length payload → length payload ≤ s.size → t ≡ record s { messages = finite.remove s.messages channel }
     → step_recutting s (Body channel payload) ≡ Ok (canon (Body channel payload), t)
-body_last s t channel payload before after n mark none empty some few is =
-    let u : Recutter = record s { messages = finite.remove s.messages channel } in
-    body_ends s channel payload before after n mark none
-    ∙ ap (λ (k : List ℕ). Ok (canon_frames (frames_given s.size channel true (k ++ payload)), u)) empty
-    ∙ ap (λ (bytes : List ℕ). Ok (bytes, u)) (last_piece s.size channel payload some few)
-    ∙ ap (λ v. Ok (canon (Body channel payload), v)) (sym is)
+body_last s t channel payload before after n mark none empty some few is = grind (arith, common_steps, body_ends, last_piece)
 
 -- a body in the midst of a message is one piece, and nothing was kept
 pub body_midst : (s t : Recutter) (channel : ℕ) (payload : List ℕ) (before after n : ℕ) (progress : Progress)
@@ -92,40 +81,21 @@ pub body_midst : (s t : Recutter) (channel : ℕ) (payload : List ℕ) (before a
     → kept_in (held_at s channel) ≡ [] → 1 ≤ length payload → length payload ≡ s.size
     → t ≡ record s { messages = finite.insert s.messages channel (record { progress = progress; kept = kept_in (held_at s channel) ++ [] }) }
     → step_recutting s (Body channel payload) ≡ Ok (canon (Body channel payload), t)
-body_midst s t channel payload before after n progress mark some_left empty some full is =
-    let with_kept : List ℕ → Recutter = λ kept. record s { messages = finite.insert s.messages channel (record { progress = progress; kept = kept }) } in
-    let left : left_over s.size (kept_in (held_at s channel) ++ payload) ≡ [] =
-    ap (λ (k : List ℕ). left_over s.size (k ++ payload)) empty ∙ left-none s.size payload (omega (arith, some, full)) full in
-    let state : with_kept [] ≡ t = ap with_kept (sym (ap (λ (k : List ℕ). k ++ []) empty)) ∙ sym is in
-    body_goes_on s channel payload before after n progress mark some_left
-    ∙ ap
-    (λ (k : List ℕ).
-    Ok (canon_frames (frames_given s.size channel false (k ++ payload)), with_kept (left_over s.size (kept_in (held_at s channel) ++ payload))))
-    empty
-    ∙ ap (λ (bytes : List ℕ). Ok (bytes, with_kept (left_over s.size (kept_in (held_at s channel) ++ payload))))
-    (one_piece s.size channel payload (omega (arith, some, full)) full)
-    ∙ ap (λ (kept : List ℕ). Ok (canon (Body channel payload), with_kept kept)) left
-    ∙ ap (λ v. Ok (canon (Body channel payload), v)) state
+body_midst s t channel payload before after n progress mark some_left empty some full is = grind (arith, common_steps, body_goes_on, left-none, one_piece)
 
 -- ---- what is pending after an error
 
 kept_few : (a b : Store) (x y : List ℕ) → Keeps a b x y → length y ≤ length x
-kept_few a b x y h = omega (arith, ap length h.parts, length-append h.written y, length-append x [])
+kept_few a b x y h = grind (arith, common_steps, length-append)
 
 stopped_few : (s t : Recutter) (raw : Raw) (a b : Store) (x y : List ℕ) (cause : Cause)
     → WritesBy recutting s t raw a b x y (stopped_by cause) → length y ≤ length x
-stopped_few s t raw a b x y (faulty bad) h = kept_few a b x y h.1
-stopped_few s t raw a b x y write_failed h = omega (arith, ap length h.failed.none)
-stopped_few s t raw a b x y out_of_memory h = kept_few a b x y h.1
-stopped_few s t raw a b x y cut_short h = absurd h
-stopped_few s t raw a b x y budget_spent h = absurd h
-stopped_few s t raw a b x y read_failed h = absurd h
+stopped_few s t raw a b x y cause h = grind (arith, common_steps, kept_few)
 
 -- no more than before
 pub error_few : (s t : Recutter) (raw : Raw) (a b : Store) (x y : List ℕ) (error : RunError Refusal)
     → WritesBy recutting s t raw a b x y (error_ending error) → length y ≤ length x
-error_few s t raw a b x y (runs.Stream error) h = stopped_few s t raw a b x y (cause_of error) h
-error_few s t raw a b x y (runs.Refused why) h = kept_few a b x y h.1
+error_few s t raw a b x y error h = grind (arith, common_steps, kept_few, stopped_few)
 
 -- ---- what is left over
 

@@ -34,7 +34,7 @@ pub Takes-then : (a b c : Supply) (p q : List ℕ) (n k : ℕ) → Takes a b p n
 Takes-then a b c p q n k f g = record {
   bytes = Consumes-trans a.left b.left c.left p q f.bytes g.bytes;
   counts = g.counts ∙ ap (counted k) f.counts ∙ counted-counted n k a.reads;
-  faults = omega (arith, f.faults, g.faults);
+  faults = omega arith;
 }
 
 -- A source that was not read has given no bytes.
@@ -72,7 +72,7 @@ ahead_of_none held a e =
 
 -- none came
 pub counted_none : (count : ℕ) (piece : List ℕ) → length piece ≡ 0 → Some count ≡ counted (length piece) (Some count)
-counted_none count piece e = ap Some (omega (arith, e))
+counted_none count piece e = ap Some (omega arith)
 
 -- more came
 pub counted_more : (first second third : ℕ) (p q : List ℕ) → Some second ≡ counted (length p) (Some first)
@@ -101,7 +101,7 @@ Gains-none a = record { bytes = Grows-none a.taken; faults = omega arith }
 pub Gains-then : (a b c : Store) (p q : List ℕ) → Gains a b p → Gains b c q → Gains a c (p ++ q)
 Gains-then a b c p q f g = record {
   bytes = Grows-then a.taken b.taken c.taken p q f.bytes g.bytes;
-  faults = omega (arith, f.faults, g.faults);
+  faults = omega arith;
 }
 
 -- ---- bytes

@@ -1,14 +1,14 @@
 -- The generated stream is given, frame after frame.
-use Rattle.std.proofs.Common.{◌≡◌, ◌≢◌, ℕ, ◌+◌, ◌-◌, ◌≤◌, List, [], ◌++◌, suc, length, take, drop, refl, sym, ap, ap₂, ◌∙◌, arith, append_assoc}
-use Rattle.std.proofs.lemmas.List.{length-take-le, take_at, take-take, take-append-drop}
-use Rattle.std.proofs.Math.Seq.{take-append-add}
-use Rattle.amqp_types.specs.Writing.{written, Puts}
+use Rattle.std.proofs.Common.{◌≡◌, ◌≢◌, ℕ, ◌+◌, ◌-◌, ◌≤◌, List, [], ◌++◌, suc, length, take, drop, sym, ap, ap₂, ◌∙◌, arith, append_assoc}
+use Rattle.std.proofs.lemmas.List.{take-take, take-append-drop}
+use Rattle.amqp_types.specs.Writing.{Puts}
 use Rattle.amqp_types.proofs.Puts.{puts-length}
 use Rattle.amqp_stream.specs.declared.buffer.Span.{Span}
 use Rattle.amqp_stream.specs.Spans.{held_in}
 use Rattle.amqp_stream.specs.Made.{made_frame, made_from}
 use Rattle.amqp_stream.specs.Making.{IsMaking, left_in}
 use Rattle.amqp_stream.proofs.MadeSizes.{made_frame-short}
+use Rattle.amqp_stream.proofs.Spans.{put_front}
 use Rattle.amqp_stream.proofs.Spans.{part-drop, part-length}
 
 -- ---- the next frame
@@ -16,20 +16,15 @@ use Rattle.amqp_stream.proofs.Spans.{part-drop, part-length}
 abbrev span : ℕ → ℕ → Span
 span start end = record { start = start; end = end }
 
--- what was put at the front of a buffer stands there
-put_front : (old new bytes : List ℕ) (end : ℕ) → Puts old new 0 bytes end → take end new ≡ bytes
-unfolding written
-put_front old new bytes end p = ap (take end) p.put ∙ take_at bytes (drop (0 + length bytes) old) end (omega (arith, p.behind))
-
 -- After the next frame was put into the buffer of one frame, its bytes are to be given.
-pub refilled_making : (frame new : List ℕ) (s : Span) (next frames end : ℕ) → IsMaking frame s next frames
+pub refilled_making : {frame new : List ℕ} {s : Span} {next frames end : ℕ} → IsMaking frame s next frames
     → next ≢ frames → Puts frame new 0 (made_frame next) end → IsMaking new (span 0 end) (next + 1) frames
-refilled_making frame new s next frames end making more p =
-    let len = puts-length frame new 0 end (made_frame next) (omega (arith, made_frame-short next, making.len)) p in
+refilled_making {frame = frame} {new = new} {next = next} {end = end} making more p =
+    let len = puts-length frame new 0 end (made_frame next) (omega (arith, made_frame-short next)) p in
     record {
-      is_span = record { ordered = omega arith; within = omega (arith, made_frame-short next, making.len, p.behind) };
+      is_span = record { ordered = omega arith; within = omega (arith, made_frame-short next) };
       len = len ∙ making.len;
-      ordered = omega (arith, making.ordered);
+      ordered = omega arith;
       few = making.few;
     }
 
@@ -43,9 +38,9 @@ pub refilled_same : (frame new : List ℕ) (s : Span) (next frames end : ℕ) �
 refilled_same frame new s next frames end making none more p =
     let rest = made_from (next + 1) (frames - (next + 1)) in
     let empty : held_in frame s ≡ [] = ap (λ n. take n (drop s.start frame)) {x = s.end - s.start} {y = 0} (omega arith) in
-    let filled : held_in new (span 0 end) ≡ made_frame next = ap (λ n. take n new) {x = end - 0} (omega arith) ∙ put_front frame new (made_frame next) end p in
-    ap (λ (xs : List ℕ). xs ++ rest) filled ∙ sym (made_from-next next frames making.ordered more)
-    ∙ ap (λ (xs : List ℕ). xs ++ made_from next (frames - next)) (sym empty)
+    let filled : held_in new (span 0 end) ≡ made_frame next =
+    ap (λ n. take n new) {x = end - 0} (omega arith) ∙ put_front frame 0 (made_frame next) (omega arith) p in
+    cc (filled, made_from-next next frames making.ordered more, empty)
 
 -- ---- a piece of it
 
@@ -56,22 +51,13 @@ pub record Giving (all buf frame : List ℕ) (s : Span) (next frames given : ℕ
   pub parts : all ≡ take given buf ++ left_in frame s next frames
 
 -- What was given stays so when the next frame is put into the buffer of one frame.
-pub given_refilled : (all buf frame new : List ℕ) (s t : Span) (next then frames given : ℕ) → Giving all buf frame s next frames given
+pub given_refilled : {all buf frame new : List ℕ} {s t : Span} {next then frames given : ℕ} → Giving all buf frame s next frames given
     → IsMaking new t then frames → left_in new t then frames ≡ left_in frame s next frames → Giving all buf new t then frames given
-given_refilled all buf frame new s t next then frames given g making same = record {
+given_refilled g making same = record {
   making = making;
   within = g.within;
-  parts = g.parts ∙ ap (λ (xs : List ℕ). take given buf ++ xs) (sym same);
+  parts = cc (g.parts, same);
 }
-
--- what was put at a place of a buffer stands after what stood before it
-put_behind : (old new bytes : List ℕ) (at end : ℕ) → at ≤ length old → Puts old new at bytes end → take end new ≡ take at old ++ bytes
-unfolding written
-put_behind old new bytes at end room p =
-    let front = length-take-le at old room in
-    let behind = drop (at + length bytes) old in
-    ap (take end) p.put ∙ ap (λ n. take n (take at old ++ (bytes ++ behind))) {x = end} {y = length (take at old) + length bytes} (omega (arith, p.behind))
-    ∙ take-append-add (take at old) (bytes ++ behind) (length bytes) ∙ ap (λ (xs : List ℕ). take at old ++ xs) (take_at bytes behind (length bytes) refl)
 
 -- the first bytes of a part, and what is left of it
 cut_part : (frame : List ℕ) (start end n : ℕ) → n ≤ end - start
@@ -89,19 +75,22 @@ pub given_more : (all buf new frame : List ℕ) (start end next frames given mos
 given_more all buf new frame start end next frames given most behind g few room p =
     let piece = take (start + most - start) (drop start frame) in
     let rest = made_from next (frames - next) in
-    let len = part-length frame start (start + most) (omega arith) (omega (arith, g.making.is_span.within, g.making.is_span.ordered)) in
-    let same = puts-length buf new given behind piece (omega (arith, g.within)) p in
+    let len = part-length frame start (start + most) (omega arith) (omega arith) in
+    let same = puts-length buf new given behind piece (omega arith) p in
     record {
       making = record {
-        is_span = record { ordered = omega (arith, g.making.is_span.ordered); within = g.making.is_span.within };
+        is_span = record { ordered = omega arith; within = g.making.is_span.within };
         len = g.making.len;
         ordered = g.making.ordered;
         few = g.making.few;
       };
-      within = omega (arith, g.within, p.behind);
+      within = omega arith;
       parts =
-          g.parts ∙ ap (λ (xs : List ℕ). take given buf ++ (xs ++ rest)) (cut_part frame start end most few)
-          ∙ ap (λ (xs : List ℕ). take given buf ++ xs) (append_assoc piece (held_in frame (span (start + most) end)) rest)
-          ∙ sym (append_assoc (take given buf) piece (left_in frame (span (start + most) end) next frames))
-          ∙ ap (λ (xs : List ℕ). xs ++ left_in frame (span (start + most) end) next frames) (sym (put_behind buf new piece given behind g.within p));
+          cc (
+            g.parts,
+            cut_part frame start end most few,
+            append_assoc piece (held_in frame (span (start + most) end)) rest,
+            append_assoc (take given buf) piece (left_in frame (span (start + most) end) next frames),
+            put_front buf given piece g.within p,
+          );
     }

@@ -4,14 +4,10 @@ pub mod Adding
 pub mod Pulling
 pub mod NextCalls
 pub mod Writes
-pub mod Passing
 pub mod Going
 pub mod Finishing
 pub mod Standing
-pub mod Keeping
-pub mod Resuming
 pub mod Reporting
-pub mod Joining
 pub mod Rounds
 pub mod Exactly
 pub mod Transcribing
@@ -19,10 +15,8 @@ pub mod Runs
 pub mod Forwarding
 pub mod Tidying
 pub mod Apart
-pub mod Putting
 pub mod Deciding
 pub mod Flushes
 pub mod MadeSizes
-pub mod MadeSequences
 pub mod MadeFrames
 pub mod Giving

@@ -11,17 +11,19 @@ use Rattle.amqp_stream.specs.Made.{made_frame, made_from, made, made_channel, ma
 abbrev pub length_by : ℕ → ℕ
 length_by k = if k == 0 then 9 else (if k == 1 then 9 else (if k == 2 then 13 else 28))
 
-length_of_one : (first second third : Bool) (a b c d : List ℕ) → length a ≡ 9 → length b ≡ 9 → length c ≡ 13 → length d ≡ 28
-    → length (if first then a else (if second then b else (if third then c else d))) ≡ (if first then 9 else (if second then 9 else (if third then 13 else 28)))
-length_of_one true second third a b c d la lb lc ld = la
-length_of_one false true third a b c d la lb lc ld = lb
-length_of_one false false true a b c d la lb lc ld = lc
-length_of_one false false false a b c d la lb lc ld = ld
+-- What holds of each of four pairs holds of the pair that tests choose.
+pub by_four : {A B : Type 0} (P : A → B → Type 0) (first second third : Bool) (a b c d : A) (f g h k : B) → P a f → P b g → P c h → P d k
+    → P (if first then a else (if second then b else (if third then c else d))) (if first then f else (if second then g else (if third then h else k)))
+by_four P true second third a b c d f g h k pa pb pc pd = pa
+by_four P false true third a b c d f g h k pa pb pc pd = pb
+by_four P false false true a b c d f g h k pa pb pc pd = pc
+by_four P false false false a b c d f g h k pa pb pc pd = pd
 
 pub made_frame-length : (i : ℕ) → length (made_frame i) ≡ length_by (i % 4)
 unfolding made_frame
 made_frame-length i =
-    length_of_one (i % 4 == 0) (i % 4 == 1) (i % 4 == 2) _ _ _ _ (framed_length 8 0 (made_payload i)) (framed_length 3 (made_channel i) (made_payload i))
+    by_four (λ (bytes : List ℕ) n. length bytes ≡ n) (i % 4 == 0) (i % 4 == 1) (i % 4 == 2) _ _ _ _ _ _ _ _
+    (framed_length 8 0 (made_payload i)) (framed_length 3 (made_channel i) (made_payload i))
     (framed_length 1 (made_channel i) select_payload) (framed_length 1 (made_channel i) declare_payload)
 
 length_by-bounds : (k : ℕ) → (0 < length_by k) × (length_by k ≤ 28)
@@ -71,6 +73,6 @@ made-short n h =
     let len = made-length n in
     let bounds = rest_length-bounds (n % 4) in
     elim (cases_lt (n / 4) 25000) [
-      | inl fewer ↦ omega (arith, bounds.0)
+      | inl fewer ↦ omega arith
       | inr most ↦ omega (arith, bounds.1 (omega arith))
     ]

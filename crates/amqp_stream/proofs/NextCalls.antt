@@ -1,12 +1,12 @@
 -- What follows from a call of `next`, for its callers.
-use Rattle.std.proofs.Common.{◌≡◌, ◌≢◌, ℕ, ◌+◌, ◌-◌, ◌*◌, ◌<◌, ◌≤◌, List, ◌++◌, length, Option, Some, None, Result, Ok, Err, IsErrAnd, drop, refl, sym, ap}
+use Rattle.std.proofs.Common.{◌≡◌, ℕ, ◌+◌, ◌-◌, ◌*◌, ◌<◌, ◌≤◌, List, length, Option, Some, None, Result, Ok, Err, IsErrAnd, drop, refl, sym, ap}
 use Rattle.std.proofs.Common.{subst, ◌∙◌, inl, inr, arith, append-nil}
 use Rattle.std.proofs.lemmas.Bool.{cases_lt}
 use Rattle.std.proofs.lemmas.List.{drop_at, length-append, length-drop}
 use Rattle.std.proofs.Math.Nat.{mul-le-mul_right}
-use Rattle.amqp_types.specs.Judging.{Fault, Judged, past, fault, took, IsBytes}
+use Rattle.amqp_types.specs.Judging.{Fault, past, fault, IsBytes}
 use Rattle.amqp_types.proofs.Bytes.{IsBytes-drop}
-use Rattle.amqp_wire.specs.Frames.{Raw, raw_of}
+use Rattle.amqp_wire.specs.Frames.{raw_of}
 use Rattle.amqp_wire.specs.HeaderScan.{scan}
 use Rattle.amqp_wire.proofs.HeaderScan.{scan-in_bounds, scan-none, scan-past_few}
 use Rattle.amqp_wire.specs.declared.raw_frame.AMQPRawFrame.{AMQPRawFrame}
@@ -19,36 +19,35 @@ use Rattle.amqp_stream.specs.Reading.{Holding, Ends, IsBorrowed, reading_left, H
 
 -- ---- what is held
 
--- What was held is looked at alone, where nothing was read.
-alone : {X : Type 0} {P : ℕ → List ℕ → List ℕ → X → Type 0} {supply : Change Supply} {budget : Change ℕ} {reader : Change Holding}
-    {r : Result (Option X) ReadError} (p : HasNext P supply budget reader r) → budget.new ≡ budget.old → p.bytes ≡ reader.old.held
-alone {reader = reader} p none = p.all ∙ ap (λ (xs : List ℕ). reader.old.held ++ xs) (p.unread none) ∙ append-nil reader.old.held
-
 -- What is held fits a buffer for the largest frame.
 pub next_room : {supply : Change Supply} {budget : Change ℕ} {reader : Change Holding} (r : Result (Option AMQPRawFrame) ReadError)
     → HasNext IsBorrowed supply budget reader r → length reader.new.held ≤ reader.old.limit + 8
-next_room (Ok (Some raw)) p = omega (arith, ap length p.ends.2, length-drop p.ends.0 p.bytes, p.room)
+next_room (Ok (Some raw)) p = omega (arith, ap length p.ends.2, length-drop p.ends.0 p.bytes)
 next_room (Ok None) p = omega (arith, ap length p.ends.1)
-next_room (Err error) p = omega (arith, ap length p.kept, p.room)
+next_room (Err error) p = omega (arith, ap length p.kept)
 
 -- Where more is needed, one byte more still fits it.
 pub next_undecided_room : (reader : Change Holding) → scan (Some reader.old.limit) reader.new.held ≡ past → length reader.new.held ≤ reader.old.limit + 7
 next_undecided_room reader more = omega (arith, scan-past_few reader.old.limit reader.new.held more)
 
--- What was taken are bytes.
-pub next_bytes : {X : Type 0} {P : ℕ → List ℕ → List ℕ → X → Type 0} {supply : Change Supply} {budget : Change ℕ} {reader : Change Holding}
-    {r : Result (Option X) ReadError} (p : HasNext P supply budget reader r) → IsBytes p.taken
-next_bytes {reader = reader} p =
-    let held = reader.old.held in
-    subst IsBytes (ap (drop (length held)) p.all ∙ drop_at held p.taken (length held) refl) (IsBytes-drop (length held) p.bytes p.are_bytes)
+module _ {X : Type 0} {P : ℕ → List ℕ → List ℕ → X → Type 0} {supply : Change Supply} {budget : Change ℕ} {reader : Change Holding}
+    {r : Result (Option X) ReadError} (p : HasNext P supply budget reader r) where
+  -- What was held is looked at alone, where nothing was read.
+  alone : budget.new ≡ budget.old → p.bytes ≡ reader.old.held
+  alone none = cc (p.unread none, append-nil reader.old.held)
 
--- Where bytes were taken, a read was made.
-pub next_some : {X : Type 0} {P : ℕ → List ℕ → List ℕ → X → Type 0} {supply : Change Supply} {budget : Change ℕ} {reader : Change Holding}
-    {r : Result (Option X) ReadError} (p : HasNext P supply budget reader r) → 0 < length p.taken → budget.new < budget.old
-next_some {budget = budget} p some = elim (cases_lt budget.new budget.old) [
-  | inl less ↦ less
-  | inr none ↦ absurd (omega (arith, some, ap length (p.unread (omega (arith, none, p.budget_falls)))))
-]
+  -- What was taken are bytes.
+  pub next_bytes : IsBytes p.taken
+  next_bytes =
+      let held = reader.old.held in
+      subst IsBytes (ap (drop (length held)) p.all ∙ drop_at held p.taken (length held) refl) (IsBytes-drop (length held) p.bytes p.are_bytes)
+
+  -- Where bytes were taken, a read was made.
+  pub next_some : 0 < length p.taken → budget.new < budget.old
+  next_some some = elim (cases_lt budget.new budget.old) [
+    | inl less ↦ less
+    | inr none ↦ absurd (omega (arith, ap length (p.unread (omega arith))))
+  ]
 
 -- ---- a fault that is held
 
@@ -58,53 +57,36 @@ pub record AnswersAgain (bad : Fault) (budget : Change ℕ) (reader : Change Hol
   pub held : reader.new.held ≡ reader.old.held
   pub budget_stays : budget.new ≡ budget.old
 
-fault_decided : (j : Judged Raw) (bad : Fault) → j ≡ fault bad → j ≢ past
-fault_decided j bad e h = absurd cc
-
-fault_same : (j : Judged Raw) (bad other : Fault) → j ≡ fault bad → j ≡ fault other → Some other ≡ Some bad
-fault_same j bad other e h = cc
-
--- the error of a call over bytes at whose front a fault stands
-tells : (m : ℕ) (b : List ℕ) (supply : Change Supply) (budget : ℕ) (after : List ℕ) (error : ReadError) (bad : Fault)
-    → scan (Some m) b ≡ fault bad → Ends IsBorrowed m b supply budget after (Err error) → read_fault error ≡ Some bad
-tells m b supply budget after errors.UnknownFrameType bad e h = fault_same (scan (Some m) b) bad _ e h
-tells m b supply budget after errors.BadProtocolHeader bad e h = fault_same (scan (Some m) b) bad _ e h
-tells m b supply budget after errors.TooLarge bad e h = fault_same (scan (Some m) b) bad _ e h
-tells m b supply budget after errors.BadFrameEnd bad e h = fault_same (scan (Some m) b) bad _ e h
-tells m b supply budget after errors.CutShort bad e h = absurd (fault_decided (scan (Some m) b) bad e h.0)
-tells m b supply budget after errors.TurnsSpent bad e h = absurd (fault_decided (scan (Some m) b) bad e h.0)
-tells m b supply budget after errors.ReadFault bad e h = absurd (fault_decided (scan (Some m) b) bad e h.0)
-
 pub next_again : {supply : Change Supply} {budget : Change ℕ} {reader : Change Holding} (r : Result (Option AMQPRawFrame) ReadError) (bad : Fault)
     → HasNext IsBorrowed supply budget reader r → scan (Some reader.old.limit) reader.old.held ≡ fault bad → AnswersAgain bad budget reader r
 next_again {reader = reader} (Ok (Some raw)) bad p e =
-    let m = reader.old.limit in
-    let none = p.decided (fault_decided (scan (Some m) reader.old.held) bad e) in
-    absurd (let found : scan (Some m) reader.old.held ≡ took (raw_of raw) p.ends.0 = ap (scan (Some m)) (sym (alone p none)) ∙ p.ends.1 in cc)
+    let same = ap (scan (Some reader.old.limit)) (alone p (p.decided (λ more. absurd cc))) in
+    absurd (let found = p.ends.1 in cc)
 next_again {reader = reader} (Ok None) bad p e =
-    let m = reader.old.limit in
-    let none = p.decided (fault_decided (scan (Some m) reader.old.held) bad e) in
-    absurd (let more : scan (Some m) reader.old.held ≡ past = ap (scan (Some m)) (sym (alone p none) ∙ p.ends.0) ∙ scan-none (Some m) in cc)
+    let same = ap (scan (Some reader.old.limit)) (sym (alone p (p.decided (λ more. absurd cc))) ∙ p.ends.0) ∙ scan-none (Some reader.old.limit) in
+    absurd cc
 next_again {supply = supply} {budget = budget} {reader = reader} (Err error) bad p e =
-    let m = reader.old.limit in
-    let none = p.decided (fault_decided (scan (Some m) reader.old.held) bad e) in
-    record {
-      same = tells m p.bytes supply budget.new reader.new.held error bad (ap (scan (Some m)) (alone p none) ∙ e) p.ends;
-      held = p.kept ∙ alone p none;
-      budget_stays = none;
-    }
+    let none = p.decided (λ more. absurd cc) in
+    record { same = by_error error (ap (scan (Some reader.old.limit)) (alone p none) ∙ e) p.ends; held = p.kept ∙ alone p none; budget_stays = none }
+  where
+    by_error : (error : ReadError) → scan (Some reader.old.limit) p.bytes ≡ fault bad
+        → Ends IsBorrowed reader.old.limit p.bytes supply budget.new reader.new.held (Err error) → read_fault error ≡ Some bad
+    by_error errors.CutShort found h = absurd (let more = h.0 in cc)
+    by_error errors.TurnsSpent found h = absurd (let more = h.0 in cc)
+    by_error errors.ReadFault found h = absurd (let more = h.0 in cc)
+    by_error error found h = cc
 
 -- ---- what a loop over `next` has left falls with each frame
 
 -- by a read of the budget
 falls : (m budget budget' h h' : ℕ) → budget' < budget → h' ≤ m + 8 → budget' * (m + 9) + h' < budget * (m + 9) + h
 falls m budget budget' h h' less room =
-    let one : (budget' + 1) * (m + 9) ≤ budget * (m + 9) = mul-le-mul_right (m + 9) (omega arith) in omega (arith, one)
+    let one : (budget' + 1) * (m + 9) ≤ budget * (m + 9) = mul-le-mul_right (m + 9) (omega arith) in omega arith
 
 -- by held bytes
 shortens : (m budget budget' h h' : ℕ) → budget' ≤ budget → h' < h → budget' * (m + 9) + h' < budget * (m + 9) + h
 shortens m budget budget' h h' same less =
-    let all : budget' * (m + 9) ≤ budget * (m + 9) = mul-le-mul_right (m + 9) same in omega (arith, all)
+    let all : budget' * (m + 9) ≤ budget * (m + 9) = mul-le-mul_right (m + 9) same in omega arith
 
 pub next_falls : {supply : Change Supply} {budget : Change ℕ} {reader : Change Holding} {raw : AMQPRawFrame}
     → HasNext IsBorrowed supply budget reader (Ok (Some raw))
@@ -115,8 +97,8 @@ next_falls {budget = budget} {reader = reader} {raw = raw} p =
     let left : length reader.new.held ≡ length p.bytes - p.ends.0 = ap length p.ends.2 ∙ length-drop p.ends.0 p.bytes in
     let long = ap length p.all ∙ length-append reader.old.held p.taken in
     elim (cases_lt budget.new budget.old) [
-      | inl less ↦ falls m budget.old budget.new (length reader.old.held) (length reader.new.held) less (omega (arith, left, p.room))
+      | inl less ↦ falls m budget.old budget.new (length reader.old.held) (length reader.new.held) less (omega arith)
       | inr none ↦
           shortens m budget.old budget.new (length reader.old.held) (length reader.new.held) p.budget_falls
-          (omega (arith, left, long, bounds.least, bounds.within, ap length (p.unread (omega (arith, none, p.budget_falls)))))
+          (omega (arith, ap length (p.unread (omega (arith, none, p.budget_falls)))))
     ]

@@ -1,5 +1,6 @@
 -- One iteration of the engine's loop, by what stands at the front of the held bytes: a fault, a frame, or neither.
-use Rattle.std.proofs.Common.{◌≡◌, ◌≢◌, ℕ, ◌+◌, ◌-◌, ◌*◌, ◌<◌, ◌≤◌, List, [], ◌++◌, length, take, drop, Option, Some, None, Ok, Err, IsTrue, sym, ap}
+use Rattle.std.proofs.Common.{◌≡◌, ◌≢◌, ℕ, ◌+◌, ◌-◌, ◌*◌, ◌<◌, ◌≤◌, List, [], ◌++◌, length, take, drop, Option, Some, None, Ok, Err}
+use Rattle.std.proofs.Common.{Result, IsTrue, refl, sym, ap}
 use Rattle.std.proofs.Common.{subst, ◌∙◌, ◌⊎◌, inl, inr, arith}
 use Rattle.std.proofs.lemmas.List.{length-append, length-take-le}
 use Rattle.std.proofs.Math.Seq.{drop-nil}
@@ -23,6 +24,8 @@ use Rattle.amqp_stream.specs.Buffers.{Buffered}
 use Rattle.amqp_stream.specs.Writing.{WritesAll}
 use Rattle.amqp_stream.specs.Streaming.{Ending, stopped_by, error_ending, end_with, EndsWith}
 use Rattle.amqp_stream.specs.Taking.{gathered, IsTaken, IsUnflushed, IsStopped}
+use Rattle.amqp_stream.proofs.Adding.{counted_none, Rises-later}
+use Rattle.amqp_stream.proofs.Pulling.{still_more}
 use Rattle.amqp_stream.proofs.Going.{Start, Clear, Going, Clear-held, Going-clear, Going-frame, Going-kept, Clear-flushed, Clear-read, fits_room, frame_falls}
 use Rattle.amqp_stream.proofs.Finishing.{Ended, finish_header, finish_spent, finish_unread, finish_end, finish_unflushed, finish_stopped}
 
@@ -38,12 +41,20 @@ pub record Loop (S : Type 0) : Type 0 where
   pub out : Buffered
   pub passed : ℕ
 
+-- what is held after what passed
+abbrev pub held_by : {S : Type 0} → Loop S → List ℕ
+held_by x = drop x.passed x.reader.held
+
+-- what is pending, and what passed
+abbrev pub pending_by : {S : Type 0} → Loop S → List ℕ
+pending_by x = gathered x.out.bytes x.passed x.reader.held
+
 -- What holds at each iteration. The limit and the room stay. What passed is pending, and is written from where it is held.
 pub record Round {S E : Type 0} (r : Start S E) (room : ℕ) (x : Loop S) : Type 0 where
   pub limit : x.reader.limit ≡ r.m
   pub room_is : x.out.room ≡ room
   pub within : x.passed ≤ length x.reader.held
-  pub going : Going r x.writer x.left x.came x.source x.sink (drop x.passed x.reader.held) (gathered x.out.bytes x.passed x.reader.held)
+  pub going : Going r x.writer x.left x.came x.source x.sink (held_by x) (pending_by x)
 
 abbrev nothing_in : ℕ → Buffered
 nothing_in room = record { room = room; bytes = [] }
@@ -67,170 +78,126 @@ first_round {passed = passed} {reader = reader} r limit same fits few empty zero
     record {
       limit = limit;
       room_is = ap (λ o. o.room) empty;
-      within = omega (arith, zero);
+      within = omega arith;
       going =
-          Going-clear (Clear-held r (drop passed reader.held) (all ∙ same) (subst IsBytes (sym all) fits) (omega (arith, few, ap length all)))
+          Going-clear (Clear-held r (drop passed reader.held) (all ∙ same) (subst IsBytes (sym all) fits) (omega (arith, ap length all)))
           (empty_gathered reader.held empty zero);
     }
 
--- what is held at the end is this
-held_as : {S E : Type 0} {r : Start S E} {t : S} {came : ℕ} {b : Supply} {l : Store} {held other : List ℕ} {ending : Ending E}
-    → held ≡ other → Ended r t came b l other ending → Ended r t came b l held ending
-held_as {r = r} {t = t} {came = came} {b = b} {l = l} {ending = ending} same run = subst (λ (xs : List ℕ). Ended r t came b l xs ending) (sym same) run
+-- ---- a fault, or a frame
 
--- ---- a fault
+module _ {S E : Type 0} {r : Start S E} {room : ℕ} {x : Loop S} (round : Round r room x) where
+  -- At a fault of the bytes the run ends, with all written that was gathered.
+  pub ends_at_fault : (error : ReadError) {told : StreamError} {result : RunError E} {l : Store} {held : List ℕ}
+      → Finds x.reader.limit (held_by x) (Err error) → told ≡ stream_error error
+      → EndsWith x.sink l (pending_by x) (ends.Stream told) (Err result) → held ≡ held_by x → Ended r x.writer x.came x.source l held (error_ending result)
+  ends_at_fault error finds same stop rest =
+      let found = rw round.limit at finds in
+      rw rest (finish_header round.going found.0 error found.1 found.2 (rw same at stop))
 
--- At a fault of the bytes the run ends, with all written that was gathered.
-pub ends_at_fault : {S E : Type 0} {r : Start S E} {room : ℕ} {x : Loop S}
-    (error : ReadError) {told : StreamError} {result : RunError E} {l : Store} {held : List ℕ}
-    → Round r room x → Finds x.reader.limit (drop x.passed x.reader.held) (Err error) → told ≡ stream_error error
-    → EndsWith x.sink l (gathered x.out.bytes x.passed x.reader.held) (ends.Stream told) (Err result)
-    → held ≡ drop x.passed x.reader.held → Ended r x.writer x.came x.source l held (error_ending result)
-ends_at_fault error round finds same stop rest =
-    let found = rw round.limit at finds in
-    held_as rest (finish_header found.0 error round.going found.1 found.2 (rw same at stop))
+  -- Where what was gathered could not be written the run ends.
+  pub ends_unflushed : {l : Store} {held : List ℕ} {bad : SinkFault}
+      → WritesAll x.sink l (pending_by x) (Err bad) → held ≡ held_by x → Ended r x.writer x.came x.source l held (stopped_by write_failed)
+  ends_unflushed failed rest = rw rest (finish_unflushed round.going _ failed)
 
--- ---- a frame
+  -- where there is no read budget, none of it was used
+  pub all_left : r.budget ≡ 0 → x.left ≡ r.budget
+  all_left zero = omega arith
 
-frame_at : {S E : Type 0} {r : Start S E} {room : ℕ} {x : Loop S} {found : Option FrameLayout} {layout : FrameLayout} → Round r room x
-    → Finds x.reader.limit (drop x.passed x.reader.held) (Ok found) → found ≡ Some layout → Lies r.m (drop x.passed x.reader.held) layout
-frame_at round finds is = rw (is, round.limit) at finds
+module _ {S E : Type 0} {r : Start S E} {room : ℕ} {x : Loop S} {found : Option FrameLayout} {layout : FrameLayout}
+    (round : Round r room x) (finds : Finds x.reader.limit (held_by x) (Ok found)) (is : found ≡ Some layout) where
+  frame_at : Lies r.m (held_by x) layout
+  frame_at = rw (is, round.limit) at finds
 
--- Where a frame was found, one lies at the front of the bytes.
-pub frame_lies : {m : ℕ} {held : List ℕ} {found : Option FrameLayout} {layout : FrameLayout}
-    → Finds m held (Ok found) → found ≡ Some layout → Lies m held layout
-frame_lies finds is = rw is at finds
+  -- For a compact writer what is gathered and the next frame fit the output buffer.
+  pub frame_has_room : r.m + 8 ≤ room → IsTrue r.w.compact → length x.out.bytes + x.passed + frame_length (laid_out layout (held_by x)) ≤ x.out.room
+  frame_has_room enough compact =
+      omega (
+        arith,
+        fits_room round.going frame_at compact,
+        length-append x.out.bytes (take x.passed x.reader.held),
+        length-take-le x.passed x.reader.held round.within,
+      )
 
--- For a compact writer what is gathered and the next frame fit the output buffer.
-pub frame_has_room : {S E : Type 0} {r : Start S E} {room : ℕ} {x : Loop S} {found : Option FrameLayout} {layout : FrameLayout}
-    → Round r room x → Finds x.reader.limit (drop x.passed x.reader.held) (Ok found) → found ≡ Some layout → r.m + 8 ≤ room
-    → IsTrue r.w.compact → length x.out.bytes + x.passed + frame_length (laid_out layout (drop x.passed x.reader.held)) ≤ x.out.room
-frame_has_room {x = x} round finds is enough compact =
-    omega (
-      arith,
-      fits_room round.going (frame_at round finds is) compact,
-      round.room_is,
-      length-append x.out.bytes (take x.passed x.reader.held),
-      length-take-le x.passed x.reader.held round.within,
-    )
+  -- At a frame that the writer does not take the run ends there.
+  pub ends_at_frame : {t : S} {l : Store} {held : List ℕ} {error : RunError E} → (IsUnflushed x.sink l (pending_by x) error
+      ⊎ IsStopped r.w x.writer t (laid_out layout (held_by x)) x.sink l (pending_by x) error) × (held ≡ held_by x)
+      → Ended r t x.came x.source l held (error_ending error)
+  ends_at_frame {t = t} stops =
+      rw stops.1 (elim stops.0 [
+        | inl h ↦ rw h.is (finish_unflushed round.going t h.written)
+        | inr h ↦ finish_stopped t (Going-kept round.going h.keeps) frame_at.found h.writes h.ends
+      ])
 
--- At a frame that the writer does not take the run ends there.
-pub ends_at_frame : {S E : Type 0} {r : Start S E} {room : ℕ} {x : Loop S} {found : Option FrameLayout}
-    {layout : FrameLayout} {t : S} {l : Store} {held : List ℕ} {error : RunError E}
-    → Round r room x → Finds x.reader.limit (drop x.passed x.reader.held) (Ok found) → found ≡ Some layout
-    → (IsUnflushed x.sink l (gathered x.out.bytes x.passed x.reader.held) error
-    ⊎ IsStopped r.w x.writer t (laid_out layout (drop x.passed x.reader.held)) x.sink l (gathered x.out.bytes x.passed x.reader.held) error)
-    × (held ≡ drop x.passed x.reader.held)
-    → Ended r t x.came x.source l held (error_ending error)
-ends_at_frame {t = t} round finds is stops =
-    let lies = frame_at round finds is in
-    held_as stops.1 (elim stops.0 [
-      | inl h ↦ rw h.is (finish_unflushed t round.going h.written)
-      | inr h ↦ finish_stopped (Going-kept round.going h.keeps) lies.found h.writes h.ends
-    ])
+  -- What the loop keeps holds after a frame was taken.
+  pub round_after_frame : {t : S} {l : Store} {reader : Holding} {out : Buffered} {longer : ℕ}
+      → IsTaken r.w x.writer t layout x.sink l x.reader.held reader.held x.out.bytes out.bytes x.passed longer
+      → out.room ≡ x.out.room → reader.limit ≡ x.reader.limit
+      → Round r room (record { writer = t; left = x.left; came = x.came; source = x.source; sink = l; reader = reader; out = out; passed = longer })
+  round_after_frame taken room_is limit = record {
+    limit = limit ∙ round.limit;
+    room_is = room_is ∙ round.room_is;
+    within = taken.within;
+    going = rw taken.rest (Going-frame round.going frame_at taken.writes taken.compact);
+  }
 
--- What the loop keeps holds after a frame was taken.
-pub round_after_frame : {S E : Type 0} {r : Start S E} {room : ℕ} {x : Loop S} {found : Option FrameLayout}
-    {layout : FrameLayout} {t : S} {l : Store} {reader : Holding} {out : Buffered} {longer : ℕ}
-    → Round r room x → Finds x.reader.limit (drop x.passed x.reader.held) (Ok found) → found ≡ Some layout
-    → IsTaken r.w x.writer t layout x.sink l x.reader.held reader.held x.out.bytes out.bytes x.passed longer
-    → out.room ≡ x.out.room → reader.limit ≡ x.reader.limit
-    → Round r room (record { writer = t; left = x.left; came = x.came; source = x.source; sink = l; reader = reader; out = out; passed = longer })
-round_after_frame {r = r} {x = x} {t = t} {l = l} {reader = reader} {out = out} {longer = longer} round finds is taken room_is limit =
-    let going = Going-frame round.going (frame_at round finds is) taken.writes taken.compact in
-    record {
-      limit = limit ∙ round.limit;
-      room_is = room_is ∙ round.room_is;
-      within = taken.within;
-      going = subst (λ (held : List ℕ). Going r t x.left x.came x.source l held (gathered out.bytes longer reader.held)) (sym taken.rest) going;
-    }
+  -- What falls with each iteration falls with a frame.
+  pub frame_shortens : {held : List ℕ} → held ≡ drop layout.frame_len (held_by x)
+      → x.left * (r.m + 9) + length held < x.left * (r.m + 9) + length (held_by x)
+  frame_shortens same = rw same (frame_falls r.m x.left (held_by x) layout frame_at)
 
--- What falls with each iteration falls with a frame.
-pub frame_shortens : {S E : Type 0} {r : Start S E} {room : ℕ} {x : Loop S} {found : Option FrameLayout} {layout : FrameLayout} {held : List ℕ}
-    → Round r room x → Finds x.reader.limit (drop x.passed x.reader.held) (Ok found) → found ≡ Some layout
-    → held ≡ drop layout.frame_len (drop x.passed x.reader.held) → x.left * (r.m + 9) + length held < x.left * (r.m + 9) + length (drop x.passed x.reader.held)
-frame_shortens {r = r} {x = x} {layout = layout} round finds is same =
-    rw same (frame_falls r.m x.left (drop x.passed x.reader.held) layout (frame_at round finds is))
+-- ---- neither: all that was gathered was written, what passed is held no more, and more bytes are needed
 
--- ---- neither, so that what is pending is written, and more bytes are needed
+module _ {S E : Type 0} {r : Start S E} {room : ℕ} {x : Loop S} {found : Option FrameLayout} {l : Store} {held : List ℕ} {done : Unit {0}}
+    (round : Round r room x) (written : WritesAll x.sink l (pending_by x) (Ok done)) (rest : held ≡ held_by x)
+    (finds : Finds x.reader.limit (held_by x) (Ok found)) (none : found ≡ None) where
+  clear : Clear r x.writer x.left x.came x.source l held 0
+  clear = rw rest (Clear-flushed round.going written)
 
--- Where what was gathered could not be written the run ends.
-pub ends_unflushed : {S E : Type 0} {r : Start S E} {room : ℕ} {x : Loop S} {l : Store} {held : List ℕ} {bad : SinkFault}
-    → Round r room x → WritesAll x.sink l (gathered x.out.bytes x.passed x.reader.held) (Err bad)
-    → held ≡ drop x.passed x.reader.held → Ended r x.writer x.came x.source l held (stopped_by write_failed)
-ends_unflushed round failed rest = held_as rest (finish_unflushed _ round.going failed)
-
--- Nothing is pending, and the held bytes are the front of a frame.
-record Idle {S E : Type 0} (r : Start S E) (u : S) (left came : ℕ) (b : Supply) (l : Store) (held : List ℕ) : Type 0 where
-  clear : Clear r u left came b l held 0
   more : scan (Some r.m) held ≡ past
+  more = rw rest (rw (none, round.limit) at finds)
 
--- All that was gathered was written, and what passed is held no more.
-pub record Flushed {S : Type 0} (x : Loop S) (found : Option FrameLayout) (l : Store) (held : List ℕ) : Type 0 where
-  pub done : Unit {0}
-  pub written : WritesAll x.sink l (gathered x.out.bytes x.passed x.reader.held) (Ok done)
-  pub rest : held ≡ drop x.passed x.reader.held
-  pub finds : Finds x.reader.limit (drop x.passed x.reader.held) (Ok found)
-  pub none : found ≡ None
+  -- Where no read is left the run ends.
+  pub ends_spent : x.left ≡ 0 → Ended r x.writer x.came x.source l held (stopped_by budget_spent)
+  ends_spent zero = finish_spent clear more (omega arith)
 
-idle : {S E : Type 0} {r : Start S E} {room : ℕ} {x : Loop S} {found : Option FrameLayout} {l : Store} {held : List ℕ}
-    → Round r room x → Flushed x found l held → Idle r x.writer x.left x.came x.source l held
-idle {r = r} {x = x} {l = l} round f =
-    let more : scan (Some r.m) (drop x.passed x.reader.held) ≡ past = rw (f.none, round.limit) at f.finds in
-    record {
-      clear = subst (λ (bytes : List ℕ). Clear r x.writer x.left x.came x.source l bytes 0) (sym f.rest) (Clear-flushed round.going f.written);
-      more = ap (scan (Some r.m)) f.rest ∙ more;
-    }
+  -- a read that gave nothing
+  idle_read : {b : Supply} {after : List ℕ} {q : Result ℕ SourceFault} → x.left ≢ 0 → (read : ReadsMore (x.source ⇒ b) (held ⇒ after) q)
+      → length read.piece ≡ 0 → length after ≤ r.m + 8 → Clear r x.writer (x.left - 1) x.came b l after 1
+  idle_read some read zero room = Clear-read 1 clear (omega arith) read (omega arith) (counted_none x.came read.piece zero) room
 
--- Where no read is left the run ends.
-pub ends_spent : {S E : Type 0} {r : Start S E} {room : ℕ} {x : Loop S} {found : Option FrameLayout} {l : Store} {held : List ℕ}
-    → Round r room x → Flushed x found l held → x.left ≡ 0 → Ended r x.writer x.came x.source l held (stopped_by budget_spent)
-ends_spent round flushed zero = let at = idle round flushed in finish_spent at.clear at.more zero
+  -- Where a read failed the run ends.
+  pub ends_unread : {b : Supply} {after : List ℕ} {limit : ℕ} {bad : SourceFault} → x.left ≢ 0 → ReadsMore (x.source ⇒ b) (held ⇒ after) (Err bad)
+      → limit ≡ x.reader.limit → length after ≤ limit + 8 → Ended r x.writer x.came b l after (stopped_by read_failed)
+  ends_unread {b = b} some read same few =
+      let zero = ap length read.err.0 in
+      finish_unread (idle_read some read zero (omega arith)) (still_more r.m read zero more)
+      (Rises-later _ _ _ round.going.taken.takes.faults read.takes.faults read.err.1)
 
--- Where a read failed the run ends.
-pub ends_unread : {S E : Type 0} {r : Start S E} {room : ℕ} {x : Loop S} {found : Option FrameLayout}
-    {l : Store} {held : List ℕ} {b : Supply} {after : List ℕ} {limit : ℕ} {bad : SourceFault}
-    → Round r room x → Flushed x found l held → x.left ≢ 0 → ReadsMore (x.source ⇒ b) (held ⇒ after) (Err bad)
-    → limit ≡ x.reader.limit → length after ≤ limit + 8 → Ended r x.writer x.came b l after (stopped_by read_failed)
-ends_unread round flushed some read same few =
-    let at = idle round flushed in
-    finish_unread at.clear at.more (omega arith) read (omega (arith, round.limit, same))
+  -- Where a read gave nothing the run ends.
+  pub ends_at_end : {b : Supply} {after : List ℕ} {n limit : ℕ} {ending : Ending E} → x.left ≢ 0
+      → ReadsMore (x.source ⇒ b) (held ⇒ after) (Ok n) → n ≡ 0 → limit ≡ x.reader.limit
+      → length after ≤ limit + 8 → ending ≡ end_with after (r.w.end x.writer) → Ended r x.writer x.came b l after ending
+  ends_at_end {after = after} some read zero at_limit few same =
+      let gave = read.ok ∙ zero in
+      rw same (finish_end after (r.w.end x.writer) (idle_read some read gave (omega arith)) (still_more r.m read gave more) (read.end zero) refl)
 
--- Where a read gave nothing the run ends.
-pub ends_at_end : {S E : Type 0} {r : Start S E} {room : ℕ} {x : Loop S} {found : Option FrameLayout}
-    {l : Store} {held : List ℕ} {b : Supply} {after : List ℕ} {n limit : ℕ} {ending : Ending E}
-    → Round r room x → Flushed x found l held → x.left ≢ 0 → ReadsMore (x.source ⇒ b) (held ⇒ after) (Ok n) → n ≡ 0 → limit ≡ x.reader.limit
-    → length after ≤ limit + 8 → ending ≡ end_with after (r.w.end x.writer) → Ended r x.writer x.came b l after ending
-ends_at_end round flushed some read zero at_limit few same =
-    let at = idle round flushed in
-    rw same (finish_end at.clear at.more (omega arith) read zero (omega (arith, round.limit, at_limit)))
-
--- What the loop keeps holds after a read.
-pub round_after_read : {S E : Type 0} {r : Start S E} {room : ℕ} {x : Loop S} {found : Option FrameLayout}
-    {l : Store} {held : List ℕ} {b : Supply} {reader : Holding} {out : Buffered} {n passed limit came : ℕ}
-    → Round r room x → Flushed x found l held → x.left ≢ 0 → ReadsMore (x.source ⇒ b) (held ⇒ reader.held) (Ok n) → n ≢ 0 → Some came ≡ counted n (Some x.came)
-    → limit ≡ x.reader.limit → length reader.held ≤ limit + 8 → reader.limit ≡ limit → out ≡ nothing_in x.out.room → passed ≡ 0
-    → Round r room (record { writer = x.writer; left = x.left - 1; came = came; source = b; sink = l; reader = reader; out = out; passed = passed })
-round_after_read {r = r} {x = x} {l = l} {b = b} {reader = reader} {passed = passed}
-    {came = came} round flushed some read gave counts at_limit few limit empty zero =
-    let at = idle round flushed in
-    let clear =
-    Clear-read 0 at.clear (omega arith) read (omega (arith, read.ok))
-    (counts ∙ ap (λ k. counted k (Some x.came)) (sym read.ok)) (omega (arith, round.limit, at_limit)) in
-    record {
-      limit = limit ∙ at_limit ∙ round.limit;
-      room_is = ap (λ o. o.room) empty ∙ round.room_is;
-      within = omega (arith, zero);
-      going =
-          Going-clear (subst (λ (bytes : List ℕ). Clear r x.writer (x.left - 1) came b l bytes 0) (sym (all_held reader.held zero)) clear)
-          (empty_gathered reader.held empty zero);
-    }
+  -- What the loop keeps holds after a read.
+  pub round_after_read : {b : Supply} {reader : Holding} {out : Buffered} {n passed limit came : ℕ} → x.left ≢ 0
+      → ReadsMore (x.source ⇒ b) (held ⇒ reader.held) (Ok n) → n ≢ 0 → Some came ≡ counted n (Some x.came)
+      → limit ≡ x.reader.limit → length reader.held ≤ limit + 8 → reader.limit ≡ limit → out ≡ nothing_in x.out.room → passed ≡ 0
+      → Round r room (record { writer = x.writer; left = x.left - 1; came = came; source = b; sink = l; reader = reader; out = out; passed = passed })
+  round_after_read {reader = reader} some read gave counts at_limit few limit empty zero = record {
+    limit = limit ∙ at_limit ∙ round.limit;
+    room_is = ap (λ o. o.room) empty ∙ round.room_is;
+    within = omega arith;
+    going =
+        Going-clear (rw (all_held reader.held zero) (Clear-read 0 clear (omega arith) read (omega arith)
+        (counts ∙ ap (λ k. counted k (Some x.came)) (sym read.ok)) (omega arith)))
+        (empty_gathered reader.held empty zero);
+  }
 
 -- ---- no read budget, so that nothing is held
-
--- where there is no read budget, none of it was used
-pub all_left : {S E : Type 0} {r : Start S E} {room : ℕ} {x : Loop S} → Round r room x → r.budget ≡ 0 → x.left ≡ r.budget
-all_left round zero = omega (arith, round.going.taken.fall)
 
 -- no frame stands at the front of no bytes
 pub no_frame : (m passed : ℕ) {held : List ℕ} {found : Option FrameLayout} {layout : FrameLayout}

@@ -37,8 +37,8 @@ pub text_run : {T E S K : Type 0} {w : Manner T E} {writer : Change T} {f : List
     {store : K → Store} {call : Call S K} {r : Result (Unit {0}) StreamError}
     → Transcriber w writer.old f → WriterRun w writer supply store call (as_run r) → TextRun f w.level supply store call r
 text_run {E = E} {f = f} {call = call} {r = r} is run =
-    run_by (transcribes r is) (stream_error r errors.TurnsSpent) (λ bytes. transcribes_exactly r is)
-    (λ bytes valid. (valid, welcome is call.limit bytes)) (λ goes. is_done E f r (transcribes r is goes)) run
+    run_by (λ goes. transcribes is r goes.run) (stream_error r errors.TurnsSpent) (λ bytes. transcribes_exactly is r)
+    (λ bytes valid. (valid, welcome is call.limit bytes)) (λ goes. is_done E f r (transcribes is r goes.run)) run
 
 -- a writer of canonical bytes
 pub canonical_run : {T E S K : Type 0} {w : Manner T E} {writer : Change T} {supply : S → Supply} {store : K → Store}

@@ -1,7 +1,7 @@
--- Frames that stand: their own bytes are what is written for them. And one frame of a run, taken.
-use Rattle.std.proofs.Common.{◌≡◌, ℕ, ◌+◌, ◌≤◌, List, ◌++◌, length, take, drop, true, Option, Some, None, Result, Ok, Err, IsTrue, refl, sym, ap, subst, ◌∙◌}
-use Rattle.std.proofs.Common.{arith, append_assoc, append-nil}
-use Rattle.std.proofs.lemmas.List.{drop-drop, length-append, length-drop, length-take-le}
+-- Frames that stand: their own bytes are what is written for them; frames that are kept and do not; and one frame of a run, taken.
+use Rattle.std.proofs.Common.{◌≡◌, ℕ, ◌+◌, ◌≤◌, List, ◌++◌, length, take, drop, true, Option, Some, Result, Ok, Err, IsTrue, refl, sym, ap, subst, ◌∙◌, arith}
+use Rattle.std.proofs.Common.{append_assoc, append-nil, ◌-◌}
+use Rattle.std.proofs.lemmas.List.{drop-drop, length-append, length-drop, length-take-le, drop_at, take_at}
 use Rattle.std.proofs.Math.Seq.{take-add}
 use Rattle.amqp_types.specs.Levels.{strict}
 use Rattle.amqp_types.specs.Judging.{IsBytes}
@@ -22,12 +22,16 @@ use Rattle.amqp_stream.specs.Decisions.{stands, IsKept, PassesBy, RefusesTo}
 use Rattle.amqp_stream.specs.Ends.{Store}
 use Rattle.amqp_stream.specs.Reading.{Lies}
 use Rattle.amqp_stream.specs.Steps.{Manner}
-use Rattle.amqp_stream.specs.Streaming.{Writes, WritesBy, EndsWith, error_ending}
+use Rattle.amqp_stream.specs.Streaming.{Writes, EndsWith}
 use Rattle.amqp_stream.specs.Taking.{gathered, GathersFrame, IsTaken, IsStopped}
 use Rattle.amqp_stream.specs.Writing.{Gathered}
 use Rattle.amqp_stream.proofs.Going.{frame_fits}
 use Rattle.amqp_stream.proofs.Transcribing.{gathered_then}
 use Rattle.amqp_stream.proofs.Writes.{pushed, kept, settled}
+use Rattle.amqp_stream.specs.Buffers.{Adds}
+use Rattle.amqp_types.specs.Writing.{written}
+use Rattle.amqp_types.proofs.WrittenParts.{written-length}
+use Rattle.amqp_stream.proofs.Spans.{written_front, written_behind}
 
 -- a payload encodes one frame
 whole_once : (raw : Raw) (f g : Frame) → decode_raw raw ≡ Ok f → decode_raw raw ≡ Ok g → g ≡ f
@@ -49,49 +53,12 @@ record Stands {S E : Type 0} (w : Manner S E) (s t : S) (raw : Raw) : Type 0 whe
 stands_kept : {S E : Type 0} {w : Manner S E} {s t : S} {raw : Raw} (passed : Result (Option Decision) (RunError E))
     → PassesBy w s t raw passed → stands passed ≡ true → Stands w s t raw
 stands_kept (Ok (Some (decisions.Kept judged))) h is = record { judged = judged; kept = h; canonical = is }
-stands_kept (Ok (Some decisions.Dropped)) h is = absurd cc
-stands_kept (Ok None) h is = absurd cc
-stands_kept (Err error) h is = absurd cc
+stands_kept passed h is = absurd cc
 
 -- A frame that lies after the bytes that passed ends within those that are held.
 pub frame_room : {m : ℕ} {layout : FrameLayout} (passed : ℕ) (held : List ℕ) → passed ≤ length held
     → Lies m (drop passed held) layout → passed + layout.frame_len ≤ length held
-frame_room passed held within lies = omega (arith, lies.inside, length-drop passed held)
-
--- a frame that stands lengthens the stretch
-pub stands_taken : {S E : Type 0} {w : Manner S E} {s t : S} {m : ℕ} {held pending : List ℕ} {layout : FrameLayout}
-    {store : Store} {passed longer : ℕ} {raw : Raw} (decided : Result (Option Decision) (RunError E))
-    → IsBytes (drop passed held) → passed ≤ length held → Lies m (drop passed held) layout
-    → raw ≡ laid_out layout (drop passed held) → PassesBy w s t raw decided → stands decided ≡ true
-    → longer ≡ passed + layout.frame_len → IsTaken w s t layout store store held held pending pending passed longer
-stands_taken {w = w} {s = s} {t = t} {m = m} {held = held} {pending = pending} {layout = layout}
-    {store = store} {passed = passed} {longer = longer} decided fits within lies frame passes is same =
-    let n = layout.frame_len in
-    let at = stands_kept decided (subst (λ (r : Raw). PassesBy w s t r decided) frame passes) is in
-    let own = stands_canon fits lies at.kept.is_judged at.canonical in
-    let parts : take longer held ≡ take passed held ++ canon at.kept.is_judged.frame =
-    ap (λ k. take k held) same ∙ take-add passed n held ∙ ap (λ (xs : List ℕ). take passed held ++ xs) own in
-    record {
-      within = omega (arith, same, frame_room passed held within lies);
-      rest = ap (λ k. drop k held) same ∙ sym (drop-drop n passed held);
-      compact = λ is.
-          omega (
-            arith,
-            same,
-            frame_room passed held within lies,
-            length-append pending (take passed held),
-            length-append pending (take longer held),
-            length-take-le passed held within,
-            length-take-le longer held (omega (arith, same, frame_room passed held within lies)),
-          );
-      writes = record {
-        bytes = canon at.kept.is_judged.frame;
-        step = at.kept.step;
-        gathered =
-            pushed store (gathered pending passed held) (gathered pending longer held) (canon at.kept.is_judged.frame) tt
-            (ap (λ (xs : List ℕ). pending ++ xs) parts ∙ sym (append_assoc pending (take passed held) (canon at.kept.is_judged.frame)));
-      };
-    }
+frame_room passed held within lies = omega (arith, length-drop passed held)
 
 -- the same of a frame that is this one
 pub passed_as : {S E : Type 0} {raw other : Raw} (w : Manner S E) (s t : S) (decision : Option Decision)
@@ -127,7 +94,7 @@ kept_taken {held = held} {rest = rest} {before = before} {after = after} {layout
     record {
       within = g.within;
       rest = g.rest;
-      compact = λ compact. omega (arith, g.no_longer, ap length g.gathered_is, length-append earlier (canon g.frame));
+      compact = λ compact. omega (arith, ap length g.gathered_is, length-append earlier (canon g.frame));
       writes = record {
         bytes = canon kept.is_judged.frame;
         step = kept.step;
@@ -136,6 +103,25 @@ kept_taken {held = held} {rest = rest} {before = before} {after = after} {layout
             ∙ ap (λ f. earlier ++ canon f) (whole_once (laid_out layout (drop passed held)) kept.is_judged.frame g.frame kept.is_judged.is g.is_whole));
       };
     }
+
+-- a frame that stands lengthens the stretch
+pub stands_taken : {S E : Type 0} {w : Manner S E} {s t : S} {m : ℕ} {held pending : List ℕ} {layout : FrameLayout}
+    {store : Store} {passed longer : ℕ} {raw : Raw} (decided : Result (Option Decision) (RunError E))
+    → IsBytes (drop passed held) → passed ≤ length held → Lies m (drop passed held) layout
+    → raw ≡ laid_out layout (drop passed held) → PassesBy w s t raw decided → stands decided ≡ true
+    → longer ≡ passed + layout.frame_len → IsTaken w s t layout store store held held pending pending passed longer
+stands_taken {w = w} {s = s} {t = t} {held = held} {pending = pending} {layout = layout} {passed = passed} decided fits within lies frame passes is same =
+    let n = layout.frame_len in
+    let at = stands_kept decided (subst (λ (r : Raw). PassesBy w s t r decided) frame passes) is in
+    let own = stands_canon fits lies at.kept.is_judged at.canonical in
+    kept_taken at.kept (record {
+      frame = at.kept.is_judged.frame;
+      is_whole = at.kept.is_judged.is;
+      within = omega (arith, frame_room passed held within lies);
+      rest = ap (λ k. drop k held) same ∙ sym (drop-drop n passed held);
+      no_longer = omega (arith, ap length own, length-take-le n (drop passed held) lies.inside);
+      gathered_is = cc (take-add passed n held, own, append_assoc pending (take passed held) (canon at.kept.is_judged.frame));
+    })
 
 -- what is written for it was gathered, and its bytes are held no more
 pub written_taken : {S E : Type 0} {w : Manner S E} {s t : S} {m : ℕ} {held rest before mid after : List ℕ}
@@ -150,9 +136,9 @@ written_taken {w = w} {s = s} {t = t} {m = m} {held = held} {rest = rest} {befor
     let long = frame_fits m (drop passed held) (laid_out layout (drop passed held)) layout.frame_len lies.found in
     let empty : after ≡ gathered after none rest = sym (append-nil after) ∙ ap (λ k. after ++ take k rest) (sym zero) in
     record {
-      within = omega (arith, zero);
+      within = omega arith;
       rest = ap (λ k. drop k rest) zero ∙ same ∙ sym (drop-drop layout.frame_len passed held);
-      compact = λ is. omega (arith, few is, ap frame_length frame, long, ap length empty, ap length g.parts, length-append g.written mid);
+      compact = λ is. omega (arith, few is, ap frame_length frame, ap length empty, ap length g.parts, length-append g.written mid);
       writes = record {
         bytes = h.bytes;
         step = h.step;
@@ -181,18 +167,54 @@ refused_stops {w = w} {s = s} {t = t} {old = old} {pending = pending} {why = why
   ends = ends;
 }
 
--- as it was written for
-pub write_stops : {S E : Type 0} {w : Manner S E} {s t : S} {raw : Raw} {old mid later new : Store}
-    {before pending after stretch : List ℕ} {why : RunError E} {error : RunError E}
-    → Gathered old mid before pending stretch → WritesBy w s t raw mid later pending after (error_ending why)
-    → EndsWith later new after why (Err error) → IsStopped w s t raw old new (before ++ stretch) error
-write_stops {mid = mid} {later = later} {pending = pending} {after = after} {why = why} g writes ends = record {
-  mid = mid;
-  later = later;
-  pending = pending;
-  after = after;
-  why = why;
-  keeps = settled g;
-  writes = writes;
-  ends = ends;
-}
+-- ---- the canonical bytes of a frame that is kept were put after the pending ones, and then into its place, or the stretch before them
+
+module _ {m : ℕ} {layout : FrameLayout} {held rest before middle after : List ℕ} {passed pending : ℕ} (raw : Raw)
+    (lies : Lies m (drop passed held) layout) (frame : raw ≡ laid_out layout (drop passed held)) (put : Adds before middle (decode_raw raw) (Ok tt))
+    (same : pending ≡ length before) where
+  -- they were put into the place of the frame
+  pub kept_in_place : {piece : List ℕ} {longer : ℕ} → passed ≤ length held → length middle - pending ≡ layout.frame_len
+      → piece ≡ drop pending middle → rest ≡ written held passed piece → after ≡ take pending middle
+      → longer ≡ passed + layout.frame_len → GathersFrame layout held rest before after passed longer
+  kept_in_place {longer = longer} within as_long piece_is put_in kept_is end =
+      let bytes = canon put.0 in
+      let count : length bytes ≡ layout.frame_len = omega (arith, ap length put.2, length-append before bytes) in
+      let placed : rest ≡ written held passed bytes = cc (put.2, drop_at before bytes (length before) refl) in
+      let room : passed + length bytes ≤ length held = omega (arith, frame_room passed held within lies) in
+      let place : longer ≡ passed + length bytes = omega arith in
+      let long : length rest ≡ length held = ap length placed ∙ written-length held passed bytes room in
+      let ends : passed + length bytes ≡ passed + layout.frame_len = omega arith in
+      record {
+        frame = put.0;
+        is_whole = ap decode_raw (sym frame) ∙ put.1;
+        within = omega arith;
+        rest = cc (place, placed, ends, written_behind held passed bytes within, drop-drop layout.frame_len passed held);
+        no_longer = omega arith;
+        gathered_is =
+            cc (
+              put.2,
+              place,
+              placed,
+              take_at before bytes (length before) refl,
+              written_front held passed bytes within,
+              append_assoc before (take passed held) bytes,
+            );
+      }
+
+  -- or the stretch was put before them, and both are pending
+  pub kept_pending : {none : ℕ} → length middle ≤ length before + frame_length raw → after ≡ take pending middle ++ (take passed held ++ drop pending middle)
+      → rest ≡ drop (passed + layout.frame_len) held → none ≡ 0 → GathersFrame layout held rest before after passed none
+  kept_pending {none = none} few put_in left zero =
+      let bytes = canon put.0 in
+      let all : after ≡ before ++ (take passed held ++ bytes) =
+      cc (put.2, take_at before bytes (length before) refl, drop_at before bytes (length before) refl) in
+      let fits : frame_length raw ≤ layout.frame_len =
+      omega (arith, ap frame_length frame, frame_fits m (drop passed held) (laid_out layout (drop passed held)) layout.frame_len lies.found) in
+      record {
+        frame = put.0;
+        is_whole = ap decode_raw (sym frame) ∙ put.1;
+        within = omega arith;
+        rest = ap (λ k. drop k rest) zero ∙ left ∙ sym (drop-drop layout.frame_len passed held);
+        no_longer = omega (arith, ap length put.2, length-append before bytes);
+        gathered_is = ap (λ k. after ++ take k rest) zero ∙ append-nil after ∙ all ∙ sym (append_assoc before (take passed held) bytes);
+      }

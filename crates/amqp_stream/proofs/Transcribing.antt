@@ -14,7 +14,6 @@ use Rattle.amqp_wire.proofs.Strictness.{canon_front-short}
 use Rattle.amqp_stream.specs.declared.errors.StreamError.{StreamError}
 use Rattle.amqp_stream.specs.declared.errors.StreamError.TheVariants as errors
 use Rattle.amqp_stream.specs.declared.errors.RunError.TheVariants as ends
-use Rattle.amqp_types.specs.Judging.{not_tidy}
 use Rattle.amqp_stream.specs.Errors.{error_for, Cause, faulty, cut_short, budget_spent, read_failed, write_failed, out_of_memory, cause_of}
 use Rattle.amqp_stream.specs.Changes.{Change}
 use Rattle.amqp_stream.specs.Ends.{Supply, Store}
@@ -25,7 +24,7 @@ use Rattle.amqp_stream.specs.Steps.{Manner, text, refused}
 use Rattle.amqp_stream.specs.Manners.{mapping, canonical_at}
 use Rattle.amqp_stream.specs.Causes.{answer_to, IsCausedBy, IsWrittenUnless, NeverBegan, UnlessStopped, IsOutOfMemory}
 use Rattle.amqp_stream.specs.Streaming.{Ending, finished, refused_by, stopped_by, ending_of, as_run, Plan, HasWritten, AtWanting, IsShortBy}
-use Rattle.amqp_stream.specs.Streaming.{Streams, StreamsBy, StreamsExactly}
+use Rattle.amqp_stream.specs.Streaming.{Streams, StreamsExactly}
 use Rattle.amqp_stream.specs.Streaming.{IsWelcome, UnlessStoppedBy}
 use Rattle.amqp_stream.specs.Streaming.{IsDoneOrWanting, plan_of, answer_at_end, IsExactRun}
 use Rattle.amqp_stream.specs.Transcribing.{transcript, text_plan, text_ending, Transcribes, TranscribesExactly}
@@ -50,39 +49,17 @@ same_plan : {E : Type 0} (level : Level) {text_is text_for : List ℕ → List �
     let b : Plan E = record { level = level; text = text_for; refusal = other; end = may; wants = none } in a ≡ b)
 same_plan level p q r e = cc
 
--- What such a writer is to write is the text.
-pub plan_is : {S E : Type 0} {w : Manner S E} {s : S} {f : List Frame → List ℕ} → Transcriber w s f → (m : ℕ) → plan_of w s m ≡ text_plan f w.level m
-plan_is {w = w} is m =
-    same_plan w.level (fun_ext λ bytes. is.text_is (front w.level (Some m) bytes)) (fun_ext λ bytes. is.none_refused (front w.level (Some m) bytes))
-    (fun_ext λ bytes. is.ends _) (fun_ext λ kind. false_by (w.wants kind) (is.wants_none kind))
-
 -- what is known where memory ran out is replaced in the cause of an error
 pub caused_by : (level : Level) (call : Call Supply Store) (taken : List ℕ) {P Q : Type 0} (cause : Cause)
     → (P → Q) → IsCausedBy level call taken P cause → IsCausedBy level call taken Q cause
-caused_by level call taken (faulty bad) f h = h
-caused_by level call taken cut_short f h = h
-caused_by level call taken budget_spent f h = h
-caused_by level call taken read_failed f h = h
-caused_by level call taken write_failed f h = h
 caused_by level call taken out_of_memory f h = f h
+caused_by level call taken cause f h = h
 
 -- ---- where nothing is refused it is no matter of what type the refusals are
-
-stopped_so : (cause other : Cause) (early : Ending Infallible) → early ≡ stopped_by cause → early ≡ stopped_by other → cause ≡ other
-stopped_so cause other early p q = let both = sym p ∙ q in cc
 
 module _ (E : Type 0) (f : List Frame → List ℕ) (level : Level) where
   never_wanting : {m : ℕ} {taken written : List ℕ} → AtWanting {E = E} (text_plan f level m) m taken written → ⊥
   never_wanting h = absurd (let none = h.wanting.such in cc)
-
-  written_so : (m : ℕ) (taken written : List ℕ) (cause : Cause) → HasWritten {E = E} (text_plan f level m) taken written (stopped_by cause)
-      → HasWritten {E = Infallible} (text_plan f level m) taken written (stopped_by cause)
-  written_so m taken written write_failed h = h
-  written_so m taken written out_of_memory h = h
-  written_so m taken written (faulty bad) h = record { text_is = h.text_is; none_refused = refl }
-  written_so m taken written cut_short h = record { text_is = h.text_is; none_refused = refl }
-  written_so m taken written budget_spent h = record { text_is = h.text_is; none_refused = refl }
-  written_so m taken written read_failed h = record { text_is = h.text_is; none_refused = refl }
 
   short_so : {m n : ℕ} {taken written : List ℕ} → IsShortBy {E = E} (text_plan f level m) m taken written n
       → IsShortBy {E = Infallible} (text_plan f level m) m taken written n
@@ -119,20 +96,20 @@ module _ (E : Type 0) (f : List Frame → List ℕ) (level : Level) where
     reads = run.reads;
     takes = run.takes;
     at_most = run.at_most;
-    all_spent = λ e. run.all_spent (ap stopped_by (stopped_so (cause_of error) budget_spent _ refl e));
+    all_spent = λ e. run.all_spent (ap stopped_by cc);
     written = run.written;
     gains = run.gains;
-    writes = written_so call.limit run.taken run.written (cause_of error) run.writes;
+    writes = by_cause (cause_of error) run.writes;
     cause = caused_by level call run.taken (cause_of error) (λ h. absurd (never_wanting h)) run.cause;
-    tidy_only = λ e. run.tidy_only (ap stopped_by (stopped_so (cause_of error) (faulty not_tidy) _ refl e));
+    tidy_only = λ e. run.tidy_only (ap stopped_by cc);
     short_by = short_so run.short_by;
   }
-
--- A run of a writer that writes this text for frames and refuses none is a call that transcribes so.
-pub transcribes : {S E : Type 0} {w : Manner S E} {writer : Change S} {f : List Frame → List ℕ} {call : Call Supply Store}
-    (r : Result (Unit {0}) StreamError) → Transcriber w writer.old f → StreamsBy w writer call (text_ending r) → Transcribes f w.level call r
-transcribes {E = E} {w = w} {f = f} {call = call} r is run =
-    infallibly E f w.level r (subst (λ (plan : Plan E). Streams plan call (text_ending r)) (plan_is is call.limit) run.run)
+    where
+      by_cause : (cause : Cause) → HasWritten {E = E} (text_plan f level call.limit) run.taken run.written (stopped_by cause)
+          → HasWritten {E = Infallible} (text_plan f level call.limit) run.taken run.written (stopped_by cause)
+      by_cause write_failed h = h
+      by_cause out_of_memory h = h
+      by_cause cause h = record { text_is = h.text_is; none_refused = refl }
 
 -- ---- what follows of a call that writes a text
 
@@ -146,52 +123,36 @@ pub never_out_of_memory : (f : List Frame → List ℕ) {level : Level} {call : 
 never_out_of_memory f {level = level} {call = call} run e =
     no_memory f level call (subst (λ x. Streams {E = Infallible} (text_plan f level call.limit) call (text_ending x)) e run)
 
-begins_by : (f : List Frame → List ℕ) (level : Level) (m : ℕ) (taken written : List ℕ) (cause : Cause)
-    → HasWritten {E = Infallible} (text_plan f level m) taken written (stopped_by cause) → IsPrefix written (transcript f level m taken)
-begins_by f level m taken written write_failed h = h
-begins_by f level m taken written out_of_memory h = h
-begins_by f level m taken written (faulty bad) h = ([], append-nil written ∙ h.text_is)
-begins_by f level m taken written cut_short h = ([], append-nil written ∙ h.text_is)
-begins_by f level m taken written budget_spent h = ([], append-nil written ∙ h.text_is)
-begins_by f level m taken written read_failed h = ([], append-nil written ∙ h.text_is)
-
-begins_at : (f : List Frame → List ℕ) (level : Level) (m : ℕ) (taken written : List ℕ) (r : Result (Unit {0}) StreamError)
-    → HasWritten {E = Infallible} (text_plan f level m) taken written (text_ending r) → IsPrefix written (transcript f level m taken)
-begins_at f level m taken written (Ok done) h = ([], append-nil written ∙ h.text_is)
-begins_at f level m taken written (Err error) h = begins_by f level m taken written (cause_of error) h
-
 -- What it wrote begins the text of all frames in front of what it took.
-pub begins : (f : List Frame → List ℕ) {level : Level} {call : Call Supply Store} (r : Result (Unit {0}) StreamError)
+begins : (f : List Frame → List ℕ) {level : Level} {call : Call Supply Store} (r : Result (Unit {0}) StreamError)
     → (run : Transcribes f level call r) → IsPrefix run.written (transcript f level call.limit run.taken)
-begins f {level = level} {call = call} r run = begins_at f level call.limit run.taken run.written r run.writes
+begins f (Ok done) run = ([], append-nil run.written ∙ run.writes.text_is)
+begins f {level = level} {call = call} (Err error) run = by_cause (cause_of error) run.writes
+  where
+    by_cause : (cause : Cause) → HasWritten {E = Infallible} (text_plan f level call.limit) run.taken run.written (stopped_by cause)
+        → IsPrefix run.written (transcript f level call.limit run.taken)
+    by_cause write_failed h = h
+    by_cause out_of_memory h = h
+    by_cause cause h = ([], append-nil run.written ∙ h.text_is)
 
 -- what was written by a run that stopped early, by its cause
 pub written_unless : {E : Type 0} (plan : Plan E) (taken written : List ℕ) (cause : Cause)
     → HasWritten plan taken written (stopped_by cause) → IsWrittenUnless (plan.text taken) written cause
 written_unless plan taken written write_failed h = h
 written_unless plan taken written out_of_memory h = h
-written_unless plan taken written (faulty bad) h = h.text_is
-written_unless plan taken written cut_short h = h.text_is
-written_unless plan taken written budget_spent h = h.text_is
-written_unless plan taken written read_failed h = h.text_is
+written_unless plan taken written cause h = h.text_is
 
 -- ---- valid input
 
--- A writer that writes bytes for each frame and refuses none refuses no stream.
-pub welcome : {S E : Type 0} {w : Manner S E} {s : S} {f : List Frame → List ℕ} → Transcriber w s f → (m : ℕ) (bytes : List ℕ)
-    → IsWelcome (plan_of w s m) bytes
-welcome {w = w} is m bytes = record { none_refused = is.none_refused (front w.level (Some m) bytes); ends = is.ends _ }
-
-memory_is : (cause : Cause) → IsOutOfMemory cause → cause ≡ out_of_memory
-memory_is cause h = grind arith
+-- the error that tells of memory that ran out
+pub memory_error : (error : StreamError) → IsOutOfMemory (cause_of error) → error ≡ errors.NoMemory
+memory_error error h = grind arith
 
 -- a call that is done, or ran out of memory, is done
 pub is_done : (E : Type 0) (f : List Frame → List ℕ) {level : Level} {call : Call Supply Store} (r : Result (Unit {0}) StreamError)
     → Transcribes f level call r → IsDoneOrWanting (text_ending {E = E} r) → r ≡ Ok tt
 is_done E f (Ok done) run h = refl
-is_done E f {level = level} {call = call} (Err error) run h =
-    absurd (no_memory f level call
-    (subst (λ cause. Streams {E = Infallible} (text_plan f level call.limit) call (stopped_by cause)) (memory_is (cause_of error) h) run))
+is_done E f (Err error) run h = absurd (never_out_of_memory f run (ap Err (memory_error error h)))
 
 -- ---- an ending as the result of a stream
 
@@ -226,19 +187,16 @@ never_began {E = E} {r = r} h =
 
 -- ---- the result by all of the bytes
 
-returned-at_end : (E : Type 0) (answer : Result (Unit {0}) StreamError) → returned (answer_at_end {E = E} None answer) ≡ answer
-returned-at_end E (Ok done) = refl
-returned-at_end E (Err error) = ap Err (error_by-cause error)
+at_end_of : (E : Type 0) (r : Result (Unit {0}) StreamError) → text_ending {E = E} r ≡ answer_at_end None r
+at_end_of E (Ok done) = refl
+at_end_of E (Err error) = refl
 
 -- A call that writes a text returns what all bytes of its source give, and wrote the text of the frames at their front.
 pub text_exactly : {E : Type 0} (f : List Frame → List ℕ) (level : Level) (m : ℕ) (bytes written : List ℕ) (r : Result (Unit {0}) StreamError)
     → IsExactRun {E = E} (text_plan f level m) m bytes written (text_ending r) → (r ≡ answer_to level m bytes) × (written ≡ transcript f level m bytes)
 text_exactly {E = E} f level m bytes written r h =
-    (sym (returned-run E r) ∙ ap returned h.answer ∙ returned-at_end E (answer_to level m bytes), h.text_is)
-
-at_end_of : (E : Type 0) (r : Result (Unit {0}) StreamError) → text_ending {E = E} r ≡ answer_at_end None r
-at_end_of E (Ok done) = refl
-at_end_of E (Err error) = refl
+    let answer = answer_to level m bytes in
+    (sym (returned-run E r) ∙ ap returned (h.answer ∙ sym (at_end_of E answer)) ∙ returned-run E answer, h.text_is)
 
 exactly_so : {E : Type 0} (f : List Frame → List ℕ) (level : Level) (m : ℕ) (bytes written : List ℕ) (r : Result (Unit {0}) StreamError)
     → IsExactRun {E = E} (text_plan f level m) m bytes written (text_ending r)
@@ -258,37 +216,47 @@ unless_so : (E : Type 0) {P Q : Type 0} (r : Result (Unit {0}) StreamError) → 
 unless_so E (Ok done) g h = g h
 unless_so E (Err error) g h = unless (cause_of error) g h
 
--- Over a source that reports its bytes, a writer that writes this text gives it for all of them.
-pub transcribes_exactly : {S E : Type 0} {w : Manner S E} {s : S} {f : List Frame → List ℕ} {call : Call Supply Store} {bytes : List ℕ}
-    (r : Result (Unit {0}) StreamError) → Transcriber w s f
-    → StreamsExactly (plan_of w s call.limit) call bytes (text_ending r) → TranscribesExactly f w.level call bytes r
-transcribes_exactly {E = E} {w = w} {f = f} {call = call} {bytes = bytes} r is run =
-    let h = subst (λ (plan : Plan E). StreamsExactly plan call bytes (text_ending r)) (plan_is is call.limit) run in
-    record { written = h.written; gains = h.gains; answer = unless_so E r (exactly_so f w.level call.limit bytes h.written r) h.answer }
+-- ---- a writer that has a text for frames
+
+module _ {S E : Type 0} {w : Manner S E} {s : S} {f : List Frame → List ℕ} (is : Transcriber w s f) where
+  -- What it is to write is the text.
+  plan_is : (m : ℕ) → plan_of w s m ≡ text_plan f w.level m
+  plan_is m =
+      same_plan w.level (fun_ext λ bytes. is.text_is (front w.level (Some m) bytes)) (fun_ext λ bytes. is.none_refused (front w.level (Some m) bytes))
+      (fun_ext λ bytes. is.ends _) (fun_ext λ kind. false_by (w.wants kind) (is.wants_none kind))
+
+  -- It refuses no stream.
+  pub welcome : (m : ℕ) (bytes : List ℕ) → IsWelcome (plan_of w s m) bytes
+  welcome m bytes = record { none_refused = is.none_refused (front w.level (Some m) bytes); ends = is.ends _ }
+
+  -- A run of it is a call that transcribes so.
+  pub transcribes : {call : Call Supply Store} (r : Result (Unit {0}) StreamError)
+      → Streams (plan_of w s call.limit) call (text_ending r) → Transcribes f w.level call r
+  transcribes {call = call} r run = infallibly E f w.level r (subst (λ (plan : Plan E). Streams plan call (text_ending r)) (plan_is call.limit) run)
+
+  -- Over a source that reports its bytes, it gives the text for all of them.
+  pub transcribes_exactly : {call : Call Supply Store} {bytes : List ℕ} (r : Result (Unit {0}) StreamError)
+      → StreamsExactly (plan_of w s call.limit) call bytes (text_ending r) → TranscribesExactly f w.level call bytes r
+  transcribes_exactly {call = call} {bytes = bytes} r run =
+      let h = subst (λ (plan : Plan E). StreamsExactly plan call bytes (text_ending r)) (plan_is call.limit) run in
+      record { written = h.written; gains = h.gains; answer = unless_so E r (exactly_so f w.level call.limit bytes h.written r) h.answer }
 
 -- ---- writers of bytes for each frame by itself
-
-mapping-text : {S : Type 0} (E : Type 0) (level : Level) (bytes_of : S → Frame → List ℕ) (compact : Bool) (s : S) (frames : List Frame)
-    → text {E = E} (mapping level bytes_of compact) s frames ≡ flat_map (bytes_of s) frames
-unfolding text
-mapping-text E level bytes_of compact s [] = refl
-mapping-text E level bytes_of compact s (f ∷ fs) = ap (λ (xs : List ℕ). bytes_of s f ++ xs) (mapping-text E level bytes_of compact s fs)
-
-mapping-refused : {S : Type 0} (E : Type 0) (level : Level) (bytes_of : S → Frame → List ℕ) (compact : Bool) (s : S) (frames : List Frame)
-    → refused {E = E} (mapping level bytes_of compact) s frames ≡ None
-unfolding refused
-mapping-refused E level bytes_of compact s [] = refl
-mapping-refused E level bytes_of compact s (f ∷ fs) = mapping-refused E level bytes_of compact s fs
 
 -- A writer of the manner `mapping` writes its bytes for each frame, one after another, refuses none and takes no memory.
 pub maps : {S E : Type 0} {level : Level} {compact : Bool} (bytes_of : S → Frame → List ℕ) (s : S)
     → Transcriber {E = E} (mapping level bytes_of compact) s (flat_map (bytes_of s))
-maps {E = E} {level = level} {compact = compact} bytes_of s = record {
-  text_is = mapping-text E level bytes_of compact s;
-  none_refused = mapping-refused E level bytes_of compact s;
-  wants_none = λ kind h. absurd cc;
-  ends = λ t. refl;
-}
+unfolding text refused
+maps {E = E} {level = level} {compact = compact} bytes_of s =
+    record { text_is = text_by; none_refused = refused_by; wants_none = λ kind h. absurd cc; ends = λ t. refl }
+  where
+    text_by : (frames : List Frame) → text {E = E} (mapping level bytes_of compact) s frames ≡ flat_map (bytes_of s) frames
+    text_by [] = refl
+    text_by (f ∷ fs) = ap (λ (xs : List ℕ). bytes_of s f ++ xs) (text_by fs)
+
+    refused_by : (frames : List Frame) → refused {E = E} (mapping level bytes_of compact) s frames ≡ None
+    refused_by [] = refl
+    refused_by (f ∷ fs) = refused_by fs
 
 -- ---- writers of canonical bytes
 
@@ -306,17 +274,6 @@ canonicalizes {level = level} {call = call} {r = r} run =
       no_longer = omega (arith, ap length begun.1, length-append run.written begun.0, canon_front-short level (Some call.limit) run.taken run.are_bytes);
     }
 
--- a run by another plan that is the same, with what it took
-record Again {E : Type 0} (plan : Plan E) (call : Call Supply Store) (ending : Ending E) (taken : List ℕ) (reads : ℕ) : Type 0 where
-  run : Streams plan call ending
-  taken_is : run.taken ≡ taken
-  reads_is : run.reads ≡ reads
-
-again : {E : Type 0} {plan other : Plan E} {call : Call Supply Store} {ending : Ending E}
-    → plan ≡ other → (run : Streams plan call ending) → Again other call ending run.taken run.reads
-again {call = call} {ending = ending} same run =
-    subst (λ p. Again p call ending run.taken run.reads) same (record { run = run; taken_is = refl; reads_is = refl })
-
 -- a call that canonicalizes, with what it took
 pub record CanonicalizesAs (level : Level) (over : Call Supply Store) (r : Result (Unit {0}) StreamError) (taken_is : List ℕ) (reads_is : ℕ) : Type 0 where
   pub call : Canonicalizes level over r
@@ -327,15 +284,14 @@ pub record CanonicalizesAs (level : Level) (over : Call Supply Store) (r : Resul
 pub canonicalizes_as : {S : Type 0} {w : Manner S Infallible} {s : S} {call : Call Supply Store} (r : Result (Unit {0}) StreamError)
     → Transcriber w s canon_frames → (run : Streams (plan_of w s call.limit) call (text_ending r)) → CanonicalizesAs w.level call r run.taken run.reads
 unfolding canonicalizes
-canonicalizes_as {call = call} r is run =
-    let other = again (plan_is is call.limit) run in record { call = canonicalizes other.run; taken = other.taken_is; reads = other.reads_is }
+canonicalizes_as {w = w} {call = call} r is =
+    subst (λ (plan : Plan Infallible). (run : Streams plan call (text_ending r)) → CanonicalizesAs w.level call r run.taken run.reads)
+    (sym (plan_is is call.limit)) (λ run. record { call = canonicalizes run; taken = refl; reads = refl })
 
 -- bytes gathered after bytes
 pub gathered_then : {a b c : Store} {x y z p q : List ℕ} → Gathered a b x y p → Gathered b c y z q → Gathered a c x z (p ++ q)
-gathered_then {a = a} {b = b} {c = c} {x = x} {y = y} {z = z} {p = p} {q = q} g h = record {
+gathered_then {x = x} {y = y} {z = z} {p = p} {q = q} g h = record {
   written = g.written ++ h.written;
-  gains = Gains-then a b c g.written h.written g.gains h.gains;
-  parts =
-      append_assoc g.written h.written z ∙ ap (λ (xs : List ℕ). g.written ++ xs) h.parts
-      ∙ sym (append_assoc g.written y q) ∙ ap (λ (xs : List ℕ). xs ++ q) g.parts ∙ append_assoc x p q;
+  gains = Gains-then _ _ _ _ _ g.gains h.gains;
+  parts = cc (append_assoc g.written h.written z, append_assoc g.written y q, append_assoc x p q);
 }

@@ -2,6 +2,7 @@
 use Rattle.std.proofs.Common.{◌≡◌, ◌≢◌, ℕ, ◌+◌, ◌-◌, List, [], ◌++◌, length, take, drop, Bool, true, false, Result, Ok, Err, refl, sym, ap, subst}
 use Rattle.std.proofs.Common.{◌∙◌, append_assoc, append-nil}
 use Rattle.std.proofs.lemmas.List.{take_rest, take-append-drop}
+use Rattle.std.proofs.lemmas.Result.{on_ok_weaker, on_err_weaker}
 use Rattle.std.proofs.Math.Seq.{take-add}
 use Rattle.amqp_wire.specs.declared.frame_type.AMQPFrameType.TheVariants as kinds
 use Rattle.amqp_wire.specs.declared.version.ProtocolVersion.{ProtocolVersion}
@@ -29,36 +30,31 @@ pub Gains-more : (a b c : Store) (bytes : List ℕ) (done n : ℕ) → Gains a b
     → Gains b c (take n (take (length bytes - done) (drop done bytes))) → Gains a c (take (done + n) bytes)
 Gains-more a b c bytes done n f g =
     let piece : take n (take (length bytes - done) (drop done bytes)) ≡ take n (drop done bytes) = ap (take n) (take_rest bytes done) in
-    subst (Gains a c) (ap (λ (xs : List ℕ). take done bytes ++ xs) piece ∙ sym (take-add done n bytes)) (Gains-then a b c (take done bytes) _ f g)
+    subst (Gains a c) (cc (piece, take-add done n bytes)) (Gains-then _ _ _ _ _ f g)
 
 -- a write that failed
 pub WritesAll-fault : (a b c : Store) (bytes : List ℕ) (done : ℕ) (bad : SinkFault)
     → Gains a b (take done bytes) → Gains b c [] → Rises b.faults c.faults → WritesAll a c bytes (Err bad)
 WritesAll-fault a b c bytes done bad f g r = record {
   piece = take done bytes;
-  gains = subst (Gains a c) (append-nil (take done bytes)) (Gains-then a b c (take done bytes) [] f g);
+  gains = subst (Gains a c) (append-nil (take done bytes)) (Gains-then _ _ _ _ _ f g);
   prefix = (drop done bytes, take-append-drop done bytes);
   ok = tt;
-  err = Rises-later a.faults b.faults c.faults f.faults g.faults r;
+  err = Rises-later _ _ _ f.faults g.faults r;
 }
 
 -- bytes and then more bytes
-pub WritesAll-then : (a b c : Store) (p q : List ℕ) (u : Unit {0}) (r : Result (Unit {0}) SinkFault)
+pub WritesAll-then : {a b c : Store} {p q : List ℕ} {u : Unit {0}} {r : Result (Unit {0}) SinkFault}
     → WritesAll a b p (Ok u) → WritesAll b c q r → WritesAll a c (p ++ q) r
-WritesAll-then a b c p q u (Ok v) f g = record {
-  piece = f.piece ++ g.piece;
-  gains = Gains-then a b c f.piece g.piece f.gains g.gains;
-  prefix = ([], append-nil _ ∙ ap (λ (xs : List ℕ). xs ++ g.piece) f.ok ∙ ap (λ (xs : List ℕ). p ++ xs) g.ok);
-  ok = ap (λ (xs : List ℕ). xs ++ g.piece) f.ok ∙ ap (λ (xs : List ℕ). p ++ xs) g.ok;
-  err = tt;
-}
-WritesAll-then a b c p q u (Err e) f g = record {
-  piece = f.piece ++ g.piece;
-  gains = Gains-then a b c f.piece g.piece f.gains g.gains;
-  prefix = (g.prefix.0, append_assoc f.piece g.piece g.prefix.0 ∙ ap (λ (xs : List ℕ). f.piece ++ xs) g.prefix.1 ∙ ap (λ (xs : List ℕ). xs ++ q) f.ok);
-  ok = tt;
-  err = Rises-later a.faults b.faults c.faults f.gains.faults g.gains.faults g.err;
-}
+WritesAll-then {a = a} {b = b} {c = c} {p = p} {r = r} f g =
+    let first : f.piece ≡ p = f.ok in
+    record {
+      piece = f.piece ++ g.piece;
+      gains = Gains-then _ _ _ _ _ f.gains g.gains;
+      prefix = (g.prefix.0, cc (first, append_assoc f.piece g.piece g.prefix.0));
+      ok = on_ok_weaker r (λ same. cc first) g.ok;
+      err = on_err_weaker r (Rises-later _ _ _ f.gains.faults g.gains.faults) g.err;
+    }
 
 -- bytes that are pending after the others
 pub pushed : (a : Store) (before after bytes : List ℕ) (u : Unit {0}) → after ≡ before ++ bytes → Gathers a a before after bytes (Ok u)
@@ -70,7 +66,7 @@ pub gather_fails : {a b : Store} {bytes before after all : List ℕ} {e : SinkFa
 gather_fails rest f same none = record {
   piece = f.piece;
   gains = f.gains;
-  prefix = (f.prefix.0 ++ rest, sym (append_assoc f.piece f.prefix.0 rest) ∙ ap (λ (ys : List ℕ). ys ++ rest) f.prefix.1 ∙ same);
+  prefix = (f.prefix.0 ++ rest, cc (append_assoc f.piece f.prefix.0 rest));
   rises = f.err;
   none = none;
 }
@@ -79,9 +75,9 @@ gather_fails rest f same none = record {
 pub written_after : (a b c : Store) (before after bytes : List ℕ) (u : Unit {0}) (r : Result (Unit {0}) SinkFault)
     → after ≡ [] → WritesAll a b before (Ok u) → WritesAll b c bytes r → Gathers a c before after bytes r
 written_after a b c before after bytes u (Ok v) e f g =
-    let all = WritesAll-then a b c before bytes u (Ok v) f g in
-    record { written = all.piece; gains = all.gains; parts = ap (λ (xs : List ℕ). all.piece ++ xs) e ∙ append-nil all.piece ∙ all.ok }
-written_after a b c before after bytes u (Err d) e f g = gather_fails [] (WritesAll-then a b c before bytes u (Err d) f g) (append-nil (before ++ bytes)) e
+    let all = WritesAll-then f g in
+    record { written = all.piece; gains = all.gains; parts = rw e (append-nil all.piece ∙ all.ok) }
+written_after a b c before after bytes u (Err d) e f g = gather_fails [] (WritesAll-then f g) (append-nil (before ++ bytes)) e
 
 -- What was pending could not be written, so that these bytes were not gathered.
 pub flush_failed : (a b : Store) (before after bytes : List ℕ) (e : SinkFault)
@@ -96,13 +92,9 @@ all_but {a = a} {b = b} f same = record { written = f.piece; gains = f.gains; pa
 -- bytes were gathered, and then all that was pending was written
 pub gathered_flushed : {a b c : Store} {before mid bytes : List ℕ} {r : Result (Unit {0}) SinkFault}
     → Gathered a b before mid bytes → WritesAll b c mid r → WritesAll a c (before ++ bytes) r
-gathered_flushed {a = a} {b = b} {c = c} {mid = mid} {r = r} g f =
+gathered_flushed {a = a} {b = b} {c = c} {r = r} g f =
     let front : WritesAll a b g.written (Ok tt) = record { piece = g.written; gains = g.gains; prefix = ([], append-nil g.written); ok = refl; err = tt } in
-    subst (λ (xs : List ℕ). WritesAll a c xs r) g.parts (WritesAll-then a b c g.written mid tt r front f)
-
--- a part of the front of them all was written
-pub gather_failed : {a b : Store} {before after bytes : List ℕ} (e : SinkFault) → GatherFails a b before after bytes → WritesAll a b (before ++ bytes) (Err e)
-gather_failed e f = record { piece = f.piece; gains = f.gains; prefix = f.prefix; ok = tt; err = f.rises }
+    subst (λ (xs : List ℕ). WritesAll a c xs r) g.parts (WritesAll-then front f)
 
 -- bytes that were gathered were pending before, too
 pub settled : {a b : Store} {before mid bytes : List ℕ} → Gathered a b before mid bytes → Keeps a b (before ++ bytes) mid
@@ -116,31 +108,11 @@ pub wrote : (raw : Raw) (a b : Store) (before after bytes : List ℕ) (f : Frame
 wrote raw a b before after bytes f (Ok u) w e h = (f, w, subst (λ (xs : List ℕ). Gathered a b before after xs) e h)
 wrote raw a b before after bytes f (Err d) w e h = (f, w, subst (λ (xs : List ℕ). GatherFails a b before after xs) e h)
 
--- canonical bytes that are pending after the others
-pub added : (raw : Raw) (a : Store) (before after : List ℕ) (f : Frame) → decode_raw raw ≡ Ok f
-    → after ≡ before ++ canon f → WritesFrame raw a a before after (Ok tt)
-added raw a before after f w e = (f, w, pushed a before after (canon f) tt e)
-
 -- A body that was gathered as it came is the canonical bytes of its frame.
 pub wrote-body : (raw : Raw) (a b : Store) (before after : List ℕ) (r : Result (Unit {0}) SinkFault) → raw.kind ≡ kinds.Body
     → Gathers a b before after (framed 3 raw.channel raw.payload) r → WritesFrame raw a b before after (stream_result r)
 unfolding decode_payload canon
 wrote-body raw a b before after r k h = wrote raw a b before after (framed 3 raw.channel raw.payload) (Body raw.channel raw.payload) r (rw k refl) refl h
-
--- A heartbeat without a payload that was gathered is the canonical bytes of its frame.
-pub wrote-beat : (raw : Raw) (a : Store) (before after bytes : List ℕ) → raw.kind ≡ kinds.Heartbeat
-    → bytes ≡ framed 8 raw.channel [] → after ≡ before ++ bytes → WritesFrame raw a a before after (Ok tt)
-unfolding decode_payload
-wrote-beat raw a before after bytes k e h =
-    added raw a before after (beat_on raw.channel) (rw k refl) (h ∙ ap (λ (xs : List ℕ). before ++ xs) (e ∙ canon_beat raw.channel))
-
--- A protocol header that was gathered is the canonical bytes of its frame.
-pub wrote-proto : (raw : Raw) (a : Store) (before after bytes : List ℕ) (v : ProtocolVersion) → raw.kind ≡ kinds.ProtocolHeader
-    → decode_payload kinds.ProtocolHeader raw.channel raw.payload ≡ Ok (Proto v.major v.minor v.revision)
-    → bytes ≡ proto v.major v.minor v.revision → after ≡ before ++ bytes → WritesFrame raw a a before after (Ok tt)
-unfolding canon
-wrote-proto raw a before after bytes v k is_whole is h =
-    added raw a before after (Proto v.major v.minor v.revision) (rw k is_whole) (h ∙ ap (λ (xs : List ℕ). before ++ xs) is)
 
 -- nothing was gathered
 pub kept : (a : Store) (before after : List ℕ) → after ≡ before → Keeps a a before after
@@ -173,12 +145,30 @@ is_none raw parses.BadProtocolHeader inside some h = absurd inside
 is_none raw parses.BadFrameEnd inside some h = absurd inside
 is_none raw error inside some h = record { bad = _; is_whole = h; other = λ e. absurd cc; tells = refl }
 
--- a method or content header that was not read
-pub added_refused : (raw : Raw) (a : Store) (before after : List ℕ) (error : ParserError) → IsPayloadError error → refusing error ≢ Err parses.NoMemory
-    → RefusesWhole error (decode_raw raw) → after ≡ before → WritesFrame raw a a before after (Err (payload_fault error))
-added_refused raw a before after error inside some h same =
-    let none = is_none raw error inside some h in
-    subst (IsUnwritten raw a a before after) none.tells (none.is_whole, none.other, kept a before after same)
+module _ (raw : Raw) (a : Store) (before after : List ℕ) where
+  -- canonical bytes that are pending after the others
+  pub added : (f : Frame) → decode_raw raw ≡ Ok f → after ≡ before ++ canon f → WritesFrame raw a a before after (Ok tt)
+  added f w e = (f, w, pushed a before after (canon f) tt e)
+
+  -- A heartbeat without a payload that was gathered is the canonical bytes of its frame.
+  pub wrote-beat : (bytes : List ℕ) → raw.kind ≡ kinds.Heartbeat
+      → bytes ≡ framed 8 raw.channel [] → after ≡ before ++ bytes → WritesFrame raw a a before after (Ok tt)
+  unfolding decode_payload
+  wrote-beat bytes k e h = added (beat_on raw.channel) (rw k refl) (cc (canon_beat raw.channel))
+
+  -- A protocol header that was gathered is the canonical bytes of its frame.
+  pub wrote-proto : (bytes : List ℕ) (v : ProtocolVersion) → raw.kind ≡ kinds.ProtocolHeader
+      → decode_payload kinds.ProtocolHeader raw.channel raw.payload ≡ Ok (Proto v.major v.minor v.revision)
+      → bytes ≡ proto v.major v.minor v.revision → after ≡ before ++ bytes → WritesFrame raw a a before after (Ok tt)
+  unfolding canon
+  wrote-proto bytes v k is_whole is h = added (Proto v.major v.minor v.revision) (rw k is_whole) cc
+
+  -- a method or content header that was not read
+  pub added_refused : (error : ParserError) → IsPayloadError error → refusing error ≢ Err parses.NoMemory
+      → RefusesWhole error (decode_raw raw) → after ≡ before → WritesFrame raw a a before after (Err (payload_fault error))
+  added_refused error inside some h same =
+      let none = is_none raw error inside some h in
+      subst (IsUnwritten raw a a before after) none.tells (none.is_whole, none.other, kept a before after same)
 
 -- ---- a frame at a level
 
@@ -199,16 +189,14 @@ pub written_by : {S E : Type 0} {w : Manner S E} {s t : S} {raw : Raw} {a b : St
     → WritesFrame raw a b before after (Ok done) → WritesBy w s t raw a b before after finished
 written_by done steps at h = record { bytes = canon h.0; step = record { frame = h.0; is_whole = h.1; at_level = at; steps = steps h.0 }; gathered = h.2 }
 
-unwritten_at : {S E : Type 0} (w : Manner S E) (s t : S) (raw : Raw) (a b : Store) (before after : List ℕ) (cause : Cause)
-    → ((f : Frame) → w.step s f ≡ Ok (canon f, t)) → is_at w.level raw ≡ true
-    → IsUnwritten raw a b before after cause → WritesBy w s s raw a b before after (stopped_by cause)
-unwritten_at w s t raw a b before after (faulty bad) steps at h = (is_faulty w.level raw bad h.0 h.1, h.2, refl)
-unwritten_at w s t raw a b before after write_failed steps at h =
-    record { bytes = canon h.0; next = t; step = record { frame = h.0; is_whole = h.1; at_level = at; steps = steps h.0 }; failed = h.2 }
-unwritten_at w s t raw a b before after cause steps at h = absurd h
-
 -- A frame of which they were not, as the ending of such a writer.
 pub unwritten_by : {S E : Type 0} (w : Manner S E) {s : S} (t : S) (raw : Raw) (a b : Store) (before after : List ℕ) (error : StreamError)
     → ((f : Frame) → w.step s f ≡ Ok (canon f, t)) → is_at w.level raw ≡ true
     → WritesFrame raw a b before after (Err error) → WritesBy w s s raw a b before after (stopped_by (cause_of error))
-unwritten_by w {s = s} t raw a b before after error steps at h = unwritten_at w s t raw a b before after (cause_of error) steps at h
+unwritten_by w {s = s} t raw a b before after error steps at h = by_cause (cause_of error) h
+  where
+    by_cause : (cause : Cause) → IsUnwritten raw a b before after cause → WritesBy w s s raw a b before after (stopped_by cause)
+    by_cause (faulty bad) h = (is_faulty w.level raw bad h.0 h.1, h.2, refl)
+    by_cause write_failed h =
+        record { bytes = canon h.0; next = t; step = record { frame = h.0; is_whole = h.1; at_level = at; steps = steps h.0 }; failed = h.2 }
+    by_cause cause h = absurd h

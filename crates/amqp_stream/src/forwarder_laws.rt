@@ -6,6 +6,7 @@ ghost use Rattle.amqp_stream.specs.Resuming.{RunsAddUp};
 use crate::frame_writer::FrameWriter;
 
 /// Fed in pieces, whatever they are, bytes give what they give at once.
+#[tactic(auto, using(crate::proofs::Forwarding::pieces_are_whole))]
 pub fn pieces_are_whole()
     ensures { PiecesAreWhole }
 {}

@@ -42,6 +42,7 @@ fn put_made(buf: &mut [u8], number: u32) -> usize
 }
 
 /// Makes the next frame, where nothing is left of the one before it. Returns whether a byte is left.
+#[tactic(auto, using(crate::proofs::Giving::refilled_same))]
 fn refill(frame: &mut [u8; LONGEST], span: &mut Span, next: &mut u32, frames: u32) -> bool
     requires { IsMaking frame.old span.old next.old frames }
     ensures making { IsMaking frame.new span.new next.new frames }

@@ -24,6 +24,7 @@ fn put_after(buf: &mut [u8], len: usize, bytes: &[u8]) -> usize
 /// Puts the canonical bytes of a borrowed frame after the first `len` bytes of a buffer, and returns
 /// the place after them.
 #[inline(always)]
+#[tactic(auto, using(crate::proofs::Spans::rewritten_after))]
 fn put_raw_after(
     buf: &mut [u8],
     len: usize,

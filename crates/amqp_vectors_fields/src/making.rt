@@ -231,6 +231,14 @@ const PRIORITY: Head = Head {
     ..HEADER
 };
 
+/// The headers of a message, whose content stands in the pool and ends inside a key.
+const GIVEN: Node = Node {
+    kind: TABLE,
+    length: 9,
+    place: 2,
+    ..BLANK
+};
+
 const ROWS: &[Row] = &[
     (
         &[
@@ -368,6 +376,27 @@ const ROWS: &[Row] = &[
         }],
         None,
         WriteRefusal::TooLarge,
+    ),
+    // Contents in the pool that pass the limit together: no node is looked at, so neither the fault of the first nor the place of
+    // the second is said.
+    (
+        &[
+            BEAT,
+            Head {
+                nodes: 2,
+                ..PRIORITY
+            },
+        ],
+        &[GIVEN, GIVEN],
+        None,
+        WriteRefusal::TooLarge,
+    ),
+    // One of them does not pass it, and its fault is said.
+    (
+        &[BEAT, PRIORITY],
+        &[GIVEN],
+        Some(0),
+        WriteRefusal::Payload(ParserError::ShortPayload),
     ),
     // A property at the place of another.
     (

@@ -84,6 +84,7 @@ fn strip<'a>(i: &'a [u8], front: &[u8]) -> Option<&'a [u8]>
 }
 
 /// The bit of a property in the mask.
+#[tactic(auto, using(crate::proofs::ReadSteps::bit_next))]
 fn mask_bit(bit: u16) -> u16
     ensures { result ≡ 2 ^ bit % 2 ^ 16 }
 {

@@ -57,6 +57,7 @@ fn with_digit(number: u64, c: u8) -> u64
 }
 
 /// The number in decimal at the front, and the text after it.
+#[tactic(auto, using(crate::proofs::ReadSteps::digits_none, crate::proofs::ReadSteps::digits_end, crate::proofs::ReadSteps::digits_next, crate::proofs::ReadSteps::found))]
 fn read_digits(i: &[u8]) -> (u64, &[u8])
     ensures { Finds (read_digits 0 i.now) result.0 result.1.now }
 {
@@ -200,6 +201,7 @@ fn character(i: &[u8], place: usize) -> u8
 }
 
 /// Appends a byte of a quoted string: that of two digits after a backslash, or the character itself.
+#[tactic(auto, using(crate::proofs::ReadSteps::escape_two, crate::proofs::ReadSteps::escape_itself))]
 pub(crate) fn read_escaped<'a>(out: &mut Vec<u8>, i: &'a [u8]) -> Result<&'a [u8], NoMemory>
     ensures { Reads (λ rest. rest.now) (read_escaped i.now) out.old.items out.new.items result }
 {

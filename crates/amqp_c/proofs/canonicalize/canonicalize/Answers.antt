@@ -1,7 +1,6 @@
 -- `canonicalize`: what it ensures, what loops keep, what falls with each iteration and that no place or sum is out of range.
 use Rattle.std.proofs.Common.{rules, arith}
 use Rattle.std.proofs.lemmas.List.{take_rest}
-use Rattle.amqp_types.specs.Levels.{level_of}
 use Rattle.amqp_c.proofs.Fronts.{going_start, going_on, going_falls, going_stops, going_finishes}
 use Rattle.amqp_c.proofs.canonicalize.canonicalize.Goals as goal
 
@@ -9,28 +8,18 @@ pub frames-init : goal.frames-init
 frames-init c = going_start _ _ _ _
 
 pub overflow_add-used : goal.overflow_add-used
-overflow_add-used c =
-    let put = rw take_rest at c.in-Ok.ensures in
-    let falls =
-    going_falls (level_of c.args.profile) c.args.max_payload c.args.bytes.now c.frames.out
-    c.put_front.new.out c.frames.used c.frames.written c.in-Ok.more c.in-Ok.end put in
-    search (rules, falls.1)
+overflow_add-used c = let falls = going_falls c.args.bytes.now c.frames.used (rw take_rest at c.in-Ok.ensures) in search (rules, falls.1)
 
 pub frames-smaller : goal.frames-smaller
-frames-smaller c =
-    let put = rw take_rest at c.in-Ok.ensures in
-    let falls =
-    going_falls (level_of c.args.profile) c.args.max_payload c.args.bytes.now c.frames.out
-    c.put_front.new.out c.frames.used c.frames.written c.in-Ok.more c.in-Ok.end put in
-    omega (arith, falls.0, falls.1)
+frames-smaller c = let falls = going_falls c.args.bytes.now c.frames.used (rw take_rest at c.in-Ok.ensures) in omega (arith, falls.0, falls.1)
 
 pub frames-preserved : goal.frames-preserved
-frames-preserved c = let put = rw take_rest at c.in-Ok.ensures in going_on c.requires.room c.frames.invariant put
+frames-preserved c = going_on c.frames.invariant c.requires.room (rw take_rest at c.in-Ok.ensures)
 
 pub returns-in-Err : goal.returns-in-Err
 returns-in-Err c =
     let stop = rw take_rest at c.in-Err.ensures in
-    rw (c.came.ensures, c.status.ensures, stop.1) (going_stops c.in-Err.error c.frames-test.true c.frames.invariant stop.0)
+    rw (c.came.ensures, c.status.ensures, stop.1) (going_stops c.frames.invariant c.in-Err.error c.frames-test.true stop.0)
 
 pub returns : goal.returns
-returns c = rw c.came-2.ensures (going_finishes c.frames-test.false c.frames.invariant)
+returns c = rw c.came-2.ensures (going_finishes c.frames.invariant c.frames-test.false)

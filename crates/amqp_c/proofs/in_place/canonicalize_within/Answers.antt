@@ -1,9 +1,8 @@
 -- `canonicalize_within`: what it ensures, what loops keep, what falls with each iteration and that no place or sum is out of range.
-use Rattle.std.proofs.Common.{◌+◌, ◌<◌, ◌≤◌, length, rules, arith, sym}
+use Rattle.std.proofs.Common.{◌<◌, ◌≤◌, length, rules, arith, sym}
 use Rattle.std.proofs.lemmas.List.{take_rest}
-use Rattle.amqp_types.specs.Levels.{level_of}
 use Rattle.amqp_c.proofs.Fronts.{going_start, going_stops, going_finishes}
-use Rattle.amqp_c.proofs.InPlace.{going_kept, going_lacks, going_length, going_rest, going_spare, rewritten_falls, spare_fits}
+use Rattle.amqp_c.proofs.InPlace.{going_kept, going_lacks, going_length, going_rest, going_spare, frame_falls, spare_fits}
 use Rattle.amqp_c.proofs.in_place.canonicalize_within.Goals as goal
 
 pub frames-init : goal.frames-init
@@ -13,84 +12,67 @@ frames-init c = going_start _ _ _ _
 
 pub move_front-written-requires-clause-inside : goal.move_front-written-requires-clause-inside
 move_front-written-requires-clause-inside c =
-    let is = rw c.in-Ok-Kept.field-0-is at c.in-Ok-Kept.ensures in
-    let kept = rw take_rest at is in
-    let falls = rewritten_falls (level_of c.args.profile) c.args.max_payload c.frames.bytes c.frames.used c.in-Ok-Kept.more kept.0 kept.1 in
-    falls.1
+    let kept = rw take_rest at (rw c.in-Ok-Kept.field-0-is at c.in-Ok-Kept.ensures) in
+    (frame_falls c.frames.invariant kept.0 kept.1).1
 
 pub overflow_add-used : goal.overflow_add-used
 overflow_add-used c =
-    let is = rw c.in-Ok-Kept.field-0-is at c.in-Ok-Kept.ensures in
-    let kept = rw take_rest at is in
-    let falls = rewritten_falls (level_of c.args.profile) c.args.max_payload c.frames.bytes c.frames.used c.in-Ok-Kept.more kept.0 kept.1 in
-    let long : c.frames.used + c.in-Ok-Kept.more ≤ length c.args.bytes.now = omega (arith, falls.1, going_length c.frames.invariant) in
-    search (rules, long)
+    let kept = rw take_rest at (rw c.in-Ok-Kept.field-0-is at c.in-Ok-Kept.ensures) in
+    let falls = frame_falls c.frames.invariant kept.0 kept.1 in
+    search (rules, falls.2)
 
 pub frames-smaller-in-Ok-Kept : goal.frames-smaller-in-Ok-Kept
 frames-smaller-in-Ok-Kept c =
-    let is = rw c.in-Ok-Kept.field-0-is at c.in-Ok-Kept.ensures in
-    let kept = rw take_rest at is in
-    let falls = rewritten_falls (level_of c.args.profile) c.args.max_payload c.frames.bytes c.frames.used c.in-Ok-Kept.more kept.0 kept.1 in
+    let kept = rw take_rest at (rw c.in-Ok-Kept.field-0-is at c.in-Ok-Kept.ensures) in
+    let falls = frame_falls c.frames.invariant kept.0 kept.1 in
     omega (arith, falls.0, falls.1, c.move_front-written.auto.buf)
 
 pub frames-preserved-in-Ok-Kept : goal.frames-preserved-in-Ok-Kept
 frames-preserved-in-Ok-Kept c =
-    let is = rw c.in-Ok-Kept.field-0-is at c.in-Ok-Kept.ensures in
-    let kept = rw take_rest at is in
-    going_kept c.frames.spare c.rewrite_front.new.spare c.frames.invariant kept c.move_front-written.ensures
+    let kept = rw take_rest at (rw c.in-Ok-Kept.field-0-is at c.in-Ok-Kept.ensures) in
+    going_kept c.frames.invariant c.frames.spare c.rewrite_front.new.spare kept c.move_front-written.ensures
 
 -- ---- a frame that goes through the spare buffer
 
 pub put_bytes-written-requires : goal.put_bytes-written-requires
 put_bytes-written-requires c =
-    let is = rw c.in-Ok-Spare.field-0-is at c.in-Ok-Spare.ensures in
-    let spare = rw take_rest at is in
-    record {
-      room =
-          spare_fits (level_of c.args.profile) c.args.max_payload c.frames.bytes c.frames.spare c.rewrite_front.new.spare
-          c.frames.used c.frames.written c.in-Ok-Spare.more c.in-Ok-Spare.count spare c.frames.invariant.shorter;
-    }
+    let spare = rw take_rest at (rw c.in-Ok-Spare.field-0-is at c.in-Ok-Spare.ensures) in
+    record { room = spare_fits c.frames.invariant c.in-Ok-Spare.more c.in-Ok-Spare.count c.frames.spare c.rewrite_front.new.spare spare }
 
 pub overflow_add-used-in-Ok-Spare : goal.overflow_add-used-in-Ok-Spare
 overflow_add-used-in-Ok-Spare c =
-    let is = rw c.in-Ok-Spare.field-0-is at c.in-Ok-Spare.ensures in
-    let spare = rw take_rest at is in
-    let falls = rewritten_falls (level_of c.args.profile) c.args.max_payload c.frames.bytes c.frames.used c.in-Ok-Spare.more spare.0 spare.1 in
-    let long : c.frames.used + c.in-Ok-Spare.more ≤ length c.args.bytes.now = omega (arith, falls.1, going_length c.frames.invariant) in
-    search (rules, long)
+    let spare = rw take_rest at (rw c.in-Ok-Spare.field-0-is at c.in-Ok-Spare.ensures) in
+    let falls = frame_falls c.frames.invariant spare.0 spare.1 in
+    search (rules, falls.2)
 
 pub frames-smaller : goal.frames-smaller
 frames-smaller c =
-    let is = rw c.in-Ok-Spare.field-0-is at c.in-Ok-Spare.ensures in
-    let spare = rw take_rest at is in
-    let falls = rewritten_falls (level_of c.args.profile) c.args.max_payload c.frames.bytes c.frames.used c.in-Ok-Spare.more spare.0 spare.1 in
+    let spare = rw take_rest at (rw c.in-Ok-Spare.field-0-is at c.in-Ok-Spare.ensures) in
+    let falls = frame_falls c.frames.invariant spare.0 spare.1 in
     omega (arith, falls.0, falls.1, c.put_bytes-written.auto.buf)
 
 pub frames-preserved : goal.frames-preserved
 frames-preserved c =
-    let is = rw c.in-Ok-Spare.field-0-is at c.in-Ok-Spare.ensures in
-    let spare = rw take_rest at is in
-    going_spare c.frames.spare c.rewrite_front.new.spare c.in-Ok-Spare.count c.frames.invariant spare c.put_bytes-written.ensures
+    let spare = rw take_rest at (rw c.in-Ok-Spare.field-0-is at c.in-Ok-Spare.ensures) in
+    going_spare c.frames.invariant c.frames.spare c.rewrite_front.new.spare c.in-Ok-Spare.count spare c.put_bytes-written.ensures
 
 -- ---- what is returned
 
 pub returns-in-Ok-NoRoom-clause-stops : goal.returns-in-Ok-NoRoom-clause-stops
 returns-in-Ok-NoRoom-clause-stops c = λ status.
-    let is = rw c.in-Ok-NoRoom.field-0-is at c.in-Ok-NoRoom.ensures in
-    let lacks = rw take_rest at is in
-    rw (c.came.ensures, sym c.frames.auto.spare) (going_lacks _ c.frames.invariant lacks)
+    let lacks = rw take_rest at (rw c.in-Ok-NoRoom.field-0-is at c.in-Ok-NoRoom.ensures) in
+    rw (c.came.ensures, sym c.frames.auto.spare) (going_lacks c.frames.invariant _ lacks)
 
 pub returns-in-Err-clause-canonicalizes : goal.returns-in-Err-clause-canonicalizes
 returns-in-Err-clause-canonicalizes c = λ status.
-    let at = rw take_rest at c.in-Err.ensures in
-    let stop = rw (going_rest c.frames.invariant) at at in
+    let stop = rw (going_rest c.frames.invariant) at (rw take_rest at c.in-Err.ensures) in
     let some : c.frames.used < length c.args.bytes.now = omega (arith, c.frames-test.true, going_length c.frames.invariant) in
-    rw (c.came-in-Err.ensures, c.status.ensures) (going_stops c.in-Err.error some c.frames.invariant stop)
+    rw (c.came-in-Err.ensures, c.status.ensures) (going_stops c.frames.invariant c.in-Err.error some stop)
 
 pub returns-clause-canonicalizes : goal.returns-clause-canonicalizes
 returns-clause-canonicalizes c = λ status.
     let all : length c.args.bytes.now ≤ c.frames.used = omega (arith, c.frames-test.false, going_length c.frames.invariant) in
-    rw c.came-2.ensures (going_finishes all c.frames.invariant)
+    rw c.came-2.ensures (going_finishes c.frames.invariant all)
 
 -- ---- the buffer keeps its length
 

@@ -1,7 +1,6 @@
 -- `feksroum_canonical_run`: what it ensures, what loops keep, what falls with each iteration and that no place or sum is out of range.
 use Rattle.std.proofs.Common.{rules, arith}
 use Rattle.std.proofs.lemmas.List.{take_rest}
-use Rattle.amqp_wire.specs.Frames.{raw_of}
 use Rattle.amqp_c.proofs.InPlace.{run_finishes, run_found, run_missed, run_refused, run_stops, run_unscanned, running_falls, running_on, running_start}
 use Rattle.amqp_c.proofs.in_place.feksroum_canonical_run.Goals as goal
 
@@ -10,49 +9,35 @@ frames-init c = running_start _ _
 
 pub overflow_add-used : goal.overflow_add-used
 overflow_add-used c =
-    let lies = rw take_rest at c.in-Ok.ensures in
-    let is = rw take_rest at c.frame_at.ensures in
-    let found =
-    run_found c.args.max_payload _ (raw_of c.frame_at.result) c.in-Ok.layout lies is c.in-Ok-judge_frame.judged c.in-Ok-judge_frame.ensures c.if-judged.true in
-    let falls = running_falls c.args.max_payload c.args.bytes.now c.frames.used c.in-Ok.layout.frame_len found in
+    let found = run_found (rw take_rest at c.in-Ok.ensures) (rw take_rest at c.frame_at.ensures) _ c.in-Ok-judge_frame.ensures c.if-judged.true in
+    let falls = running_falls c.frames.invariant c.in-Ok.layout.frame_len found in
     search (rules, falls.1)
 
 pub frames-smaller : goal.frames-smaller
 frames-smaller c =
-    let lies = rw take_rest at c.in-Ok.ensures in
-    let is = rw take_rest at c.frame_at.ensures in
-    let found =
-    run_found c.args.max_payload _ (raw_of c.frame_at.result) c.in-Ok.layout lies is c.in-Ok-judge_frame.judged c.in-Ok-judge_frame.ensures c.if-judged.true in
-    let falls = running_falls c.args.max_payload c.args.bytes.now c.frames.used c.in-Ok.layout.frame_len found in
+    let found = run_found (rw take_rest at c.in-Ok.ensures) (rw take_rest at c.frame_at.ensures) _ c.in-Ok-judge_frame.ensures c.if-judged.true in
+    let falls = running_falls c.frames.invariant c.in-Ok.layout.frame_len found in
     omega (arith, falls.0, falls.1)
 
 pub frames-preserved : goal.frames-preserved
 frames-preserved c =
-    let lies = rw take_rest at c.in-Ok.ensures in
-    let is = rw take_rest at c.frame_at.ensures in
-    let found =
-    run_found c.args.max_payload _ (raw_of c.frame_at.result) c.in-Ok.layout lies is c.in-Ok-judge_frame.judged c.in-Ok-judge_frame.ensures c.if-judged.true in
-    running_on c.frames.invariant found
+    let found = run_found (rw take_rest at c.in-Ok.ensures) (rw take_rest at c.frame_at.ensures) _ c.in-Ok-judge_frame.ensures c.if-judged.true in
+    running_on c.frames.invariant c.in-Ok.layout.frame_len found
 
 pub returns-in-Err : goal.returns-in-Err
 returns-in-Err c =
-    let none = rw take_rest at c.in-Err.ensures in
-    run_stops c.are_bytes.ensures c.frames.invariant (run_unscanned c.args.max_payload _ c.in-Err.field-0 none)
+    run_stops c.frames.invariant c.are_bytes.ensures (run_unscanned c.args.max_payload _ c.in-Err.field-0 (rw take_rest at c.in-Err.ensures))
 
 pub returns-in-Err-judge_frame : goal.returns-in-Err-judge_frame
 returns-in-Err-judge_frame c =
-    let lies = rw take_rest at c.in-Ok.ensures in
-    let is = rw take_rest at c.frame_at.ensures in
     let refused = c.in-Err-judge_frame.ensures in
-    run_stops c.are_bytes.ensures c.frames.invariant
-    (run_refused c.args.max_payload _ (raw_of c.frame_at.result) c.in-Ok.layout lies is c.in-Err-judge_frame.field-0 refused.0.0 refused.0.1 refused.1)
+    run_stops c.frames.invariant c.are_bytes.ensures
+    (run_refused (rw take_rest at c.in-Ok.ensures) (rw take_rest at c.frame_at.ensures) c.in-Err-judge_frame.field-0 refused.0.0 refused.0.1 refused.1)
 
 pub returns-in-Ok-2 : goal.returns-in-Ok-2
 returns-in-Ok-2 c =
-    let lies = rw take_rest at c.in-Ok.ensures in
-    let is = rw take_rest at c.frame_at.ensures in
-    run_stops c.are_bytes.ensures c.frames.invariant
-    (run_missed c.args.max_payload _ (raw_of c.frame_at.result) c.in-Ok.layout lies is c.in-Ok-judge_frame.judged c.in-Ok-judge_frame.ensures c.if-judged.false)
+    run_stops c.frames.invariant c.are_bytes.ensures
+    (run_missed (rw take_rest at c.in-Ok.ensures) (rw take_rest at c.frame_at.ensures) c.in-Ok-judge_frame.judged c.in-Ok-judge_frame.ensures c.if-judged.false)
 
 pub returns : goal.returns
-returns c = run_finishes c.are_bytes.ensures c.frames-test.false c.frames.invariant
+returns c = run_finishes c.frames.invariant c.are_bytes.ensures c.frames-test.false

@@ -1,10 +1,10 @@
 -- `list_slots`, which calls itself: what they ensure.
 use Rattle.std.proofs.Common.{◌≡◌, ap, ◌∙◌, arith}
 use Rattle.std.proofs.lemmas.List.{take_rest}
-use Rattle.amqp_fields.specs.Listed.{listed_form, next_place}
+use Rattle.amqp_fields.specs.Listed.{listed_form, listed_slot, next_place}
 use Rattle.amqp_canonical.specs.declared.shapes.Form.TheVariants as forms
 use Rattle.amqp_canonical.specs.declared.shapes.Slot.TheVariants as slots
-use Rattle.amqp_fields.proofs.SlotSteps.{kept_first, reserved_first}
+use Rattle.amqp_fields.proofs.SlotSteps.{reserved_first, slots_listed}
 use Rattle.amqp_fields.proofs.fields.+list_slots.Goals as goal
 
 pub returns-in-Reserved : goal.returns-in-Reserved
@@ -15,19 +15,20 @@ returns-in-Reserved t c =
     c.in-len1-up.len_at_least c.in-Reserved.is (omega arith) c.form_size.ensures.used c.bytes_from-rest.ensures others
 
 pub returns-in-Kept : goal.returns-in-Kept
+unfolding listed_slot
 returns-in-Kept t c =
     let others = rw take_rest at c.list_slots-in-Kept.ensures in
-    kept_first c.args.deep c.args.end c.args.place c.further-place-in-Kept.result c.args.shapes.now
-    (slots.Kept forms.Octet) c.in-Kept.form c.args.i.now _ c.args.nodes.now c.list_form-step.new.nodes _ c.args.count _ c.list_form-step.result
+    slots_listed c.args.deep c.args.end c.args.place c.further-place-in-Kept.result c.args.shapes.now
+    (slots.Kept forms.Octet) (slots.Kept c.in-Kept.form) c.args.i.now _ c.args.nodes.now c.list_form-step.new.nodes _ c.args.count _ c.list_form-step.result
     c.in-len1-up.len_at_least c.in-Kept.is c.list_form-step.ensures.listed
     (c.further-place-in-Kept.ensures ∙ ap (next_place c.args.place) c.field_count.ensures) (take_rest c.args.i.now c.list_form-step.result.used) others
 
 pub returns-in-Kept-Flags : goal.returns-in-Kept-Flags
-unfolding listed_form
+unfolding listed_form listed_slot
 returns-in-Kept-Flags t c =
     let flags : c.in-Kept-Flags.field-0 ≡ forms.Flags c.in-Kept-Flags.flags = rw c.in-Kept-Flags.is at c.in-Kept-Flags.field-0-is in
     let others = rw take_rest at c.list_slots-in-Kept-Flags.ensures in
-    kept_first c.args.deep c.args.end c.args.place c.further-place.result c.args.shapes.now (slots.Kept forms.Octet)
-    (forms.Flags c.in-Kept-Flags.flags) c.args.i.now _ c.args.nodes.now c.list_flags-step.new.nodes _ c.args.count _ c.list_flags-step.result
+    slots_listed c.args.deep c.args.end c.args.place c.further-place.result c.args.shapes.now (slots.Kept forms.Octet)
+    (slots.Kept (forms.Flags c.in-Kept-Flags.flags)) c.args.i.now _ c.args.nodes.now c.list_flags-step.new.nodes _ c.args.count _ c.list_flags-step.result
     c.in-len1-up.len_at_least (c.in-Kept-Flags.is ∙ ap slots.Kept flags) c.list_flags-step.ensures.listed c.further-place.ensures
     (take_rest c.args.i.now c.list_flags-step.result.used) others

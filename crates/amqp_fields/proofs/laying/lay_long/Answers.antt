@@ -1,8 +1,7 @@
 -- `lay_long`: what it ensures.
 use Rattle.std.proofs.Common.{arith}
 use Rattle.std.proofs.lemmas.Bool.Decides.{nat_tests}
-use Rattle.amqp_fields.proofs.Quick.{long_laid}
-use Rattle.amqp_fields.proofs.QuickFrames.{bytes_as}
+use Rattle.amqp_fields.proofs.Quick.{bytes_as, long_laid}
 use Rattle.amqp_fields.proofs.laying.lay_long.Goals as goal
 
 pub returns : goal.returns

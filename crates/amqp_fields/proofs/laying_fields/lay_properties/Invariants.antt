@@ -7,4 +7,4 @@ abbrev pub decreases-loop-rest : goal.decreases-loop-rest
 decreases-loop-rest g l = length l.rest
 
 abbrev pub invariant-loop-rest : goal.invariant-loop-rest
-invariant-loop-rest g l = SetLeads l.pool l.end g.S.Sink.puts l.nodes l.place l.rest l.fn.buf l.buf l.first l.made l.mask
+invariant-loop-rest g l = SetLeads l.pool l.end g.S.Sink.tests g.S.Sink.puts l.limit l.nodes l.place l.rest l.fn.buf l.buf l.first l.made l.mask

@@ -10,4 +10,5 @@ decreases-loop-left g l = length l.left
 
 abbrev pub invariant-loop-left : goal.invariant-loop-left
 invariant-loop-left g l =
-    SlotsLead l.pool l.end g.S.Sink.puts (made_slots l.pool l.end 0 (slots_of l.shapes) l.nodes) l.left l.place l.rest l.fn.buf l.buf l.at l.made
+    SlotsLead l.pool l.end g.S.Sink.tests g.S.Sink.puts l.limit
+    (made_slots l.pool l.end 0 (slots_of l.shapes) l.nodes) l.left l.place l.rest l.fn.buf l.buf l.at l.made

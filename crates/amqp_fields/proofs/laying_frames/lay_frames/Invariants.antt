@@ -7,4 +7,4 @@ abbrev pub decreases-loop-rest : goal.decreases-loop-rest
 decreases-loop-rest g l = length l.rest
 
 abbrev pub invariant-loop-rest : goal.invariant-loop-rest
-invariant-loop-rest g l = HeadsLead l.pool l.nodes l.max_payload g.S.Sink.puts l.heads l.rest l.fn.buf l.buf l.made
+invariant-loop-rest g l = HeadsLead l.pool l.nodes l.max_payload g.S.Sink.tests g.S.Sink.puts l.heads l.rest l.fn.buf l.buf l.made

@@ -1,7 +1,6 @@
 -- `lay_method`: what it ensures.
 use Rattle.amqp_fields.proofs.FramesMade.{known_slots, method_parts, own_nodes}
-use Rattle.amqp_fields.proofs.Quick.{laid_after, laid_as}
-use Rattle.amqp_fields.proofs.QuickFrames.{bytes_as}
+use Rattle.amqp_fields.proofs.Quick.{bytes_as, laid_after, laid_as, laid_until}
 use Rattle.amqp_fields.proofs.laying_frames.lay_method.Goals as goal
 
 pub returns : goal.returns
@@ -10,4 +9,4 @@ returns g c =
     laid_as (method_parts c.args.pool.now c.args.nodes.now c.in-Some-nodes_of.own.now c.args.head.now c.nodes_end-end.result
     (own_nodes c.args.nodes.now c.args.head.now _ c.in-Some-nodes_of.own c.nodes_of.ensures c.in-Some-nodes_of.is)
     c.nodes_end-end.ensures _ known c.if-head-ne0.false)
-    (laid_after (bytes_as c.id_bytes.ensures c.lay-front.ensures) c.lay_slots.ensures)
+    (laid_after (laid_until (bytes_as c.id_bytes.ensures c.lay-front.ensures)) c.lay_slots.ensures)

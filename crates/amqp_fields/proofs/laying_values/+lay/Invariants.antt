@@ -33,10 +33,11 @@ decreases-lay_entries-loop-rest g l = length l.rest
 
 abbrev pub invariant-lay_values-loop-rest : goal.invariant-lay_values-loop-rest
 invariant-lay_values-loop-rest g l =
-    Leads g.S.Sink.puts (made_each (made_value l.pool l.depth_left) l.end 0 l.nodes) (made_each (made_value l.pool l.depth_left) l.end 0 l.rest)
+    Leads g.S.Sink.tests g.S.Sink.puts l.limit (made_each (made_value l.pool l.depth_left) l.end 0 l.nodes)
+    (made_each (made_value l.pool l.depth_left) l.end 0 l.rest)
     l.fn.buf l.buf l.at l.place
 
 abbrev pub invariant-lay_entries-loop-rest : goal.invariant-lay_entries-loop-rest
 invariant-lay_entries-loop-rest g l =
-    Leads g.S.Sink.puts (made_each (made_entry l.pool (made_value l.pool l.depth_left)) l.end 0 l.nodes)
+    Leads g.S.Sink.tests g.S.Sink.puts l.limit (made_each (made_entry l.pool (made_value l.pool l.depth_left)) l.end 0 l.nodes)
     (made_each (made_entry l.pool (made_value l.pool l.depth_left)) l.end 0 l.rest) l.fn.buf l.buf l.at l.place

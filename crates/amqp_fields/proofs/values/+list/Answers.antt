@@ -3,26 +3,28 @@ use Rattle.std.proofs.Common.{refl, arith}
 use Rattle.std.proofs.lemmas.List.{take_rest}
 use Rattle.std.proofs.lemmas.Bool.Decides.{nat_tests}
 use Rattle.amqp_fields.specs.Nodes.{blank}
-use Rattle.amqp_fields.specs.Listed.{listed_entry, listed_value}
-use Rattle.amqp_fields.proofs.Stepping.{too_deep_array, too_deep_table, array_behind, table_behind, items_listed, items_unlisted, value_goes_on, value_stops}
+use Rattle.amqp_fields.specs.Listed.{listed_behind, listed_entry, listed_value}
+use Rattle.amqp_fields.proofs.Stepping.{nested_none, nested_more, items_listed, items_unlisted, value_goes_on, value_stops}
 use Rattle.amqp_fields.proofs.Stepping.{entry_goes_on, entry_stops, stops, done}
 use Rattle.amqp_fields.proofs.values.+list.Goals as goal
 
 pub list_after_tag-returns-in-FieldArray-clause-listed : goal.list_after_tag-returns-in-FieldArray-clause-listed
-list_after_tag-returns-in-FieldArray-clause-listed t c =
-    too_deep_array c.args.depth_left c.args.end c.args.label c.args.tag c.args.i.now _ _ _ _ c.if-depth_left-eq0.true c.in-FieldArray.is
+unfolding listed_behind
+list_after_tag-returns-in-FieldArray-clause-listed t c = rw (c.in-FieldArray.is, nested_none c.args.depth_left c.if-depth_left-eq0.true) tt
 
 pub list_after_tag-returns-in-FieldArray-2-clause-listed : goal.list_after_tag-returns-in-FieldArray-2-clause-listed
+unfolding listed_behind
 list_after_tag-returns-in-FieldArray-2-clause-listed t c =
-    array_behind c.args.depth_left c.args.end c.args.label c.args.tag c.args.i.now _ _ _ _ (omega arith) c.in-FieldArray-2.is c.list_array.ensures.listed
+    rw (c.in-FieldArray-2.is, nested_more c.args.depth_left (omega arith)) c.list_array.ensures.listed
 
 pub list_after_tag-returns-in-FieldTable-clause-listed : goal.list_after_tag-returns-in-FieldTable-clause-listed
-list_after_tag-returns-in-FieldTable-clause-listed t c =
-    too_deep_table c.args.depth_left c.args.end c.args.label c.args.tag c.args.i.now _ _ _ _ c.if-depth_left-eq0-2.true c.in-FieldTable.is
+unfolding listed_behind
+list_after_tag-returns-in-FieldTable-clause-listed t c = rw (c.in-FieldTable.is, nested_none c.args.depth_left c.if-depth_left-eq0-2.true) tt
 
 pub list_after_tag-returns-in-FieldTable-2-clause-listed : goal.list_after_tag-returns-in-FieldTable-2-clause-listed
+unfolding listed_behind
 list_after_tag-returns-in-FieldTable-2-clause-listed t c =
-    table_behind c.args.depth_left c.args.end c.args.label c.args.tag c.args.i.now _ _ _ _ (omega arith) c.in-FieldTable-2.is c.list_table.ensures.listed
+    rw (c.in-FieldTable-2.is, nested_more c.args.depth_left (omega arith)) c.list_table.ensures.listed
 
 pub list_array-returns-in-None-clause-listed : goal.list_array-returns-in-None-clause-listed
 list_array-returns-in-None-clause-listed t c =

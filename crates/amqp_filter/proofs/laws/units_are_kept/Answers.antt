@@ -1,6 +1,6 @@
 -- `units_are_kept`: clauses `units`, `others`, `turn` and `messages`.
-use Rattle.amqp_filter.proofs.LawsMessages.{messages_are_kept}
-use Rattle.amqp_filter.proofs.LawsStates.{stays_in_turn, others_are_kept}
+use Rattle.amqp_filter.proofs.LawsMessages.{left_in_turn, messages_are_kept}
+use Rattle.amqp_filter.proofs.LawsStates.{others_are_kept}
 use Rattle.amqp_filter.proofs.LawsUnits.{units_are_kept}
 use Rattle.amqp_filter.proofs.laws.units_are_kept.Goals as goal
 
@@ -11,7 +11,7 @@ pub returns-clause-others : goal.returns-clause-others
 returns-clause-others c = others_are_kept
 
 pub returns-clause-turn : goal.returns-clause-turn
-returns-clause-turn c = stays_in_turn
+returns-clause-turn c = left_in_turn
 
 pub returns-clause-messages : goal.returns-clause-messages
 returns-clause-messages c = messages_are_kept

@@ -3,7 +3,7 @@ use Rattle.amqp_lines.proofs.Dumps.{dump_report, untidy_never}
 use Rattle.amqp_lines.proofs.dumping.dump_reported.Goals as goal
 
 pub returns-in-Ok-clause-run : goal.returns-in-Ok-clause-run
-returns-in-Ok-clause-run g c = dump_report c.unrefused_report.result (rw c.unrefused_report.ensures at c.run_stream_reported-run.ensures.run)
+returns-in-Ok-clause-run g c = dump_report _ (rw c.unrefused_report.ensures at c.run_stream_reported-run.ensures.run)
 
 pub returns-in-Ok-clause-never_untidy : goal.returns-in-Ok-clause-never_untidy
-returns-in-Ok-clause-never_untidy g c = untidy_never c.unrefused_report.result (rw c.unrefused_report.ensures at c.run_stream_reported-run.ensures.run)
+returns-in-Ok-clause-never_untidy g c = untidy_never _ (rw c.unrefused_report.ensures at c.run_stream_reported-run.ensures.run)

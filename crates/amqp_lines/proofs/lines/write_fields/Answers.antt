@@ -3,4 +3,4 @@ use Rattle.amqp_lines.proofs.Lining.{fields_none}
 use Rattle.amqp_lines.proofs.lines.write_fields.Goals as goal
 
 pub returns-in-None : goal.returns-in-None
-returns-in-None c = fields_none c.args.class_id c.args.method_id c.args.i.now c.args.out.now.items c.in-None.ensures.slots
+returns-in-None c = fields_none _ _ _ _ c.in-None.ensures.slots

@@ -7,4 +7,4 @@ pub returns : goal.returns
 unfolding line
 returns c = λ frame is.
     c.in_ok-push.ensures.items ∙ ap (λ (xs : List ℕ). xs ++ 10 ∷ []) (c.in_ok-write_words.ensures frame is)
-    ∙ append_assoc c.args.out.now.items (words frame) (10 ∷ [])
+    ∙ append_assoc _ (words frame) (10 ∷ [])

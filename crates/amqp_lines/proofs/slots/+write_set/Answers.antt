@@ -6,19 +6,19 @@ use Rattle.amqp_lines.proofs.RenderedSlots.{no_options, option_said, option_past
 use Rattle.amqp_lines.proofs.slots.+write_set.Goals as goal
 
 pub returns-in-empty : goal.returns-in-empty
-returns-in-empty t c = no_options c.args.mask c.args.shapes.now c.args.i.now c.args.out.now.items c.in-empty.len_below
+returns-in-empty t c = no_options _ _ _ _ c.in-empty.len_below
 
 pub returns-then-not-has_bit : goal.returns-then-not-has_bit
 returns-then-not-has_bit t c =
     let off : c.has_bit.result ≡ false = grind arith in
     let others = rw take_rest at c.write_set.ensures in
-    option_past c.args.mask c.args.shapes.now (0, forms.Octet) c.args.i.now c.args.out.now.items
-    c.write_set.new.out.items c.write_set.result c.in-len1-up.len_at_least (sym c.has_bit.ensures ∙ off) others
+    option_past _ _ (0, forms.Octet) _ _
+    _ _ c.in-len1-up.len_at_least (sym c.has_bit.ensures ∙ off) others
 
 pub returns-in_ok-used-in-len1-up : goal.returns-in_ok-used-in-len1-up
 returns-in_ok-used-in-len1-up t c =
     let on : c.has_bit.result ≡ true = grind arith in
     let others = rw take_rest at c.write_set-in-len1-up.ensures in
-    option_said c.args.mask c.args.shapes.now (0, forms.Octet) c.args.i.now c.bytes_from.result.now c.args.out.now.items c.write_name.new.out.items
-    c.write_form.new.out.items c.write_set-in-len1-up.new.out.items c.in_ok-used-in-len1-up.used c.write_set-in-len1-up.result
+    option_said _ _ (0, forms.Octet) _ _ _ _
+    _ _ _ _
     c.in-len1-up.len_at_least (sym c.has_bit.ensures ∙ on) c.in_ok-write_name-in-len1-up.ensures c.in_ok-used-in-len1-up.ensures c.bytes_from.ensures others

@@ -6,10 +6,10 @@ use Rattle.amqp_lines.proofs.RenderedSlots.{no_slots, slots_said}
 use Rattle.amqp_lines.proofs.slots.+write_slots.Goals as goal
 
 pub returns-in-empty : goal.returns-in-empty
-returns-in-empty t c = no_slots c.args.shapes.now c.args.i.now c.args.out.now.items c.in-empty.len_below
+returns-in-empty t c = no_slots _ _ _ c.in-empty.len_below
 
 pub returns-in_ok-used-in-len1-up : goal.returns-in_ok-used-in-len1-up
 returns-in_ok-used-in-len1-up t c =
     let others = rw take_rest at c.write_slots.ensures in
-    slots_said c.args.shapes.now (slots.Kept forms.Octet) c.args.i.now c.bytes_from.result.now c.args.out.now.items c.write_slot.new.out.items
-    _ c.in_ok-used-in-len1-up.used c.write_slots.result c.in-len1-up.len_at_least c.in_ok-used-in-len1-up.ensures c.bytes_from.ensures others
+    slots_said _ (slots.Kept forms.Octet) _ _ _ _
+    _ _ _ c.in-len1-up.len_at_least c.in_ok-used-in-len1-up.ensures c.bytes_from.ensures others

@@ -5,14 +5,14 @@ use Rattle.amqp_lines.proofs.Gathering.{along_begins, along_line, lines_done, li
 use Rattle.amqp_lines.proofs.undumping.gather_lines.Goals as goal
 
 pub lines-init : goal.lines-init
-lines-init g c = record { along = along_begins c.args.max_payload c.args.text.now _ _ _; within = c.requires.within; none = c.requires.none }
+lines-init g c = record { along = along_begins _ _ _ _ _; within = c.requires.within; none = c.requires.none }
 
 pub returns-in-None : goal.returns-in-None
-returns-in-None g c = lines_done _ refl c.lines.invariant.along c.in-None.ensures
+returns-in-None g c = lines_done c.lines.invariant.along _ refl c.in-None.ensures
 
 pub returns-in-Err : goal.returns-in-Err
 returns-in-Err g c =
-    lines_error _ c.in-Err.error c.first_bytes.ensures c.lines.invariant.along c.in-Some.ensures c.in-Err.ensures.gathers c.in-Err.ensures.passes
+    lines_error c.lines.invariant.along _ _ c.first_bytes.ensures c.in-Some.ensures c.in-Err.ensures.gathers c.in-Err.ensures.passes
 
 pub lines-smaller : goal.lines-smaller
 lines-smaller g c =
@@ -20,7 +20,7 @@ lines-smaller g c =
 
 pub lines-preserved : goal.lines-preserved
 lines-preserved g c = record {
-  along = along_line c.in-Some.end _ _ c.first_bytes.ensures c.bytes_from-rest.ensures c.lines.invariant.along c.in-Ok.ensures.gathers c.in-Ok.ensures.passes;
+  along = along_line c.lines.invariant.along c.in-Some.end _ _ c.first_bytes.ensures c.bytes_from-rest.ensures c.in-Ok.ensures.gathers c.in-Ok.ensures.passes;
   within = omega arith;
   none = none_yet c.bytes_from-rest.result.now;
 }

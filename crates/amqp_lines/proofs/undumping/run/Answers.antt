@@ -2,12 +2,13 @@
 use Rattle.std.proofs.Common.{length, ap, refl, ◌∙◌, arith}
 use Rattle.amqp_stream.specs.Buffers.{Buffered}
 use Rattle.amqp_lines.specs.LineReading.{end_of_text}
-use Rattle.amqp_lines.proofs.LongLines.{few_kept, holds_first, held_spent, held_at_read, held_at_end, held_at_lines, held_unflushed, holds_on}
+use Rattle.amqp_lines.proofs.LongLines.{few_kept, holds_first, held_at_end, held_at_lines, held_unflushed, holds_on}
+use Rattle.amqp_lines.proofs.Undumps.{ends_spent, ends_at_read}
 use Rattle.amqp_lines.proofs.undumping.run.Goals as goal
 
 pub reads-init : goal.reads-init
 reads-init g c = record {
-  holding = holds_first c.args.max_payload c.args.budget _ _ _ _ c.requires.none c.requires.first;
+  holding = holds_first _ _ _ _ _ _ c.requires.none c.requires.first;
   most = c.requires.most;
   few = omega (arith, ap length c.requires.none);
   none = ap (λ (out : Buffered). out.bytes) c.clear.ensures;
@@ -16,10 +17,10 @@ reads-init g c = record {
 }
 
 pub returns-then-left-eq0-clause-stream : goal.returns-then-left-eq0-clause-stream
-returns-then-left-eq0-clause-stream g c = held_spent c.reads.invariant.holding c.if-left-eq0.true
+returns-then-left-eq0-clause-stream g c = ends_spent c.reads.invariant.holding.going c.if-left-eq0.true
 
 pub returns-in-Err-clause-stream : goal.returns-in-Err-clause-stream
-returns-in-Err-clause-stream g c = held_at_read c.in-Err.error c.reads.invariant.holding (omega (arith, c.if-left-eq0.false)) c.in-Err.ensures.reads
+returns-in-Err-clause-stream g c = ends_at_read c.reads.invariant.holding.going _ (omega (arith, c.if-left-eq0.false)) c.in-Err.ensures.reads
 
 pub returns-in-Ok-eq0-clause-stream : goal.returns-in-Ok-eq0-clause-stream
 returns-in-Ok-eq0-clause-stream g c =
@@ -28,7 +29,7 @@ returns-in-Ok-eq0-clause-stream g c =
 
 pub returns-in-Err-gather_lines-clause-stream : goal.returns-in-Err-gather_lines-clause-stream
 returns-in-Err-gather_lines-clause-stream g c =
-    held_at_lines c.in-Err-gather_lines.error c.reads.invariant.holding (omega (arith, c.if-left-eq0.false)) c.in-Ok.ensures.reads
+    held_at_lines c.reads.invariant.holding (omega (arith, c.if-left-eq0.false)) c.in-Ok.ensures.reads _
     (rw (c.deref-in-reads.ensures.value, c.reads.invariant.none) at c.in-Err-gather_lines.ensures) c.stop.ensures
 
 pub returns-in-Err-flush-clause-stream : goal.returns-in-Err-flush-clause-stream

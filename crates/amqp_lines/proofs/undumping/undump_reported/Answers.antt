@@ -6,9 +6,9 @@ use Rattle.amqp_lines.proofs.undumping.undump_reported.Goals as goal
 
 pub returns-in-Err : goal.returns-in-Err
 returns-in-Err g c = record {
-  run = unreported c.reported.result c.reported.ensures.answer never_ran;
+  run = unreported _ c.reported.ensures.answer never_ran;
   report =
-      never_reported _ _ _ _ c.reported.result c.first-first.ensures
+      never_reported _ _ _ _ _ c.first-first.ensures
       c.reported.ensures.answer c.reported.ensures.line c.reported.ensures.place;
 }
 

@@ -8,51 +8,36 @@ use Rattle.amqp_laws.proofs.Exactly.{value_some}
 use Rattle.amqp_laws.proofs.Filled.{entry_some}
 use Rattle.amqp_lines.specs.Values.{value_text}
 use Rattle.amqp_lines.specs.Rendering.{entry_text}
-use Rattle.amqp_lines.proofs.Rendered.{value_none, value_unknown, value_rendered, no_array, no_table, array_after, table_after, array_written, array_unwritten}
-use Rattle.amqp_lines.proofs.Rendered.{table_written, table_unwritten, entry_written, begins, goes_on, done}
+use Rattle.amqp_lines.proofs.Rendered.{value_none, value_unknown, value_rendered, array_written, array_unwritten, table_written, table_unwritten, entry_written}
+use Rattle.amqp_lines.proofs.Rendered.{begins, goes_on, done}
 use Rattle.amqp_lines.proofs.values.+render.Goals as goal
 
 pub write_value-returns-in-empty-clause-written : goal.write_value-returns-in-empty-clause-written
-write_value-returns-in-empty-clause-written t c = value_none c.args.depth_left _ c.args.i.now _ _ c.in-empty.len_below
+write_value-returns-in-empty-clause-written t c = value_none _ _ _ _ _ c.in-empty.len_below
 
 pub write_value-returns-in-None-clause-written : goal.write_value-returns-in-None-clause-written
-write_value-returns-in-None-clause-written t c = value_unknown c.args.depth_left _ c.args.i.now _ _ (sym c.from_byte.ensures ∙ c.in-None.is)
+write_value-returns-in-None-clause-written t c = value_unknown _ _ _ _ _ (sym c.from_byte.ensures ∙ c.in-None.is)
 
 pub write_value-returns-in_ok-used-in-Some-clause-written : goal.write_value-returns-in_ok-used-in-Some-clause-written
 write_value-returns-in_ok-used-in-Some-clause-written t c =
     let written = rw take_rest at c.in_ok-used-in-Some.ensures.written in
-    value_rendered c.args.depth_left c.in_ok-used-in-Some.used c.args.i.now c.in-Some.tag c.args.out.now.items c.write_tag.new.out.items _
+    value_rendered _ _ _ _ _ _ _
     (sym c.from_byte.ensures ∙ c.in-Some.is) c.in_ok-write_tag-in-Some.ensures written
 
-pub write_after_tag-returns-in-FieldArray-clause-written : goal.write_after_tag-returns-in-FieldArray-clause-written
-write_after_tag-returns-in-FieldArray-clause-written t c = no_array c.args.depth_left c.args.tag c.args.i.now _ _ _ c.if-depth_left-eq0.true c.in-FieldArray.is
-
-pub write_after_tag-returns-in-FieldArray-2-clause-written : goal.write_after_tag-returns-in-FieldArray-2-clause-written
-write_after_tag-returns-in-FieldArray-2-clause-written t c =
-    array_after c.args.depth_left c.args.tag c.args.i.now _ _ _ c.in-FieldArray-2.is c.write_array.ensures.written
-
-pub write_after_tag-returns-in-FieldTable-clause-written : goal.write_after_tag-returns-in-FieldTable-clause-written
-write_after_tag-returns-in-FieldTable-clause-written t c =
-    no_table c.args.depth_left c.args.tag c.args.i.now _ _ _ c.if-depth_left-eq0-2.true c.in-FieldTable.is
-
-pub write_after_tag-returns-in-FieldTable-2-clause-written : goal.write_after_tag-returns-in-FieldTable-2-clause-written
-write_after_tag-returns-in-FieldTable-2-clause-written t c =
-    table_after c.args.depth_left c.args.tag c.args.i.now _ _ _ c.in-FieldTable-2.is c.write_table.ensures.written
-
 pub write_array-returns-in-None-clause-written : goal.write_array-returns-in-None-clause-written
-write_array-returns-in-None-clause-written t c = array_unwritten c.args.depth_left _ c.args.i.now _ _ c.in-None.ensures.found
+write_array-returns-in-None-clause-written t c = array_unwritten _ _ _ _ _ c.in-None.ensures.found
 
 pub write_array-returns-in_ok-push-in-Some-2-clause-written : goal.write_array-returns-in_ok-push-in-Some-2-clause-written
 write_array-returns-in_ok-push-in-Some-2-clause-written t c =
-    array_written c.args.depth_left c.args.i.now c.in-Some.content.now _ _ _ _ c.in-Some.used tt c.in-Some.ensures.found
+    array_written _ _ _ _ _ _ _ _ c.in-Some.ensures.found
     c.in_ok-push-in-Some.ensures.items c.in_ok-write_values-in-Some.ensures c.in_ok-push-in-Some-2.ensures.items
 
 pub write_table-returns-in-None-clause-written : goal.write_table-returns-in-None-clause-written
-write_table-returns-in-None-clause-written t c = table_unwritten c.args.depth_left _ c.args.i.now _ _ c.in-None.ensures.found
+write_table-returns-in-None-clause-written t c = table_unwritten _ _ _ _ _ c.in-None.ensures.found
 
 pub write_table-returns-in_ok-push-in-Some-2-clause-written : goal.write_table-returns-in_ok-push-in-Some-2-clause-written
 write_table-returns-in_ok-push-in-Some-2-clause-written t c =
-    table_written c.args.depth_left c.args.i.now c.in-Some.content.now _ _ _ _ c.in-Some.used tt c.in-Some.ensures.found
+    table_written _ _ _ _ _ _ _ _ c.in-Some.ensures.found
     c.in_ok-push-in-Some.ensures.items c.in_ok-write_entries-in-Some.ensures c.in_ok-push-in-Some-2.ensures.items
 
 pub write_values-loop-rest-init : goal.write_values-loop-rest-init
@@ -60,28 +45,28 @@ write_values-loop-rest-init t c = begins
 
 pub write_values-loop-rest-preserved : goal.write_values-loop-rest-preserved
 write_values-loop-rest-preserved t c =
-    goes_on (SpellsValue strict c.args.depth_left) value_text (value_some strict c.args.depth_left) _ _ _ c.in_ok-used.used c.loop-rest.invariant
+    goes_on (SpellsValue strict _) value_text (value_some strict _) _ _ _ _ c.loop-rest.invariant
     (grind (arith, nat_tests)) c.in_ok-used.ensures.written c.bytes_from-rest.ensures c.in_ok-write_comma.ensures
 
 pub write_values-returns : goal.write_values-returns
 write_values-returns t c =
-    done (SpellsValue strict c.args.depth_left) value_text (value_some strict c.args.depth_left) tt c.loop-rest.invariant (grind (arith, nat_tests))
+    done (SpellsValue strict _) value_text (value_some strict _) tt c.loop-rest.invariant (grind (arith, nat_tests))
 
 pub write_entries-loop-rest-init : goal.write_entries-loop-rest-init
 write_entries-loop-rest-init t c = begins
 
 pub write_entries-loop-rest-preserved : goal.write_entries-loop-rest-preserved
 write_entries-loop-rest-preserved t c =
-    let S = SpellsValue strict c.args.depth_left in
-    goes_on (SpellsEntry S) entry_text (entry_some S) _ _ _ c.in_ok-used.used c.loop-rest.invariant
+    let S = SpellsValue strict _ in
+    goes_on (SpellsEntry S) entry_text (entry_some S) _ _ _ _ c.loop-rest.invariant
     (grind (arith, nat_tests)) c.in_ok-used.ensures.written c.bytes_from-rest.ensures c.in_ok-write_comma.ensures
 
 pub write_entries-returns : goal.write_entries-returns
 write_entries-returns t c =
-    let S = SpellsValue strict c.args.depth_left in
+    let S = SpellsValue strict _ in
     done (SpellsEntry S) entry_text (entry_some S) tt c.loop-rest.invariant (grind (arith, nat_tests))
 
 pub write_entry-returns-clause-written : goal.write_entry-returns-clause-written
 write_entry-returns-clause-written t c =
-    entry_written c.args.depth_left c.args.i.now c.split_key.result.0.now c.split_key.result.1.now c.in_ok-used.used _ _ _ _
+    entry_written _ _ _ _ _ _ _ _ _
     c.split_key.ensures.key c.split_key.ensures.rest c.in_ok-write_quoted.ensures c.in_ok-push.ensures.items c.in_ok-used.ensures.written

@@ -1,6 +1,6 @@
 -- `command_fault`: what it ensures.
-use Rattle.std.proofs.Common.{◌≡◌, true, false, sym, ◌∙◌, ap}
-use Rattle.std.specs.Prelude.{is_some, string_bytes}
+use Rattle.std.proofs.Common.{sym, ◌∙◌, ap}
+use Rattle.std.specs.Prelude.{is_some}
 use Rattle.amqp_program.specs.Commands.{command_named}
 use Rattle.amqp_program.proofs.ArgumentFaults.{after_make, after_one, after_recut, after_two, first_text, no_first, no_texts, none_at_all}
 use Rattle.amqp_program.proofs.command.command_fault.Goals as goal

@@ -1,5 +1,5 @@
 -- `run_dump`: clause `run`.
-use Rattle.amqp_program.proofs.TextRuns.{dump_reports}
+use Rattle.amqp_program.proofs.Ran.{dump_reports}
 use Rattle.amqp_program.proofs.dump_command.run_dump.Goals as goal
 
 pub returns-clause-run : goal.returns-clause-run

@@ -1,5 +1,5 @@
 -- `run_rules`: clause `run`.
-use Rattle.amqp_program.proofs.TurnRuns.{turn_reports}
+use Rattle.amqp_program.proofs.Ran.{turn_reports}
 use Rattle.amqp_program.proofs.filter_command.run_rules.Goals as goal
 
 pub returns-clause-run : goal.returns-clause-run

@@ -1,5 +1,5 @@
 -- `run_lent`: clause `run`.
-use Rattle.amqp_program.proofs.RawRuns.{raw_reports}
+use Rattle.amqp_program.proofs.Ran.{raw_reports}
 use Rattle.amqp_program.proofs.raw_command.run_lent.Goals as goal
 
 pub returns-clause-run : goal.returns-clause-run

@@ -1,5 +1,5 @@
 -- `run_recut`: clause `run`.
-use Rattle.amqp_program.proofs.TurnRuns.{turn_reports}
+use Rattle.amqp_program.proofs.Ran.{turn_reports}
 use Rattle.amqp_program.proofs.recut_command.run_recut.Goals as goal
 
 pub returns-clause-run : goal.returns-clause-run

@@ -1,7 +1,6 @@
 -- `canonical`: clauses `answer` and `place`.
 use Rattle.std.proofs.Common.{rules}
-use Rattle.amqp_program.proofs.HexPlaces.{in_slice}
-use Rattle.amqp_program.proofs.HexRuns.{answered}
+use Rattle.amqp_program.proofs.HexRuns.{answered, in_slice}
 use Rattle.amqp_program.proofs.report.canonical.Goals as goal
 
 pub returns-clause-answer : goal.returns-clause-answer

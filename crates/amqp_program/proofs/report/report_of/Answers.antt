@@ -1,6 +1,6 @@
 -- `report_of`: clause `place`.
 use Rattle.std.proofs.Common.{rules}
-use Rattle.amqp_program.proofs.HexPlaces.{hex_placed}
+use Rattle.amqp_program.proofs.HexRuns.{hex_placed}
 use Rattle.amqp_program.proofs.report.report_of.Goals as goal
 
 pub returns-in-Ok-clause-place : goal.returns-in-Ok-clause-place

@@ -1,5 +1,4 @@
 -- `rules_named`: clause `refused` where memory runs out.
-use Rattle.std.proofs.Common.{rules}
 use Rattle.amqp_program.proofs.RuleParts.{no_memory_at, refused_memory}
 use Rattle.amqp_program.proofs.rule_words.rules_named.Goals as goal
 

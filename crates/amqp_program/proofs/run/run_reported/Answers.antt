@@ -42,9 +42,8 @@ returns-in-Some-clause-nothing g c =
 
 pub returns-in-Some-words_after-clause-usage : goal.returns-in-Some-words_after-clause-usage
 returns-in-Some-words_after-clause-usage g c =
-    let other : after_word (codes "select") (texts_of c.args.words.now) ≡ None = search rules in
     let after : after_word (codes "filter") (texts_of c.args.words.now) ≡ Some (texts_of c.in-Some-words_after.rules.now) = search rules in
-    (λ e. no_filtering _ _ other after (c.run_filter.ensures.usage.0 e), λ none. c.run_filter.ensures.usage.1 (no_filter _ _ after none))
+    (λ e. no_filtering _ _ after (c.run_filter.ensures.usage.0 e), λ none. c.run_filter.ensures.usage.1 (no_filter _ _ after none))
 
 pub returns-in-Some-words_after-clause-argument : goal.returns-in-Some-words_after-clause-argument
 returns-in-Some-words_after-clause-argument g c =

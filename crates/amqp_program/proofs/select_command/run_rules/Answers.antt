@@ -1,5 +1,5 @@
 -- `run_rules`: clause `run`.
-use Rattle.amqp_program.proofs.SelectRuns.{select_reports}
+use Rattle.amqp_program.proofs.Ran.{select_reports}
 use Rattle.amqp_program.proofs.select_command.run_rules.Goals as goal
 
 pub returns-clause-run : goal.returns-clause-run

@@ -1,5 +1,5 @@
 -- `run_undump`: clause `run`.
-use Rattle.amqp_program.proofs.TextRuns.{undump_reports}
+use Rattle.amqp_program.proofs.Ran.{undump_reports}
 use Rattle.amqp_program.proofs.undump_command.run_undump.Goals as goal
 
 pub returns-clause-run : goal.returns-clause-run

@@ -1,9 +1,6 @@
--- `canonicalize`: clauses `run` and `never_untidy`.
+-- `canonicalize`: clause `run`.
 use Rattle.amqp_stream.proofs.Reporting.{without_report}
 use Rattle.amqp_stream.proofs.codec.canonicalize.Goals as goal
 
 pub returns-clause-run : goal.returns-clause-run
 returns-clause-run g c = rw c.unreported.ensures (without_report c.canonicalize_reported.ensures.run)
-
-pub returns-clause-never_untidy : goal.returns-clause-never_untidy
-returns-clause-never_untidy g c = rw c.unreported.ensures c.canonicalize_reported.ensures.never_untidy

@@ -1,7 +1,7 @@
 -- `run_with`: clauses `stream`, `spent` and `unwritten`, what loops keep, what falls with each iteration and what calls require.
 use Rattle.std.proofs.Common.{Some, refl, ap, arith}
-use Rattle.amqp_stream.proofs.Rounds.{first_round, ends_at_fault, frame_lies, frame_has_room, ends_at_frame, frame_shortens, round_after_frame, ends_unflushed}
-use Rattle.amqp_stream.proofs.Rounds.{ends_spent, ends_unread, ends_at_end, round_after_read, all_left, no_fault, no_frame}
+use Rattle.amqp_stream.proofs.Rounds.{first_round, ends_at_fault, frame_has_room, ends_at_frame, frame_shortens, round_after_frame, ends_unflushed, ends_spent}
+use Rattle.amqp_stream.proofs.Rounds.{ends_unread, ends_at_end, round_after_read, all_left, no_fault, no_frame}
 use Rattle.amqp_stream.proofs.engine.run_with.Goals as goal
 
 pub frames-init : goal.frames-init
@@ -11,22 +11,10 @@ frames-init g c = record {
   idle = λ none e. (none, ap (λ o. o.bytes) c.clear.ensures, refl);
 }
 
-pub buffered_after-requires : goal.buffered_after-requires
-buffered_after-requires g c = c.frames.invariant.round.within
-
-pub front-bytes-requires : goal.front-bytes-requires
-front-bytes-requires g c = c.frames.invariant.round.within
-
 pub returns-in-Err-clause-stream : goal.returns-in-Err-clause-stream
 returns-in-Err-clause-stream g c =
-    ends_at_fault c.in-Err.error c.frames.invariant.round c.in-Err.ensures.finds c.from.ensures
+    ends_at_fault c.frames.invariant.round c.in-Err.error c.in-Err.ensures.finds c.from.ensures
     (rw c.front-bytes.ensures at c.stop_after-error.ensures.ends) c.skip.ensures.held
-
-pub take_frame-requires-clause-within : goal.take_frame-requires-clause-within
-take_frame-requires-clause-within g c = c.frames.invariant.round.within
-
-pub take_frame-requires-clause-lies : goal.take_frame-requires-clause-lies
-take_frame-requires-clause-lies g c = frame_lies c.in-Ok-Some.ensures.finds c.in-Ok-Some.field-0-is
 
 pub take_frame-requires-clause-room : goal.take_frame-requires-clause-room
 take_frame-requires-clause-room g c = frame_has_room c.frames.invariant.round c.in-Ok-Some.ensures.finds c.in-Ok-Some.field-0-is c.requires.room
@@ -47,35 +35,26 @@ frames-preserved-in-Ok g c = record {
   idle = λ none e. absurd (no_frame _ _ (c.frames.invariant.idle none e).0 c.in-Ok-Some.ensures.finds c.in-Ok-Some.field-0-is);
 }
 
-pub front-requires : goal.front-requires
-front-requires g c = c.frames.invariant.round.within
-
 pub returns-in-Err-write_after-clause-stream : goal.returns-in-Err-write_after-clause-stream
 returns-in-Err-write_after-clause-stream g c =
     ends_unflushed c.frames.invariant.round (rw c.front.ensures at c.in-Err-write_after.ensures.written) c.skip-in-Err-write_after.ensures.held
 
-pub skip-requires : goal.skip-requires
-skip-requires g c = c.frames.invariant.round.within
-
 pub returns-then-left-eq0-clause-stream : goal.returns-then-left-eq0-clause-stream
 returns-then-left-eq0-clause-stream g c =
-    let written = rw c.front.ensures at c.in-Ok-write_after.ensures.written in
-    ends_spent c.frames.invariant.round
-    (record { done = _; written = written; rest = c.skip-in-frames.ensures.held; finds = c.in-Ok-None.ensures.finds; none = c.in-Ok-None.field-0-is })
+    ends_spent c.frames.invariant.round (rw c.front.ensures at c.in-Ok-write_after.ensures.written)
+    c.skip-in-frames.ensures.held c.in-Ok-None.ensures.finds c.in-Ok-None.field-0-is
     c.if-left-eq0.true
 
 pub returns-in-Err-fill-clause-stream : goal.returns-in-Err-fill-clause-stream
 returns-in-Err-fill-clause-stream g c =
-    let written = rw c.front.ensures at c.in-Ok-write_after.ensures.written in
-    ends_unread c.frames.invariant.round
-    (record { done = _; written = written; rest = c.skip-in-frames.ensures.held; finds = c.in-Ok-None.ensures.finds; none = c.in-Ok-None.field-0-is })
+    ends_unread c.frames.invariant.round (rw c.front.ensures at c.in-Ok-write_after.ensures.written)
+    c.skip-in-frames.ensures.held c.in-Ok-None.ensures.finds c.in-Ok-None.field-0-is
     c.if-left-eq0.false c.in-Err-fill.ensures.reads c.skip-in-frames.ensures.limit c.in-Err-fill.ensures.room
 
 pub returns-in-Ok-eq0-clause-stream : goal.returns-in-Ok-eq0-clause-stream
 returns-in-Ok-eq0-clause-stream g c =
-    let written = rw c.front.ensures at c.in-Ok-write_after.ensures.written in
-    ends_at_end c.frames.invariant.round
-    (record { done = _; written = written; rest = c.skip-in-frames.ensures.held; finds = c.in-Ok-None.ensures.finds; none = c.in-Ok-None.field-0-is })
+    ends_at_end c.frames.invariant.round (rw c.front.ensures at c.in-Ok-write_after.ensures.written)
+    c.skip-in-frames.ensures.held c.in-Ok-None.ensures.finds c.in-Ok-None.field-0-is
     c.if-left-eq0.false c.in-Ok-eq0.ensures.reads (omega arith) c.skip-in-frames.ensures.limit c.in-Ok-eq0.ensures.room c.end_of_input.ensures
 
 pub frames-preserved : goal.frames-preserved
@@ -84,12 +63,12 @@ frames-preserved g c =
     record {
       round =
           round_after_read c.frames.invariant.round
-          (record { done = _; written = written; rest = c.skip-in-frames.ensures.held; finds = c.in-Ok-None.ensures.finds; none = c.in-Ok-None.field-0-is })
+          written c.skip-in-frames.ensures.held c.in-Ok-None.ensures.finds c.in-Ok-None.field-0-is
           c.if-left-eq0.false c.in-Ok-fill.ensures.reads c.in-Ok-fill.count-test.1
-          (ap Some (omega (arith, c.saturating_add.ensures))) c.skip-in-frames.ensures.limit c.in-Ok-fill.ensures.room
+          (ap Some (omega arith)) c.skip-in-frames.ensures.limit c.in-Ok-fill.ensures.room
           c.in-Ok-fill.ensures.limit c.in-Ok-write_after.ensures.empty c.empty-stretch-in-frames.ensures;
-      unread = λ e. absurd (omega (arith, c.frames.invariant.round.going.taken.fall));
-      idle = λ none e. absurd (omega (arith, c.frames.invariant.round.going.taken.fall));
+      unread = λ e. absurd (omega arith);
+      idle = λ none e. absurd (omega arith);
     }
 
 pub returns-in-Err-clause-spent : goal.returns-in-Err-clause-spent

@@ -1,13 +1,10 @@
 -- `take_frame`: clause `takes`, and what calls require.
-use Rattle.std.proofs.Common.{drop, sym, ap, inr, ◌∙◌, arith}
+use Rattle.std.proofs.Common.{drop, sym, ap, inr, ◌∙◌}
 use Rattle.amqp_types.proofs.Bytes.{IsBytes-drop}
 use Rattle.amqp_wire.specs.declared.looking.FrameLayout.{FrameLayout}
 use Rattle.amqp_wire.specs.Looks.{laid_out}
 use Rattle.amqp_stream.proofs.Standing.{stands_taken, passed_as, refused_stops}
 use Rattle.amqp_stream.proofs.engine.take_frame.Goals as goal
-
-pub with-requires : goal.with-requires
-with-requires g c = omega (arith, c.frame_after.ensures.place)
 
 pub returns-in-Err-clause-takes : goal.returns-in-Err-clause-takes
 returns-in-Err-clause-takes g c = (

@@ -1,5 +1,5 @@
 -- `runs_add_up`: what it ensures.
-use Rattle.amqp_stream.proofs.Joining.{runs_add_up}
+use Rattle.amqp_stream.proofs.Forwarding.{runs_add_up}
 use Rattle.amqp_stream.proofs.forwarder_laws.runs_add_up.Goals as goal
 
 pub returns : goal.returns

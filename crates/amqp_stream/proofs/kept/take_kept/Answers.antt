@@ -2,7 +2,7 @@
 use Rattle.std.proofs.Common.{◌≡◌, ℕ, List, ◌++◌, length, take, drop, sym, ap, ◌∙◌, arith}
 use Rattle.std.proofs.lemmas.List.{take-append-drop, take_rest}
 use Rattle.amqp_wire.specs.Frames.{raw_of}
-use Rattle.amqp_stream.proofs.Keeping.{kept_in_place, kept_pending}
+use Rattle.amqp_stream.proofs.Standing.{kept_in_place, kept_pending}
 use Rattle.amqp_stream.proofs.kept.take_kept.Goals.{then-stretch-gt0-2, else-stretch-gt0-2}
 use Rattle.amqp_stream.proofs.kept.take_kept.Goals as goal
 
@@ -10,9 +10,9 @@ pub returns-then-bytes-pending-clause-gathers : goal.returns-then-bytes-pending-
 returns-then-bytes-pending-clause-gathers c =
     let pending = length c.bytes-pending.result.now in
     let seen = c.bytes-then-bytes-pending.result.now in
-    kept_in_place (raw_of c.frame_after-raw.result) c.requires.within c.requires.lies
-    c.frame_after-raw.ensures.frame c.push_judged.ensures.adds (ap length c.bytes-pending.ensures)
-    (omega (arith, c.if-bytes-pending.true, ap length c.bytes.ensures)) (take_rest seen pending ∙ ap (drop pending) c.bytes-then-bytes-pending.ensures)
+    kept_in_place (raw_of c.frame_after-raw.result) c.requires.lies c.frame_after-raw.ensures.frame c.push_judged.ensures.adds
+    (ap length c.bytes-pending.ensures) c.requires.within (omega (arith, ap length c.bytes.ensures))
+    (take_rest seen pending ∙ ap (drop pending) c.bytes-then-bytes-pending.ensures)
     c.replace.ensures.held c.truncate.ensures.bytes c.with.ensures
 
 pub returns-clause-gathers : goal.returns-clause-gathers
@@ -26,7 +26,7 @@ returns-clause-gathers c =
           ap (λ o. o.bytes) w.out-is ∙ w.insert.ensures.inserted ∙ ap (λ (xs : List ℕ). take pending middle ++ (xs ++ drop pending middle)) w.front.ensures
       | else-stretch-gt0-2 w ↦
           ap (λ o. o.bytes) w.out-is ∙ sym (take-append-drop pending middle)
-          ∙ ap (λ k. take pending middle ++ (take k held ++ drop pending middle)) {x = 0} {y = passed} (omega (arith, w.if-stretch-gt0-2.false))
+          ∙ ap (λ k. take pending middle ++ (take k held ++ drop pending middle)) {x = 0} {y = passed} (omega arith)
     ] in
-    kept_pending (raw_of c.frame_after-raw.result) c.requires.lies c.frame_after-raw.ensures.frame c.push_judged.ensures.adds c.push_judged.ensures.compact
-    (ap length c.bytes-pending.ensures) all c.skip.ensures.held c.empty.ensures
+    kept_pending (raw_of c.frame_after-raw.result) c.requires.lies c.frame_after-raw.ensures.frame c.push_judged.ensures.adds
+    (ap length c.bytes-pending.ensures) c.push_judged.ensures.compact all c.skip.ensures.held c.empty.ensures

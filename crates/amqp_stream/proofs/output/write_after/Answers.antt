@@ -1,12 +1,9 @@
 -- `write_after`: clause `written`.
-use Rattle.amqp_stream.proofs.Writes.{WritesAll-then, gathered_flushed, gather_failed}
+use Rattle.amqp_stream.proofs.Writes.{WritesAll-then, gathered_flushed}
 use Rattle.amqp_stream.proofs.output.write_after.Goals as goal
-
-pub returns-in-Err-clause-written : goal.returns-in-Err-clause-written
-returns-in-Err-clause-written g c = gather_failed c.in-Err.fault c.in-Err.ensures.gathers
 
 pub returns-in-Ok-clause-written : goal.returns-in-Ok-clause-written
 returns-in-Ok-clause-written g c = gathered_flushed c.in-Ok.ensures.gathers c.flush-in-Ok.ensures.written
 
 pub returns-in-Ok-flush-clause-written : goal.returns-in-Ok-flush-clause-written
-returns-in-Ok-flush-clause-written g c = WritesAll-then _ _ _ c.args.out.now.bytes c.args.bytes.now _ _ c.in-Ok-flush.ensures.written c.write_all.ensures
+returns-in-Ok-flush-clause-written g c = WritesAll-then c.in-Ok-flush.ensures.written c.write_all.ensures

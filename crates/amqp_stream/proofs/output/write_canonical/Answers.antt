@@ -1,4 +1,4 @@
--- `write_canonical`: clauses `writes` and `compact`.
+-- `write_canonical`: clause `writes`.
 use Rattle.std.proofs.Common.{Ok, Err, ap, refl}
 use Rattle.amqp_wire.specs.Frames.{raw_of}
 use Rattle.amqp_stream.proofs.Writes.{added_refused, refused_by, wrote-body, wrote-beat, wrote-proto, pushed}
@@ -25,9 +25,6 @@ returns-in-Body-clause-writes g c = wrote-body (raw_of c.args.raw) _ _ _ _ (Ok t
 
 pub returns-in-Body-2-clause-writes : goal.returns-in-Body-2-clause-writes
 returns-in-Body-2-clause-writes g c = rw c.as_stream.ensures (wrote-body (raw_of c.args.raw) _ _ _ _ _ c.in-Body-2.is c.write_body.ensures.gathers)
-
-pub returns-in-Body-2-clause-compact : goal.returns-in-Body-2-clause-compact
-returns-in-Body-2-clause-compact g c = rw c.in-Body-2.is (c.write_body.ensures.compact)
 
 pub returns-in-Heartbeat-clause-writes : goal.returns-in-Heartbeat-clause-writes
 returns-in-Heartbeat-clause-writes g c = wrote-beat (raw_of c.args.raw) _ _ _ _ c.in-Heartbeat.is c.heartbeat_bytes.ensures c.push-in-Heartbeat.ensures.pushed

@@ -1,7 +1,7 @@
 -- `put_judged_after`: clause `adds`.
 use Rattle.std.proofs.Common.{◌+◌, Ok}
 use Rattle.amqp_wire.specs.Frames.{raw_of, frame_length}
-use Rattle.amqp_stream.proofs.Putting.{rewritten_after}
+use Rattle.amqp_stream.proofs.Spans.{rewritten_after}
 use Rattle.amqp_stream.proofs.output_buffer.put_judged_after.Goals as goal
 
 pub returns-clause-adds : goal.returns-clause-adds

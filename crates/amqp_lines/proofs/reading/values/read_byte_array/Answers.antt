@@ -7,5 +7,5 @@ use Rattle.amqp_lines.proofs.reading.values.read_byte_array.Goals as goal
 pub returns : goal.returns
 unfolding read_byte_array
 returns c =
-    framed_read 4 _ (read_hex c.args.i.now) _ _ _ _ _
+    framed_read 4 _ (read_hex _) _ _ _ _ _
     (omega arith) c.in_ok-place.ensures.place c.in_ok-place.ensures.zeros c.in_ok-rest.ensures c.put_length.ensures

@@ -10,12 +10,12 @@ characters-init c = inside_begins _ _ _ _ _ _ (search rules) c.bytes_from-rest.e
 pub characters-preserved : goal.characters-preserved
 characters-preserved c =
     goes_on _ _ _ (listed read_escaped 34 (c.characters.left - 1)) _ _ _ _ c.characters.invariant
-    (listed_next read_escaped 34 c.characters.left (c.characters.left - 1) _ (omega arith) refl (sym c.ends_at.ensures ∙ c.if-ends_at.false))
+    (listed_next read_escaped 34 _ (c.characters.left - 1) _ (omega arith) refl (sym c.ends_at.ensures ∙ c.if-ends_at.false))
     c.in_ok-next.ensures
 
 pub returns-then-ends_at : goal.returns-then-ends_at
 returns-then-ends_at c =
-    stops _ _ _ _ _ _ c.characters.invariant (listed_over read_escaped 34 c.characters.left _ (sym c.ends_at.ensures ∙ c.if-ends_at.true)) (search rules)
+    stops _ _ _ _ _ _ c.characters.invariant (listed_over read_escaped 34 _ _ (sym c.ends_at.ensures ∙ c.if-ends_at.true)) (search rules)
 
 pub returns : goal.returns
-returns c = stops _ _ _ _ _ _ c.characters.invariant (listed_none read_escaped 34 c.characters.left _ (omega arith)) (search rules)
+returns c = stops _ _ _ _ _ _ c.characters.invariant (listed_none read_escaped 34 _ _ (omega arith)) (search rules)

@@ -15,7 +15,7 @@ pub returns-in-Fault : goal.returns-in-Fault
 returns-in-Fault c =
     let mark = sym c.in-Fault.is ∙ c.step-stepped.ensures.mark ∙ ap (λ p. mark_after greatest p c.outline_raw-outline.result) c.progress.ensures in
     turn_refuses recutting refl refl c.args.self.now (raw_of c.args.raw) c.in-Fault.fault (ends.Refused (refusals.BadContent c.in-Fault.fault))
-    (typed_refused c.args.self.now (raw_of c.args.raw) c.outline_raw-outline.result c.in-Fault.fault c.requires.typed
+    (typed_refused c.args.self.now (raw_of c.args.raw) c.outline_raw-outline.result c.in-Fault.fault
     (λ frame h. ap (λ o. Some o) (c.outline_raw-outline.ensures.frame frame h)) mark)
     (c.requires.judged.frame, c.requires.judged.is, refl)
 
@@ -23,7 +23,7 @@ pub returns-in-Passed : goal.returns-in-Passed
 returns-in-Passed c =
     let mark = sym c.in-Passed.is ∙ c.step-stepped.ensures.mark ∙ ap (λ p. mark_after greatest p c.outline_raw-outline.result) c.progress.ensures in
     judged_takes recutting refl refl c.args.self.now _ _ true (raw_of c.args.raw) (decisions.Kept c.args.judged) refl
-    (typed_passed c.args.self.now (raw_of c.args.raw) c.outline_raw-outline.result c.requires.typed
+    (typed_passed c.args.self.now (raw_of c.args.raw) c.outline_raw-outline.result
     (λ frame h. ap (λ o. Some o) (c.outline_raw-outline.ensures.frame frame h)) mark)
     (refl, c.requires.judged)
 

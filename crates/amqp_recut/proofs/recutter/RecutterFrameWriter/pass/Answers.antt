@@ -1,7 +1,7 @@
 -- `RecutterFrameWriter::pass`: clause `passes`.
-use Rattle.std.proofs.Common.{true, refl, sym, subst}
+use Rattle.std.proofs.Common.{true, refl, inl, inr}
 use Rattle.amqp_wire.specs.Frames.{raw_of}
-use Rattle.amqp_recut.proofs.Stepping.{IsOutsideType, outside_passed, proto_is_outside, beat_is_outside}
+use Rattle.amqp_recut.proofs.Stepping.{outside_passed}
 use Rattle.amqp_recut.specs.Stepping.{recutting}
 use Rattle.amqp_in_turn.proofs.Judging.{judged_takes}
 use Rattle.amqp_recut.proofs.Writing.{body_kept}
@@ -9,12 +9,12 @@ use Rattle.amqp_recut.proofs.recutter.RecutterFrameWriter.pass.Goals as goal
 
 pub returns-in-Ok : goal.returns-in-Ok
 returns-in-Ok c =
-    let passed = outside_passed c.args.self.now (raw_of c.args.raw) (subst IsOutsideType (sym c.in-ProtocolHeader.is) proto_is_outside) in
+    let passed = outside_passed c.args.self.now (raw_of c.args.raw) (inl c.in-ProtocolHeader.is) in
     record { passes = judged_takes recutting refl refl c.args.self.now _ _ true (raw_of c.args.raw) c.in-Ok.decision refl passed c.in-Ok.ensures }
 
 pub returns-in-Ok-judge : goal.returns-in-Ok-judge
 returns-in-Ok-judge c =
-    let passed = outside_passed c.args.self.now (raw_of c.args.raw) (subst IsOutsideType (sym c.in-Heartbeat.is) beat_is_outside) in
+    let passed = outside_passed c.args.self.now (raw_of c.args.raw) (inr c.in-Heartbeat.is) in
     record { passes = judged_takes recutting refl refl c.args.self.now _ _ true (raw_of c.args.raw) c.in-Ok-judge.decision refl passed c.in-Ok-judge.ensures }
 
 pub returns-then-pass_body : goal.returns-then-pass_body

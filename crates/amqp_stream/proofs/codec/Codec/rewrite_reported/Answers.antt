@@ -13,7 +13,7 @@ returns-in-Plain-clause-run g c = rw c.in-Plain.is (
 
 pub returns-in-Plain-clause-memory : goal.returns-in-Plain-clause-memory
 returns-in-Plain-clause-memory g c =
-    never_out_of_memory canon_frames (transcribes _ canonical (rw (c.unrefused_report.ensures, unreported_as_run) at c.run_reported.ensures.run.0.stream))
+    never_out_of_memory canon_frames (transcribes canonical _ (rw (c.unrefused_report.ensures, unreported_as_run) at c.run_reported.ensures.run.0.stream.run))
 
 pub returns-in-Tidy-clause-run : goal.returns-in-Tidy-clause-run
 returns-in-Tidy-clause-run g c = rw c.in-Tidy.is (
@@ -24,4 +24,4 @@ returns-in-Tidy-clause-run g c = rw c.in-Tidy.is (
 pub returns-in-Tidy-clause-memory : goal.returns-in-Tidy-clause-memory
 returns-in-Tidy-clause-memory g c =
     never_out_of_memory canon_frames
-    (transcribes _ canonical (rw (c.unrefused_report-in-Tidy.ensures, unreported_as_run) at c.run_reported-in-Tidy.ensures.run.0.stream))
+    (transcribes canonical _ (rw (c.unrefused_report-in-Tidy.ensures, unreported_as_run) at c.run_reported-in-Tidy.ensures.run.0.stream.run))

@@ -1,38 +1,30 @@
 -- `FrameReader::buffered_after`: clause `finds`.
-use Rattle.std.proofs.Common.{◌≡◌, ℕ, Some, drop, refl, ap, subst}
+use Rattle.std.proofs.Common.{◌≡◌, ℕ, ◌-◌, List, Some, Err, length, take, drop, refl, ap}
 use Rattle.std.proofs.lemmas.List.{take_rest}
-use Rattle.amqp_types.specs.Judging.{fault, unknown_frame_type, bad_protocol_header, too_large, bad_frame_end}
+use Rattle.amqp_types.specs.Judging.{Fault, fault}
 use Rattle.amqp_wire.specs.HeaderScan.{scan}
+use Rattle.amqp_stream.specs.declared.errors.ReadError.{ReadError}
+use Rattle.amqp_stream.specs.declared.errors.ReadError.TheVariants as errors
+use Rattle.amqp_stream.specs.Errors.{read_fault}
+use Rattle.amqp_stream.specs.Reading.{Finds}
 use Rattle.amqp_stream.proofs.reader.FrameReader.buffered_after.Goals as goal
+
+finds_fault : {m limit : ℕ} {own held : List ℕ} (passed : ℕ) (error : ReadError) {bad : Fault} → read_fault error ≡ Some bad → m ≡ limit → own ≡ held
+    → scan (Some m) (take (length own - passed) (drop passed own)) ≡ fault bad → Finds limit (drop passed held) (Err error)
+finds_fault {own = own} passed error {bad = bad} told same all found = (bad, told, cc (take_rest own passed))
 
 pub returns-in-UnknownFrameType-clause-finds : goal.returns-in-UnknownFrameType-clause-finds
 returns-in-UnknownFrameType-clause-finds c =
-    let P : ℕ → Type 0 = λ m. scan (Some m) (drop c.args.passed c.args.self.now.held) ≡ fault unknown_frame_type in (
-      unknown_frame_type,
-      refl,
-      subst P (ap (λ h. h.limit) c.self.view_is) (rw (take_rest c.held.result.now c.args.passed, c.held.ensures.held) at c.in-UnknownFrameType.ensures.value),
-    )
+    finds_fault c.args.passed errors.UnknownFrameType refl (ap (λ h. h.limit) c.self.view_is) c.held.ensures.held c.in-UnknownFrameType.ensures.value
 
 pub returns-in-BadProtocolHeader-clause-finds : goal.returns-in-BadProtocolHeader-clause-finds
 returns-in-BadProtocolHeader-clause-finds c =
-    let P : ℕ → Type 0 = λ m. scan (Some m) (drop c.args.passed c.args.self.now.held) ≡ fault bad_protocol_header in (
-      bad_protocol_header,
-      refl,
-      subst P (ap (λ h. h.limit) c.self.view_is) (rw (take_rest c.held.result.now c.args.passed, c.held.ensures.held) at c.in-BadProtocolHeader.ensures.value),
-    )
+    finds_fault c.args.passed errors.BadProtocolHeader refl (ap (λ h. h.limit) c.self.view_is) c.held.ensures.held c.in-BadProtocolHeader.ensures.value
 
 pub returns-in-TooLarge-clause-finds : goal.returns-in-TooLarge-clause-finds
 returns-in-TooLarge-clause-finds c =
-    let P : ℕ → Type 0 = λ m. scan (Some m) (drop c.args.passed c.args.self.now.held) ≡ fault too_large in (
-      too_large,
-      refl,
-      subst P (ap (λ h. h.limit) c.self.view_is) (rw (take_rest c.held.result.now c.args.passed, c.held.ensures.held) at c.in-TooLarge.ensures.value),
-    )
+    finds_fault c.args.passed errors.TooLarge refl (ap (λ h. h.limit) c.self.view_is) c.held.ensures.held c.in-TooLarge.ensures.value
 
 pub returns-in-BadFrameEnd-clause-finds : goal.returns-in-BadFrameEnd-clause-finds
 returns-in-BadFrameEnd-clause-finds c =
-    let P : ℕ → Type 0 = λ m. scan (Some m) (drop c.args.passed c.args.self.now.held) ≡ fault bad_frame_end in (
-      bad_frame_end,
-      refl,
-      subst P (ap (λ h. h.limit) c.self.view_is) (rw (take_rest c.held.result.now c.args.passed, c.held.ensures.held) at c.in-BadFrameEnd.ensures.value),
-    )
+    finds_fault c.args.passed errors.BadFrameEnd refl (ap (λ h. h.limit) c.self.view_is) c.held.ensures.held c.in-BadFrameEnd.ensures.value

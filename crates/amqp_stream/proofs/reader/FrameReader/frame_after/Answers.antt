@@ -1,20 +1,9 @@
--- `FrameReader::frame_after`: what it ensures, and sums that fit.
+-- `FrameReader::frame_after`: clauses `frame` and `few`.
 use Rattle.std.proofs.Common.{List, ℕ, length, refl, ap, arith}
-use Rattle.std.proofs.lemmas.List.{length-drop}
 use Rattle.amqp_wire.proofs.HeaderScan.{scan-in_bounds}
 use Rattle.amqp_stream.proofs.Spans.{part-behind}
 use Rattle.amqp_stream.proofs.reader.FrameReader.frame_after.Goals as goal
 use Rattle.amqp_wire.proofs.Looked.{raw_with}
-
-pub overflow_add-start : goal.overflow_add-start
-overflow_add-start c = omega (
-  arith,
-  c.requires.lies.payload_inside,
-  c.requires.lies.inside,
-  length-drop c.args.passed c.args.self.now.held,
-  c.held-held.ensures.room,
-  c.held-held.ensures.limit,
-)
 
 pub returns-clause-frame : goal.returns-clause-frame
 returns-clause-frame c =
@@ -32,8 +21,3 @@ returns-clause-few c =
       bounds.payload c.args.self.now.limit refl,
       c.held-held.ensures.limit,
     )
-
-pub returns-clause-place : goal.returns-clause-place
-returns-clause-place c =
-    omega
-    (arith, c.requires.passed, c.requires.lies.inside, length-drop c.args.passed c.args.self.now.held, c.held-held.ensures.room, c.held-held.ensures.limit)

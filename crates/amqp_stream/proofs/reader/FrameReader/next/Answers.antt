@@ -11,37 +11,36 @@ use Rattle.amqp_wire.proofs.Looked.{raw_with}
 
 pub returns-in-Err : goal.returns-in-Err
 returns-in-Err g c =
-    let m = c.args.self.now.limit in
+    let ran = c.in-Err.ensures in
     let P : Holding → Type 0 = λ h.
     HasNext IsBorrowed (g.S.Source.supply c.args.source.now ⇒ g.S.Source.supply c.pull.new.source)
     (c.args.budget.now ⇒ c.pull.new.budget) (c.args.self.now ⇒ h) (Err c.in-Err.error) in
-    let next : P c.pull.new.self = err_as LiesIn IsBorrowed c.in-Err.error c.in-Err.ensures.pulls in (
-      (refl, λ _. tt, subst P (sym c.self.view_is) (next)),
+    let next : P c.pull.new.self = err_as LiesIn IsBorrowed c.in-Err.error ran.pulls in (
+      (refl, λ _. tt, subst P (sym c.self.view_is) next),
       record {
-        fits = omega (arith, c.self.invariant.2, ap (λ h. h.limit) c.self.view_is, c.in-Err.ensures.pulls.limit);
+        fits = omega (arith, c.self.invariant.2, ap (λ h. h.limit) c.self.view_is, ran.pulls.limit);
         few = tt;
         returns = (c.pull.new.self, next);
-        decided = λ h. c.in-Err.ensures.unread (c.in-Err.ensures.pulls.decided h);
-        unread = λ zero. c.in-Err.ensures.unread (omega (arith, c.in-Err.ensures.pulls.budget_falls, zero));
+        decided = λ h. ran.unread (ran.pulls.decided h);
+        unread = λ zero. ran.unread (omega (arith, ran.pulls.budget_falls));
         after = tt;
       },
     )
 
 pub returns-in-Ok-None : goal.returns-in-Ok-None
 returns-in-Ok-None g c =
-    let m = c.args.self.now.limit in
-    let P : Holding → Type 0 =
-    λ h. HasNext IsBorrowed (g.S.Source.supply c.args.source.now ⇒ g.S.Source.supply c.pull.new.source)
+    let ran = c.in-Ok-None.ensures in
+    let P : Holding → Type 0 = λ h.
+    HasNext IsBorrowed (g.S.Source.supply c.args.source.now ⇒ g.S.Source.supply c.pull.new.source)
     (c.args.budget.now ⇒ c.pull.new.budget) (c.args.self.now ⇒ h) (Ok None) in
-    let pulls = rw c.in-Ok-None.field-0-is at c.in-Ok-None.ensures.pulls in
-    let next : P c.pull.new.self = none_as LiesIn IsBorrowed pulls in (
-      (refl, λ _. tt, subst P (sym c.self.view_is) (next)),
+    let next : P c.pull.new.self = none_as LiesIn IsBorrowed (rw c.in-Ok-None.field-0-is at ran.pulls) in (
+      (refl, λ _. tt, subst P (sym c.self.view_is) next),
       record {
-        fits = omega (arith, c.self.invariant.2, ap (λ h. h.limit) c.self.view_is, c.in-Ok-None.ensures.pulls.limit);
+        fits = omega (arith, c.self.invariant.2, ap (λ h. h.limit) c.self.view_is, ran.pulls.limit);
         few = tt;
         returns = (c.pull.new.self, next);
-        decided = λ h. c.in-Ok-None.ensures.unread (c.in-Ok-None.ensures.pulls.decided h);
-        unread = λ zero. c.in-Ok-None.ensures.unread (omega (arith, c.in-Ok-None.ensures.pulls.budget_falls, zero));
+        decided = λ h. ran.unread (ran.pulls.decided h);
+        unread = λ zero. ran.unread (omega (arith, ran.pulls.budget_falls));
         after = tt;
       },
     )
@@ -52,18 +51,19 @@ returns-in-Ok-Some g c =
     let span = c.self.inside.span in
     let buf = c.self.inside.buf.items in
     let layout = c.in-Ok-Some.layout in
-    let pulls = rw c.in-Ok-Some.field-0-is at c.in-Ok-Some.ensures.pulls in
+    let ran = c.in-Ok-Some.ensures in
+    let pulls = rw c.in-Ok-Some.field-0-is at ran.pulls in
     let lies = pulls.ends.0 in
-    let same = ap (λ h. h.limit) c.self.view_is ∙ c.in-Ok-Some.ensures.pulls.limit in
-    let within : span.end ≤ length buf = omega (arith, c.self.invariant.0.within, c.deref.ensures.len, ap length c.deref.ensures.value) in
+    let same = ap (λ h. h.limit) c.self.view_is ∙ ran.pulls.limit in
+    let within : span.end ≤ length buf = omega (arith, ap length c.deref.ensures.value) in
     let long = part-length buf span.start span.end c.self.invariant.0.ordered within in
     let inside : layout.payload_start + layout.payload_len ≤ span.end - span.start =
-    omega (arith, lies.payload_inside, lies.inside, long, ap length pulls.ends.1, ap (λ h. length h.held) c.self.view_is) in
+    omega (arith, ap length pulls.ends.1, ap (λ h. length h.held) c.self.view_is) in
     let payload =
     part-frame buf c.deref.result.now span.start span.end layout.payload_start layout.payload_len c.deref.ensures.value c.self.invariant.0.ordered inside in
     let raw = ap (λ (xs : List ℕ). raw_with layout xs) payload ∙ ap (λ h. laid_out layout h.held) c.self.view_is in
     let rest = part-drop buf span.start span.end layout.frame_len ∙ ap (λ h. drop layout.frame_len h.held) c.self.view_is in
-    let fits : m < 2 ^ 32 = omega (arith, c.self.invariant.2, same) in
+    let fits : m < 2 ^ 32 = omega arith in
     let next = some_as layout _ pulls same raw rest in
     let bounds = scan-in_bounds _ _ _ _ lies.found in (
       (refl, λ _. tt, next),
@@ -78,8 +78,8 @@ returns-in-Ok-Some g c =
           fits,
         );
         returns = (_, next);
-        decided = λ h. c.in-Ok-Some.ensures.unread (c.in-Ok-Some.ensures.pulls.decided h);
-        unread = λ zero. c.in-Ok-Some.ensures.unread (omega (arith, c.in-Ok-Some.ensures.pulls.budget_falls, zero));
+        decided = λ h. ran.unread (ran.pulls.decided h);
+        unread = λ zero. ran.unread (omega arith);
         after = tt;
       },
     )

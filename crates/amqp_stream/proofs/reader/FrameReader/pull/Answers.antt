@@ -1,4 +1,4 @@
--- `FrameReader::pull`: clauses `pulls` and `unread`, and what loops keep.
+-- `FrameReader::pull`: clause `pulls`, and what loops keep.
 use Rattle.std.proofs.Common.{Ok, Err, Some, refl, ◌∙◌, arith}
 use Rattle.amqp_stream.specs.declared.errors.ReadError.TheVariants as errors
 use Rattle.amqp_stream.specs.Reading.{LiesIn}
@@ -36,8 +36,8 @@ pub returns-in-Ok-eq0-2-clause-pulls : goal.returns-in-Ok-eq0-2-clause-pulls
 returns-in-Ok-eq0-2-clause-pulls g c =
     let run = c.reads.invariant in
     let more = rw (c.in-Ok-None.field-0-is, run.limit) at c.in-Ok-None.ensures.finds in
-    ends_short LiesIn c.in-Ok-eq0.field-0-test (c.in-Ok-eq0.ensures.limit ∙ run.limit) run.pulled
-    c.in-Ok-None.ensures.bytes (omega arith) more c.in-Ok-eq0.ensures.reads
+    ends_short LiesIn (c.in-Ok-eq0.ensures.limit ∙ run.limit) run.pulled
+    c.in-Ok-None.ensures.bytes (omega arith) more c.in-Ok-eq0.field-0-test c.in-Ok-eq0.ensures.reads
     (rw run.limit at c.in-Ok-eq0.ensures.room) (λ none. absurd (let told = c.is_empty.ensures.1 none in let empty = c.if-is_empty.false in cc))
 
 pub reads-preserved : goal.reads-preserved
@@ -47,15 +47,6 @@ reads-preserved g c =
     let read = c.in-Ok.ensures.reads in
     record {
       limit = c.in-Ok.ensures.limit ∙ run.limit;
-      pulled = Pulled-more 0 run.pulled (omega arith) more read (omega (arith, read.ok, c.in-Ok.field-0-test.1));
-      unread = λ e. absurd (omega (arith, run.pulled.budget_falls));
+      pulled = Pulled-more 0 run.pulled (omega arith) more read (omega arith);
+      unread = λ e. absurd (omega arith);
     }
-
-pub returns-in-Err-fill-clause-unread : goal.returns-in-Err-fill-clause-unread
-returns-in-Err-fill-clause-unread g c = λ e. absurd (omega (arith, c.reads.invariant.pulled.budget_falls))
-
-pub returns-in-Ok-eq0-clause-unread : goal.returns-in-Ok-eq0-clause-unread
-returns-in-Ok-eq0-clause-unread g c = λ e. absurd (omega (arith, c.reads.invariant.pulled.budget_falls))
-
-pub returns-in-Ok-eq0-2-clause-unread : goal.returns-in-Ok-eq0-2-clause-unread
-returns-in-Ok-eq0-2-clause-unread g c = λ e. absurd (omega (arith, c.reads.invariant.pulled.budget_falls))
