@@ -2,15 +2,15 @@
 use Rattle.std.proofs.Common.{◌≡◌, ◌≤◌, ℕ, List, length, take, Some, None, Result, Ok, Err, sym, ap, subst, ◌∙◌, arith}
 use Rattle.std.specs.Prelude.{IfOk}
 use Rattle.std.proofs.lemmas.Bool.Decides.{nat_tests}
-use Rattle.amqp_fields.specs.declared.refusals.WriteError.{WriteError}
-use Rattle.amqp_fields.specs.declared.refusals.WriteError.TheVariants as failures
-use Rattle.amqp_fields.specs.declared.refusals.WriteRefusal.{WriteRefusal}
-use Rattle.amqp_fields.specs.declared.refusals.WriteRefusal.TheVariants as whys
+use Rattle.amqp_fields_write.specs.declared.refusals.WriteError.{WriteError}
+use Rattle.amqp_fields_write.specs.declared.refusals.WriteError.TheVariants as failures
+use Rattle.amqp_fields_write.specs.declared.refusals.WriteRefusal.{WriteRefusal}
+use Rattle.amqp_fields_write.specs.declared.refusals.WriteRefusal.TheVariants as whys
 use Rattle.amqp_types.specs.declared.errors.ParserError.TheVariants as errors
-use Rattle.amqp_fields.specs.Makes.{cut_long}
-use Rattle.amqp_fields.specs.Canonical.{AreCanonicalInOrder}
-use Rattle.amqp_fields.specs.Making.{EncodesEntries, EncodesFrames, EncodesUnless, EncodesValues, RefusesFirst, Writes}
-use Rattle.amqp_fields.specs.Meant.{TellFrames}
+use Rattle.amqp_fields_write.specs.Makes.{cut_long}
+use Rattle.amqp_fields_write.specs.Canonical.{AreCanonicalInOrder}
+use Rattle.amqp_fields_write.specs.Making.{EncodesEntries, EncodesFrames, EncodesUnless, EncodesValues, RefusesFirst, Writes}
+use Rattle.amqp_fields_write.specs.Meant.{TellFrames}
 use Rattle.amqp_types.specs.Levels.{plain}
 use Rattle.amqp_wire.specs.Frames.{Frame}
 use Rattle.amqp_wire.specs.Spelling.{SpellsFrames}

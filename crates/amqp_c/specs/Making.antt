@@ -11,13 +11,14 @@ use Rattle.amqp_types.specs.declared.tag.FieldTag.TheVariants as tag
 use Rattle.amqp_stream.specs.Errors.{stream_error_status}
 use Rattle.amqp_fields.specs.declared.head.Head.{Head}
 use Rattle.amqp_fields.specs.declared.node.Node.{Node}
-use Rattle.amqp_fields.specs.declared.refusals.WriteError.{WriteError}
-use Rattle.amqp_fields.specs.declared.refusals.WriteError.TheVariants as failures
-use Rattle.amqp_fields.specs.declared.refusals.WriteRefusal.{WriteRefusal}
-use Rattle.amqp_fields.specs.declared.refusals.WriteRefusal.TheVariants as whys
-use Rattle.amqp_fields.specs.Makes.{cut_long}
-use Rattle.amqp_fields.specs.Making.{EncodesEntries, EncodesUnless, EncodesValues, RefusesFirst}
-use Rattle.amqp_fields.specs.Making.{made_entries, made_values}
+use Rattle.amqp_fields_write.specs.declared.refusals.WriteError.{WriteError}
+use Rattle.amqp_fields_write.specs.declared.refusals.WriteError.TheVariants as failures
+use Rattle.amqp_fields_write.specs.declared.refusals.WriteRefusal.{WriteRefusal}
+use Rattle.amqp_fields_write.specs.declared.refusals.WriteRefusal.TheVariants as whys
+use Rattle.amqp_fields_write.specs.Makes.{cut_long}
+use Rattle.amqp_fields_write.specs.Making.{EncodesEntries, EncodesUnless}
+use Rattle.amqp_fields_write.specs.Making.{EncodesValues, RefusesFirst}
+use Rattle.amqp_fields_write.specs.Making.{made_entries, made_values}
 use Rattle.amqp_fields.specs.Nodes.{cut}
 use Rattle.amqp_c.specs.declared.writing.Written.{Written}
 use Rattle.amqp_c.specs.Batches.{frame_error}

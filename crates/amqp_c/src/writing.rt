@@ -3,11 +3,11 @@
 ghost use Rattle.std.specs.Prelude.{◌≡◌, ℕ, List, take};
 ghost use Rattle.amqp_types.specs.Tags.{tag_at};
 ghost use Rattle.amqp_wire.specs.Frames.{Frame};
-ghost use Rattle.amqp_fields.specs.Canonical.{AreCanonicalInOrder};
-ghost use Rattle.amqp_fields.specs.MadeFrames.{made_frames};
-ghost use Rattle.amqp_fields.specs.Making.{EncodesEntries, EncodesFrames, EncodesValues};
-ghost use Rattle.amqp_fields.specs.Making.{made_entries, made_values};
-ghost use Rattle.amqp_fields.specs.Meant.{TellFrames};
+ghost use Rattle.amqp_fields_write.specs.Canonical.{AreCanonicalInOrder};
+ghost use Rattle.amqp_fields_write.specs.MadeFrames.{made_frames};
+ghost use Rattle.amqp_fields_write.specs.Making.{EncodesEntries, EncodesFrames, EncodesValues};
+ghost use Rattle.amqp_fields_write.specs.Making.{made_entries, made_values};
+ghost use Rattle.amqp_fields_write.specs.Meant.{TellFrames};
 ghost use Rattle.amqp_fields.specs.Nodes.{cut};
 ghost use Rattle.amqp_c.specs.Making.{EncodesContent, Reports, ReportsMeant};
 ghost use Rattle.amqp_c.specs.Making.{all_written, content_made};
@@ -16,9 +16,8 @@ ghost use Rattle.amqp_c.specs.Making.{refusal_status, report_of};
 
 use crate::frames::frame_error;
 use crate::statuses::{BAD_ARGUMENT, BUFFER_TOO_SMALL, TOO_LONG};
-use amqp_fields::{
-    Head, Node, WriteError, WriteRefusal, write_entries, write_frames, write_values,
-};
+use amqp_fields::{Head, Node};
+use amqp_fields_write::{WriteError, WriteRefusal, write_entries, write_frames, write_values};
 use amqp_stream::StreamError;
 use amqp_types::FieldTag;
 

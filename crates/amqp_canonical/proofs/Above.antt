@@ -9,7 +9,7 @@ use Rattle.std.specs.declared.cmp.Ordering.TheVariants.{Less, Greater}
 use Rattle.amqp_types.specs.Judging.{IsBytes}
 use Rattle.amqp_canonical.specs.Judgements.{IsBelow}
 use Rattle.amqp_canonical.specs.Leads.{leading}
-use Rattle.amqp_canonical.proofs.Leading.{leading-tells, later-tells}
+use Rattle.amqp_canonical.proofs.Leading.{leading-tells, next-tells}
 
 -- no two keys each come before the other
 not_both : (a b : List ℕ) → IsBelow a b → IsBelow b a → ⊥
@@ -35,8 +35,8 @@ lead_decides a b x y fa fb first second differ =
 pub next_decide : (a b : List ℕ) (x y : ℕ) → IsBytes a → IsBytes b → leading 8 a ≡ leading 8 b
     → x ≡ leading 2 (drop 8 a) → y ≡ leading 2 (drop 8 b) → (x ≡ y → ⊥) → IsTrue (nat_lt x y) ↔ IsBelow a b
 next_decide a b x y fa fb same first second differ =
-    numbers_decide a b x y differ (λ less. later-tells 8 2 a b fa fb same (omega (arith, first, second, less)))
-    (λ more. later-tells 8 2 b a fb fa (sym same) (omega (arith, first, second, more)))
+    numbers_decide a b x y differ (λ less. next-tells a b fa fb same (omega (arith, first, second, less)))
+    (λ more. next-tells b a fb fa (sym same) (omega (arith, first, second, more)))
 
 -- the first bytes of an empty key
 pub none_leads : 0 ≡ leading 8 []

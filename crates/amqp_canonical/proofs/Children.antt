@@ -2,7 +2,7 @@
 use Rattle.std.proofs.Common.{◌≡◌, ℕ, zero, suc, ◌+◌, ◌<◌, ◌≤◌, ◌↔◌, ◌⊎◌, inl, inr, Bool, true, false, ◌&&◌, IsTrue, List, [], ◌∷◌, ◌++◌, length, take, drop}
 use Rattle.std.proofs.Common.{Ok, refl, sym, ap, ap₂, subst, ◌∙◌, append-nil, append_assoc, arith, true≢false}
 use Rattle.std.proofs.lemmas.Cmp.{nat_list_cmp_total}
-use Rattle.std.proofs.lemmas.List.{length-append, length-take-le, length-drop, drop-drop}
+use Rattle.std.proofs.lemmas.List.{length-append, length-take-le, length-drop, drop-drop, take_all}
 use Rattle.std.proofs.Math.Seq.{take-add}
 use Rattle.std.specs.Cmp.Lexicographic.{slice_cmp}
 use Rattle.std.specs.List.{AllByRecursion}
@@ -10,7 +10,7 @@ use Rattle.std.specs.List.Sorted.{IsStrictlySortedBy}
 use Rattle.std.specs.Map.{keys_of}
 use Rattle.std.specs.Ordering.{nat_cmp}
 use Rattle.amqp_types.specs.Levels.{plain}
-use Rattle.amqp_types.specs.Judging.{took, IsBytes}
+use Rattle.amqp_types.specs.Judging.{Judge, took, IsBytes}
 use Rattle.amqp_types.specs.Strings.{short_string_bytes}
 use Rattle.amqp_types.specs.Settling.{IsRising}
 use Rattle.amqp_types.specs.Values.{FieldValue, Entry, values_of, entries_of}
@@ -24,7 +24,7 @@ use Rattle.amqp_laws.proofs.Exactly.{value_exact}
 use Rattle.amqp_laws.proofs.Bounded.{value_bounded}
 use Rattle.amqp_laws.proofs.Settling.{none_risen}
 use Rattle.std.specs.declared.cmp.Ordering.{Ordering}
-use Rattle.std.specs.declared.cmp.Ordering.TheVariants.{Less, Equal, Greater}
+use Rattle.std.specs.declared.cmp.Ordering.TheVariants.{Less}
 use Rattle.amqp_canonical.specs.Judgements.{IsAbove, IsBelow, AreCanonicalValues, AreCanonicalEntries, Fills}
 use Rattle.amqp_canonical.specs.Writes.{entry_bytes}
 use Rattle.amqp_canonical.proofs.LastOfEachKey.{all_at_last}
@@ -52,9 +52,9 @@ pub record EntriesTo (room : ℕ) (content : List ℕ) (at : ℕ) (previous : Li
 -- ---- tests
 
 -- Where two tests decide, their conjunction decides whether both hold.
-pub both_decided : (b c : Bool) (P Q : Type 0) → IsTrue b ↔ P → IsTrue c ↔ Q → IsTrue (b && c) ↔ (P × Q)
-both_decided true c P Q h k = (λ t. (h.0 refl, k.0 t), λ p. k.1 p.1)
-both_decided false c P Q h k = (λ t. absurd (true≢false (sym t)), λ p. h.1 p.0)
+pub both_decided : {b c : Bool} {P Q R : Type 0} → IsTrue b ↔ P → IsTrue c ↔ Q → P × Q ↔ R → IsTrue (b && c) ↔ R
+both_decided {b = true} {c = c} h k r = (λ t. r.0 (h.0 refl, k.0 t), λ x. let p = r.1 x in k.1 p.1)
+both_decided {b = false} {c = c} h k r = (λ t. absurd (true≢false (sym t)), λ x. let p = r.1 x in h.1 p.0)
 
 -- A test that decides one statement decides each equivalent one.
 pub decided_as : (b : Bool) (P Q : Type 0) → IsTrue b ↔ P → (P → Q) → (Q → P) → IsTrue b ↔ Q
@@ -72,13 +72,6 @@ split_two (c ∷ a) b (d ∷ x) y h few less =
     let others : a ++ b ≡ x ++ y = cc in
     let more = split_two a b x y others (omega (arith, few)) less in
     (ap₂ (λ e es. e ∷ es) first more.0, more.1)
-
--- As many first bytes as there are, or more, are all bytes.
-pub take_all : (content : List ℕ) (at : ℕ) → length content ≤ at → take at content ≡ content
-take_all [] zero h = refl
-take_all [] (suc at) h = refl
-take_all (b ∷ content) zero h = absurd (omega arith)
-take_all (b ∷ content) (suc at) h = ap (λ bs. b ∷ bs) (take_all content at (omega arith))
 
 -- what stands up to a place, and after it
 module _ (content : List ℕ) (at n : ℕ) (old new : List ℕ) (within : at ≤ length content)
@@ -100,10 +93,18 @@ values_last (w ∷ vs) v = ap (λ bs. tagged_bytes w ++ bs) (values_last vs v) �
 -- The canonical bytes of a decoded value are at most the bytes that it took.
 pub value_few : (room : ℕ) (bytes : List ℕ) (v : FieldValue) (n : ℕ) → IsBytes bytes → judge_value room bytes ≡ took v n → length (tagged_bytes v) ≤ n
 value_few room bytes v n fits h =
-    let exact = value_exact room in
-    let one = exact.spelled bytes v n fits h in
+    let one = (value_exact room).spelled bytes v n fits h in
     let b = value_bounded room (take n bytes) v one.0 in
     omega (arith, b.shorter, length-take-le n bytes one.1)
+
+things_end : {A : Type 0} (judge : Judge A) (AreCanonical : List ℕ → List A → Type 0) (content : List ℕ) (at : ℕ) (canonical : Bool)
+    → length content ≤ at → (things : List A) → after things (filled judge 0 (drop at content)) ≡ filled judge 0 content
+    → IsTrue canonical ↔ AreCanonical (take at content) things → Fills AreCanonical canonical content (filled judge 0 content)
+things_end judge AreCanonical content at canonical long things rest decides = record {
+  thing = things;
+  is = ends judge (λ xs. things ++ xs) at content _ long rest ∙ ap Ok (append-nil things);
+  decides = subst (λ bs. IsTrue canonical ↔ AreCanonical bs things) (take_all at content long) decides;
+}
 
 -- Up to the start there are no values, and the empty bytes are canonical.
 pub values_none : (room : ℕ) (content : List ℕ) → ValuesTo room content 0 true
@@ -115,31 +116,24 @@ pub values_next : (room : ℕ) (content : List ℕ) (at n : ℕ) (v : FieldValue
     → at < length content → judge_value room (drop at content) ≡ took v n → 0 < n → n ≤ length (drop at content)
     → IsTrue d ↔ (take n (drop at content) ≡ tagged_bytes v) → ValuesTo room content at canonical → ValuesTo room content (at + n) (canonical && d)
 values_next room content at n v canonical d bytes more is up fits decides h =
-    let some : 0 < length (drop at content) = omega (arith, length-drop at content) in
-    let next = goes_on (judge_value room) h.things v n (drop at content) _ some is up fits h.rest in
-    let few = value_few room (drop at content) v n (IsBytes-drop at content bytes) is in
+    let few = value_few _ _ _ _ (IsBytes-drop at content bytes) is in
     let within : at ≤ length content = omega (arith, more) in
     let old = values_bytes (values_of h.things) in
     let last = values_last h.things v in
     record {
       things = h.things ++ v ∷ [];
-      rest = ap (λ bs. after (h.things ++ v ∷ []) (filled (judge_value room) 0 bs)) (sym (drop-drop n at content)) ∙ next;
-      decides = decided_as (canonical && d) _ _ (both_decided canonical d _ _ h.decides decides)
-          (λ p. stands_both content at n old (tagged_bytes v) within fits h.shorter few p ∙ sym last)
-          (λ q. stands_each content at n old (tagged_bytes v) within fits h.shorter few (q ∙ last));
+      rest = rw (← drop-drop n at content) (goes_on _ _ _ _ _ _ (omega (arith, more, length-drop at content)) is up fits h.rest);
+      decides = both_decided h.decides decides (
+        λ p. stands_both _ _ _ _ _ within fits h.shorter few p ∙ sym last,
+        λ q. stands_each _ _ _ _ _ within fits h.shorter few (q ∙ last),
+      );
       shorter = omega (arith, ap length last, length-append old (tagged_bytes v), h.shorter, few);
     }
 
 -- Where the values reach the end of the content, they fill it, and it is said whether they are canonical.
 pub values_end : (room : ℕ) (content : List ℕ) (at : ℕ) (canonical : Bool) → length content ≤ at
     → ValuesTo room content at canonical → Fills AreCanonicalValues canonical content (filled (judge_value room) 0 content)
-values_end room content at canonical long h =
-    let P : List ℕ → Type 0 = λ bs. IsTrue canonical ↔ AreCanonicalValues bs h.things in
-    record {
-      thing = h.things;
-      is = ends (judge_value room) (λ xs. h.things ++ xs) at content _ long h.rest ∙ ap Ok (append-nil h.things);
-      decides = subst P (take_all content at long) h.decides;
-    }
+values_end room content at canonical long h = things_end _ AreCanonicalValues _ _ _ long _ h.rest h.decides
 
 -- ---- keys in ascending order
 
@@ -176,29 +170,19 @@ last_below [] p e s = s.0.0
 last_below (x ∷ es) p e s = last_below es p e s.1
 
 module _ (at : ℕ) (previous key : List ℕ) (v : FieldValue) (above : Bool) where
-  abbrev IsRisingMore : List Entry → Type 0
-  IsRisingMore things = IsRising (things ++ (key, v) ∷ [])
-
-  rises_more : (things : List Entry) → IsLast at previous things → IsAbove at previous key above → IsRising things → IsTrue above → IsRisingMore things
-  rises_more things (inl none) (inl a) s t =
-      let P : List Entry → Type 0 = λ es. IsRisingMore es in
-      subst P (sym none.1) (rising_last [] (key, v) none_risen tt)
-  rises_more things (inl none) (inr a) s t = absurd (omega (arith, none.0, a.0))
-  rises_more things (inr one) (inl a) s t = absurd (omega (arith, one.0, a.0))
-  rises_more things (inr one) (inr a) s t =
-      let P : List Entry → Type 0 = λ es. IsRisingMore es in
-      let R : List Entry → Type 0 = λ es. IsRising es in
-      let p : Entry = (previous, one.2) in
-      let front = subst R one.3 s in
-      subst P (sym one.3) (rising_last (one.1 ++ p ∷ []) (key, v) front (all_below one.1 p key front (a.1.0 t)))
-
-  rises_less : (things : List Entry) → IsLast at previous things → IsAbove at previous key above → IsRisingMore things → IsRising things × IsTrue above
-  rises_less things (inl none) (inl a) s = (rising_before things (key, v) s, a.1)
-  rises_less things (inl none) (inr a) s = absurd (omega (arith, none.0, a.0))
-  rises_less things (inr one) (inl a) s = absurd (omega (arith, one.0, a.0))
-  rises_less things (inr one) (inr a) s =
-      let P : List Entry → Type 0 = λ es. IsRisingMore es in
-      (rising_before things (key, v) s, a.1.1 (last_below one.1 (previous, one.2) (key, v) (subst P one.3 s)))
+  -- one entry more keeps them in order exactly where its key comes after the previous one
+  rises : (things : List Entry) → IsLast at previous things → IsAbove at previous key above
+      → IsRising things × IsTrue above ↔ IsRising (things ++ (key, v) ∷ [])
+  rises things (inl none) (inl a) = (λ p. rw none.1 (rising_last [] (key, v) none_risen tt), λ s. (rising_before things (key, v) s, a.1))
+  rises things (inl none) (inr a) = absurd (omega (arith, none.0, a.0))
+  rises things (inr one) (inl a) = absurd (omega (arith, one.0, a.0))
+  rises things (inr one) (inr a) =
+      let p : Entry = (previous, one.2) in (
+        λ h.
+            let front = subst (λ es. IsRising es) one.3 h.0 in
+            rw one.3 (rising_last (one.1 ++ p ∷ []) (key, v) front (all_below one.1 p key front (a.1.0 h.1))),
+        λ s. (rising_before things (key, v) s, a.1.1 (last_below one.1 p (key, v) (subst (λ es. IsRising (es ++ (key, v) ∷ [])) one.3 s))),
+      )
 
 -- ---- entries
 
@@ -209,8 +193,7 @@ entries_last (x ∷ es) e =
 
 entry_few : (room : ℕ) (bytes : List ℕ) (e : Entry) (n : ℕ) → IsBytes bytes → judge_entry (judge_value room) bytes ≡ took e n → length (entry_bytes e) ≤ n
 entry_few room bytes e n fits h =
-    let exact = entry_exact (judge_value room) (SpellsValue plain room) (value_exact room) in
-    let one = exact.spelled bytes e n fits h in
+    let one = (entry_exact (judge_value room) (SpellsValue plain room) (value_exact room)).spelled bytes e n fits h in
     let s = one.0 in
     let b = value_bounded room s.behind s.two s.second_is in
     let joined : length (entry_bytes e) ≡ length (entry_bytes (s.one, s.two)) = ap (λ (x : Entry). length (entry_bytes x)) s.joined in
@@ -242,25 +225,21 @@ pub entries_next : (room : ℕ) (content : List ℕ) (at n : ℕ) (previous key 
     → IsAbove at previous key above → EntriesTo room content at previous canonical → EntriesTo room content (at + n) key ((canonical && d) && above)
 entries_next room content at n previous key v canonical d above bytes more is up fits decides over h =
     let e : Entry = (key, v) in
-    let some : 0 < length (drop at content) = omega (arith, length-drop at content) in
-    let next = goes_on (judge_entry (judge_value room)) h.things e n (drop at content) _ some is up fits h.rest in
-    let few = entry_few room (drop at content) e n (IsBytes-drop at content bytes) is in
+    let few = entry_few _ _ _ _ (IsBytes-drop at content bytes) is in
     let within : at ≤ length content = omega (arith, more) in
     let old = entries_bytes (entries_of h.things) in
     let last = entries_last h.things e in
-    let three = both_decided (canonical && d) above _ (IsTrue above) (both_decided canonical d _ _ h.decides decides) (λ t. t, λ t. t) in
+    let order = rises at previous key v above h.things h.last over in
     record {
       things = h.things ++ e ∷ [];
-      rest = ap (λ bs. after (h.things ++ e ∷ []) (filled (judge_entry (judge_value room)) 0 bs)) (sym (drop-drop n at content)) ∙ next;
-      decides = decided_as ((canonical && d) && above) _ _ three
-          (λ p. (
-            stands_both content at n old (entry_bytes e) within fits h.shorter few (p.0.0.0, p.0.1) ∙ sym last,
-            rises_more at previous key v above h.things h.last over p.0.0.1 p.1,
-          ))
-          (λ q.
-          let two = stands_each content at n old (entry_bytes e) within fits h.shorter few (q.0 ∙ last) in
-          let rising = rises_less at previous key v above h.things h.last over q.1 in
-          (((two.0, rising.0), two.1), rising.1));
+      rest = rw (← drop-drop n at content) (goes_on _ _ _ _ _ _ (omega (arith, more, length-drop at content)) is up fits h.rest);
+      decides = both_decided (both_decided h.decides decides (λ p. p, λ p. p)) (λ t. t, λ t. t) (
+        λ p. (stands_both _ _ _ _ _ within fits h.shorter few (p.0.0.0, p.0.1) ∙ sym last, order.0 (p.0.0.1, p.1)),
+        λ q.
+            let two = stands_each _ _ _ _ _ within fits h.shorter few (q.0 ∙ last) in
+            let rising = order.1 q.1 in
+            (((two.0, rising.0), two.1), rising.1),
+      );
       shorter = omega (arith, ap length last, length-append old (entry_bytes e), h.shorter, few);
       last = inr (omega (arith, up), h.things, v, refl);
     }
@@ -268,36 +247,18 @@ entries_next room content at n previous key v canonical d above bytes more is up
 -- Where the entries reach the end of the content, they fill it, and it is said whether they are canonical.
 pub entries_end : (room : ℕ) (content : List ℕ) (at : ℕ) (previous : List ℕ) (canonical : Bool) → length content ≤ at
     → EntriesTo room content at previous canonical → Fills AreCanonicalEntries canonical content (filled (judge_entry (judge_value room)) 0 content)
-entries_end room content at previous canonical long h =
-    let P : List ℕ → Type 0 = λ bs. IsTrue canonical ↔ AreCanonicalEntries bs h.things in
-    record {
-      thing = h.things;
-      is = ends (judge_entry (judge_value room)) (λ xs. h.things ++ xs) at content _ long h.rest ∙ ap Ok (append-nil h.things);
-      decides = subst P (take_all content at long) h.decides;
-    }
+entries_end room content at previous canonical long h = things_end _ AreCanonicalEntries _ _ _ long _ h.rest h.decides
 
 -- where the entries before are not canonical, it is not said whether the key comes after
-is_less : Ordering → Bool
-is_less Less = true
-is_less Equal = false
-is_less Greater = false
-
-less_decided : (o : Ordering) → IsTrue (is_less o) ↔ (o ≡ Less)
-unfolding is_less
-less_decided Less = (λ t. refl, λ e. refl)
-less_decided Equal = (λ t. absurd cc, λ e. absurd cc)
-less_decided Greater = (λ t. absurd cc, λ e. absurd cc)
-
-tested : (at : ℕ) (previous key : List ℕ) → (above : Bool) × IsAbove at previous key above
-tested zero previous key = (true, inl (refl, refl))
-tested (suc at) previous key = (is_less (slice_cmp nat_cmp previous key), inr (omega arith, less_decided (slice_cmp nat_cmp previous key)))
+tested : (at : ℕ) (previous key : List ℕ) (o : Ordering) → slice_cmp nat_cmp previous key ≡ o → (above : Bool) × IsAbove at previous key above
+tested zero previous key o is = (true, inl (refl, refl))
+tested (suc at) previous key Less is = (true, inr (omega arith, (λ t. is, λ e. refl)))
+tested (suc at) previous key o is = (false, inr (omega arith, (λ t. absurd cc, λ e. absurd cc)))
 
 -- where those before are not canonical, the next one is only read
-pub entries_read : (room : ℕ) (content : List ℕ) (at n : ℕ) (previous key : List ℕ) (v : FieldValue) (canonical d : Bool)
-    → IsBytes content → at < length content → judge_entry (judge_value room) (drop at content) ≡ took (key, v) n
-    → 0 < n → n ≤ length (drop at content) → IsTrue d ↔ (take n (drop at content) ≡ short_string_bytes key ++ tagged_bytes v)
-    → (canonical ≡ true → length content ≤ at) → EntriesTo room content at previous canonical → EntriesTo room content (at + n) key canonical
-entries_read room content at n previous key v true d bytes more is up fits decides ended h = absurd (omega (arith, ended refl, more))
-entries_read room content at n previous key v false d bytes more is up fits decides ended h =
-    let test = tested at previous key in
-    entries_next room content at n previous key v false d test.0 bytes more is up fits decides test.1 h
+pub entries_read : (room : ℕ) (content : List ℕ) (at n : ℕ) (previous key : List ℕ) (canonical d : Bool) → at < length content
+    → (canonical ≡ true → length content ≤ at)
+    → ((above : Bool) → IsAbove at previous key above → EntriesTo room content (at + n) key ((canonical && d) && above))
+    → EntriesTo room content (at + n) key canonical
+entries_read room content at n previous key true d more ended next = absurd (omega (arith, ended refl, more))
+entries_read room content at n previous key false d more ended next = let test = tested at previous key _ refl in next test.0 test.1

@@ -1,5 +1,5 @@
 -- The constants of reserved fields: they are least, and are written as their bytes.
-use Rattle.std.proofs.Common.{Bor, ap, subst, ◌∙◌, ◌≡◌, ◌<◌, ℕ, zero, suc, true, List, [], ◌∷◌, length, get_or, drop, refl, sym, arith}
+use Rattle.std.proofs.Common.{Bor, ap, ◌∙◌, ◌≡◌, ◌<◌, ℕ, zero, suc, true, List, [], ◌∷◌, length, get_or, refl, sym, arith}
 use Rattle.std.proofs.lemmas.Bool.{and_from}
 use Rattle.std.specs.Cmp.Lexicographic.{told_text}
 use Rattle.std.specs.Int.{from_be_bytes}
@@ -18,21 +18,19 @@ use Rattle.amqp_canonical.specs.Shapes.{form_of, is_constant, constant_of, has_c
 
 -- What the bytes of a constant give is a shortest item of its form.
 pub constant_least : (form : meant.Form) (bytes : List ℕ) → is_constant form bytes ≡ true → is_least form (constant_of form bytes) ≡ true
-constant_least form bytes h = let b = both_true (is_least form (constant_of form bytes)) _ h in b.0
+constant_least form bytes h = (both_true (is_least form (constant_of form bytes)) _ h).0
 
 -- The bytes of a constant are the canonical bytes of what they give.
 pub constant_put : (form : meant.Form) (bytes : List ℕ) → is_constant form bytes ≡ true → form_bytes form (constant_of form bytes) ≡ bytes
 constant_put form bytes h =
-    let b = both_true (is_least form (constant_of form bytes)) _ h in
-    told_text (form_bytes form (constant_of form bytes)) bytes true (sym b.1)
+    told_text (form_bytes form (constant_of form bytes)) bytes true (sym (both_true (is_least form (constant_of form bytes)) _ h).1)
 
 -- each shape of such a list has its constant
 pub constant_at : (shapes : List Slot) (k : ℕ) (other : Slot) → have_constants shapes ≡ true → k < length shapes → has_constant (get_or shapes k other) ≡ true
 constant_at [] k other h less = absurd (omega (arith, less))
-constant_at (shape ∷ shapes) zero other h less = let b = both_true (has_constant shape) (have_constants shapes) h in b.0
+constant_at (shape ∷ shapes) zero other h less = (both_true (has_constant shape) (have_constants shapes) h).0
 constant_at (shape ∷ shapes) (suc k) other h less =
-    let b = both_true (has_constant shape) (have_constants shapes) h in
-    constant_at shapes k other b.1 (omega (arith, less))
+    constant_at shapes k other (both_true (has_constant shape) (have_constants shapes) h).1 (omega (arith, less))
 
 -- so the fields of such shapes have least constants
 pub slots_least : (shapes : List Slot) → have_constants shapes ≡ true → are_least (slots_of shapes) ≡ true
@@ -43,18 +41,10 @@ slots_least (slots.Reserved form bytes ∷ shapes) h =
     and_from (is_least (form_of form) (constant_of (form_of form) bytes.now))
     (are_least (slots_of shapes)) (constant_least (form_of form) bytes.now b.0) (slots_least shapes b.1)
 
--- and so has each shape from the kth on
-pub constants_from : (shapes : List Slot) (k : ℕ) → have_constants shapes ≡ true → have_constants (drop k shapes) ≡ true
-constants_from shapes zero h = h
-constants_from [] (suc k) h = refl
-constants_from (shape ∷ shapes) (suc k) h = let b = both_true (has_constant shape) (have_constants shapes) h in constants_from shapes k b.1
-
 -- the constant of a number of 2 bytes has 2 bytes
 pub two_of : (slot : Slot) (form : Form) (constant : Bor (List ℕ)) → slot ≡ slots.Reserved form constant
     → form ≡ forms.Short → has_constant slot ≡ true → length constant.now ≡ 2
 unfolding form_bytes
 two_of slot form constant is short h =
-    let same : slot ≡ slots.Reserved forms.Short constant = is ∙ ap (λ f. slots.Reserved f constant) short in
-    let P : Slot → Type 0 = λ s. has_constant s ≡ true in
-    let put = constant_put (number_form bytes2) constant.now (subst P same h) in
+    let put = constant_put (number_form bytes2) constant.now (rw (is, short) at h) in
     sym (ap length put) ∙ number_bytes-length bytes2 (from_be_bytes (width_of bytes2) constant.now)

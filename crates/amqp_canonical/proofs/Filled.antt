@@ -1,26 +1,23 @@
 -- What fills an array or a table, and the length in front of it.
-use Rattle.std.proofs.Common.{◌≡◌, ℕ, Bool, List, [], ◌∷◌, ◌++◌, length, take, drop, Result, Ok, Err, refl, sym, ap, subst, ◌∙◌, arith}
+use Rattle.std.proofs.Common.{◌≡◌, ℕ, Bool, List, [], ◌∷◌, ◌++◌, length, take, drop, Result, Ok, refl, sym, ap, subst, ◌∙◌, arith}
 use Rattle.std.proofs.lemmas.List.{length-append, drop_at}
 use Rattle.amqp_types.specs.Levels.{plain, strict}
-use Rattle.amqp_types.specs.Judging.{Fault, Judged, Judge, took, ◌>>=◌, IsBytes, IsExact}
-use Rattle.amqp_types.specs.Answers.{AnswersFully, RefusesWhole}
+use Rattle.amqp_types.specs.Judging.{Fault, Judge, took, IsBytes, IsExact}
 use Rattle.amqp_types.specs.Settling.{IsRising, settled}
 use Rattle.amqp_types.specs.Strings.{with_length, judge_long_string}
 use Rattle.amqp_types.specs.Values.{Entry, values_of, entries_of}
 use Rattle.amqp_types.specs.ValueBytes.{values_bytes, entries_bytes}
-use Rattle.amqp_types.specs.ValueJudging.{took_all, read_map, filled, judge_value, judge_entry, judge_array, judge_table}
+use Rattle.amqp_types.specs.ValueJudging.{read_map, filled, judge_value, judge_entry, judge_array, judge_table}
 use Rattle.amqp_types.specs.ValueSpelling.{SpellsEach, SpellsEntry, SpellsValue}
-use Rattle.amqp_types.specs.declared.errors.ParserError.{ParserError}
 use Rattle.amqp_types.proofs.Texts.{long_string_exact}
 use Rattle.amqp_laws.proofs.Settling.{settles}
-use Rattle.amqp_laws.proofs.Filling.{filled_next, RefusesWhole-map}
+use Rattle.amqp_laws.proofs.Filling.{filled_next}
 use Rattle.amqp_laws.proofs.Filled.{HasBytes, entry_exact, table_exact, entry_some}
 use Rattle.amqp_laws.proofs.Exactly.{value_exact, value_some}
 use Rattle.amqp_laws.proofs.Bounded.{value_bounded, table_bounded}
 use Rattle.amqp_laws.proofs.Strictly.{each_into, entry_into, table_again, value_again, in_order}
 use Rattle.amqp_laws.proofs.ValueLaws.{value_is_plain}
-use Rattle.amqp_canonical.specs.Judgements.{MayRefuse, AreCanonicalValues, AreCanonicalEntries, IsCanonicalArray, IsCanonicalTable, DecodesAs, Fills}
-use Rattle.amqp_canonical.proofs.Refusing.{Fails, fully, fails_next, fails_whole}
+use Rattle.amqp_canonical.specs.Judgements.{AreCanonicalValues, AreCanonicalEntries, IsCanonicalArray, IsCanonicalTable, DecodesAs, Fills}
 use Rattle.amqp_canonical.proofs.Children.{decided_as}
 
 -- ---- the length in front
@@ -28,54 +25,7 @@ use Rattle.amqp_canonical.proofs.Children.{decided_as}
 same_inner : (a b : List ℕ) → with_length a ≡ with_length b → a ≡ b
 same_inner a b h = ap (drop 4) h
 
-framed : (bytes content : List ℕ) (n : ℕ) → IsBytes bytes → judge_long_string bytes ≡ took content n → take n bytes ≡ with_length content
-framed bytes content n fits h = let one = long_string_exact.spelled bytes content n fits h in one.0.bytes_are
-
--- ---- arrays
-
--- An error in reading the length and the content of an array is the error of the array.
-pub array_unread : {A : Type 0} (room : ℕ) (bytes : List ℕ) (view : A → List ℕ) (e : ParserError)
-    → AnswersFully view (Err e) (judge_long_string bytes) → Fails e (judge_array (judge_value room) bytes)
-unfolding judge_array
-array_unread room bytes view e h = fails_next e (judge_long_string bytes) _ (fully view e (judge_long_string bytes) h)
-
--- An error in the values of an array's content is the error of the array.
-pub array_fails : (room : ℕ) (bytes content : List ℕ) (n : ℕ) (e : ParserError) → judge_long_string bytes ≡ took content n
-    → MayRefuse e × RefusesWhole e (filled (judge_value room) 0 content) → Fails e (judge_array (judge_value room) bytes)
-unfolding judge_array
-array_fails room bytes content n e is h =
-    let P : Judged (List ℕ) → Type 0 = λ j. Fails e (j >>= λ c. took_all c.1 (filled (judge_value room) 0 c.0)) in
-    subst P (sym is) (fails_whole e n (filled (judge_value room) 0 content) h)
-
--- An array takes its content with the length, and is canonical exactly where the values are.
-pub array_took : (room : ℕ) (bytes content : List ℕ) (n : ℕ) (canonical : Bool) → IsBytes bytes
-    → judge_long_string bytes ≡ took content n → Fills AreCanonicalValues canonical content (filled (judge_value room) 0 content)
-    → DecodesAs IsCanonicalArray (record { used = n; canonical = canonical }) bytes (judge_array (judge_value room) bytes)
-unfolding judge_array
-array_took room bytes content n canonical fits is h =
-    let front = framed bytes content n fits is in
-    record {
-      thing = h.thing;
-      is = ap (λ j. j >>= λ c. took_all c.1 (filled (judge_value room) 0 c.0)) is ∙ ap (took_all n) h.is;
-      decides = decided_as canonical _ _ h.decides (λ e. front ∙ ap with_length e) (λ q. same_inner content (values_bytes (values_of h.thing)) (sym front ∙ q));
-    }
-
--- ---- tables
-
--- An error in reading the length and the content of a table is the error of the table.
-pub table_unread : {A : Type 0} (room : ℕ) (bytes : List ℕ) (view : A → List ℕ) (e : ParserError)
-    → AnswersFully view (Err e) (judge_long_string bytes) → Fails e (judge_table (judge_value room) bytes)
-unfolding judge_table
-table_unread room bytes view e h = fails_next e (judge_long_string bytes) _ (fully view e (judge_long_string bytes) h)
-
--- An error in the entries of a table's content is the error of the table.
-pub table_fails : (room : ℕ) (bytes content : List ℕ) (n : ℕ) (e : ParserError) → judge_long_string bytes ≡ took content n
-    → MayRefuse e × RefusesWhole e (filled (judge_entry (judge_value room)) 0 content) → Fails e (judge_table (judge_value room) bytes)
-unfolding judge_table
-table_fails room bytes content n e is h =
-    let read = filled (judge_entry (judge_value room)) 0 content in
-    let P : Judged (List ℕ) → Type 0 = λ j. Fails e (j >>= λ c. took_all c.1 (read_map settled (filled (judge_entry (judge_value room)) 0 c.0))) in
-    subst P (sym is) (fails_whole e n (read_map settled read) (h.0, RefusesWhole-map e settled read h.1))
+-- ---- what is read back
 
 filled_taken : {A : Type 0} (item : Judge A) (Spells : List ℕ → A → Type 0) → IsExact item Spells
     → HasBytes Spells → (bytes : List ℕ) (xs : List A) → SpellsEach Spells bytes xs → filled item 0 bytes ≡ Ok xs
@@ -112,26 +62,36 @@ read_back room bytes es n fits h =
 ok_is : {A : Type 0} (r : Result A Fault) (x y : A) → r ≡ Ok x → r ≡ Ok y → x ≡ y
 ok_is r x y h k = cc
 
--- A table takes its content with the length, and is canonical exactly where the entries are, in ascending key order.
-pub table_took : (room : ℕ) (bytes content : List ℕ) (n : ℕ) (canonical : Bool) → IsBytes bytes → judge_long_string bytes ≡ took content n
-    → Fills AreCanonicalEntries canonical content (filled (judge_entry (judge_value room)) 0 content)
-    → DecodesAs IsCanonicalTable (record { used = n; canonical = canonical }) bytes (judge_table (judge_value room) bytes)
-unfolding judge_table
-table_took room bytes content n canonical fits is h =
-    let front = framed bytes content n fits is in
-    let es = h.thing in
-    let judged : judge_table (judge_value room) bytes ≡ took (settled es) n =
-    ap (λ j. j >>= λ c. took_all c.1 (read_map settled (filled (judge_entry (judge_value room)) 0 c.0))) is ∙ ap (λ r. took_all n (read_map settled r)) h.is in
-    let R : List Entry → Type 0 = λ xs. IsRising xs in
-    record {
-      thing = settled es;
-      is = judged;
-      decides =
-          decided_as canonical _ _ h.decides (λ p. front ∙ ap with_length (p.0 ∙ ap (λ xs. entries_bytes (entries_of xs)) (sym (in_order [] es p.1)))) (λ q.
-          let inner : content ≡ entries_bytes (entries_of (settled es)) = same_inner content _ (sym front ∙ q) in
-          let same : es ≡ settled es =
-          ok_is (filled (judge_entry (judge_value room)) 0 content) es (settled es) h.is
-          (ap (filled (judge_entry (judge_value room)) 0) inner ∙ read_back room bytes (settled es) n fits judged) in
-          let s = settles es in
-          (inner ∙ ap (λ xs. entries_bytes (entries_of xs)) (sym same), subst R (sym same) s.rising));
-    }
+-- ---- arrays and tables
+
+module _ (room : ℕ) (bytes content : List ℕ) (n : ℕ) (canonical : Bool) (fits : IsBytes bytes) (is : judge_long_string bytes ≡ took content n) where
+  front : take n bytes ≡ with_length content
+  front = (long_string_exact.spelled bytes content n fits is).0.bytes_are
+
+  -- An array takes its content with the length, and is canonical exactly where the values are.
+  pub array_took : Fills AreCanonicalValues canonical content (filled (judge_value room) 0 content)
+      → DecodesAs IsCanonicalArray (record { used = n; canonical = canonical }) bytes (judge_array (judge_value room) bytes)
+  unfolding judge_array
+  array_took h = record {
+    thing = h.thing;
+    is = rw (is, h.is);
+    decides = decided_as _ _ _ h.decides (λ e. front ∙ ap with_length e) (λ q. same_inner content (values_bytes (values_of h.thing)) (sym front ∙ q));
+  }
+
+  -- A table takes its content with the length, and is canonical exactly where the entries are, in ascending key order.
+  pub table_took : Fills AreCanonicalEntries canonical content (filled (judge_entry (judge_value room)) 0 content)
+      → DecodesAs IsCanonicalTable (record { used = n; canonical = canonical }) bytes (judge_table (judge_value room) bytes)
+  unfolding judge_table
+  table_took h =
+      let es = h.thing in
+      let judged : judge_table (judge_value room) bytes ≡ took (settled es) n = rw (is, h.is) in
+      record {
+        thing = settled es;
+        is = judged;
+        decides =
+            decided_as _ _ _ h.decides (λ p. front ∙ ap with_length (p.0 ∙ ap (λ xs. entries_bytes (entries_of xs)) (sym (in_order [] es p.1)))) (λ q.
+            let inner : content ≡ entries_bytes (entries_of (settled es)) = same_inner content _ (sym front ∙ q) in
+            let same : es ≡ settled es =
+            ok_is (filled (judge_entry (judge_value room)) 0 content) es (settled es) h.is (rw inner (read_back room bytes (settled es) n fits judged)) in
+            (inner ∙ ap (λ xs. entries_bytes (entries_of xs)) (sym same), subst (λ xs. IsRising xs) (sym same) (settles es).rising));
+      }

@@ -1,6 +1,8 @@
 -- Entries in the order of their keys, of which the last of each key make the table.
-use Rattle.std.proofs.Common.{◌≡◌, ◌<◌, ◌⊎◌, inl, inr, ℕ, suc, List, [], ◌∷◌, length, map, get_or, Bool, true, false, cond, Option, Some, None, Ordering, Less}
-use Rattle.std.proofs.Common.{Equal, Greater, true≢false, refl, sym, ap, ap₂, subst, ◌∙◌, drop, ◌+◌, arith}
+use Rattle.std.proofs.Common.{◌≡◌, ◌<◌, ◌≤◌, ◌-◌, ◌⊎◌, inl, inr, ℕ, suc, List, [], ◌∷◌, length, map, get_or, Bool, true, false}
+use Rattle.std.proofs.Common.{cond, Option, Some, None, Ordering}
+use Rattle.std.proofs.Common.{refl, sym, ap, ap₂, subst, ◌∙◌, drop, ◌+◌, arith}
+use Rattle.std.proofs.lemmas.Bool.{cases_lt}
 use Rattle.std.proofs.lemmas.Cmp.{nat_list_cmp_total, tied_itself}
 use Rattle.std.proofs.Math.Seq.{drop-cons}
 use Rattle.std.proofs.lemmas.List.{drop_all}
@@ -30,44 +32,21 @@ pub each_weaker : {A : Type 0} (P Q : A → Type 0) → ((x : A) → P x → Q x
 each_weaker P Q weaken [] h = tt
 each_weaker P Q weaken (x ∷ xs) h = (weaken x h.0, each_weaker P Q weaken xs h.1)
 
+-- What holds of neighbours below a place, and of those that end there, holds of neighbours up to it.
+pub neighbours_more : (R : EntryMark → EntryMark → Type 0) (marks : List EntryMark) (k : ℕ) → 1 ≤ k
+    → ((j : ℕ) → suc j < k → suc j < length marks → R (get_or marks j blank) (get_or marks (suc j) blank))
+    → R (get_or marks (k - 1) blank) (get_or marks k blank)
+    → (j : ℕ) → suc j < k + 1 → suc j < length marks → R (get_or marks j blank) (get_or marks (suc j) blank)
+neighbours_more R marks k up before here j less long = elim (cases_lt (suc j) k) [
+  | inl lower ↦ before j lower long
+  | inr last ↦
+      let e : k - 1 ≡ j = omega (arith, less, last, up) in
+      let f : k ≡ suc j = omega (arith, less, last) in
+      subst (λ m. R (get_or marks j blank) (get_or marks m blank)) f (subst (λ i. R (get_or marks i blank) (get_or marks k blank)) e here)
+]
+
 -- ---- entries in order
 
--- the key is that one or below it
-abbrev IsUpTo : List ℕ → List ℕ → Type 0
-IsUpTo key other = IsBelow key other ⊎ (key ≡ other)
-
-abbrev StandsBefore : Entry → List Entry → Type 0
-StandsBefore e [] = Unit {0}
-StandsBefore e (next ∷ es) = IsUpTo e.0 next.0
-
-abbrev NeverFall : List Entry → Type 0
-NeverFall [] = Unit {0}
-NeverFall (e ∷ es) = StandsBefore e es × NeverFall es
-
-up_to_next : (a b c : List ℕ) → IsUpTo a b → IsUpTo b c → IsUpTo a c
-up_to_next a b c (inl less) (inl more) = inl (nat_list_cmp_total.trans a b c less more)
-up_to_next a b c (inl less) (inr same) = let P : List ℕ → Type 0 = λ k. IsBelow a k in inl (subst P same less)
-up_to_next a b c (inr same) (inl more) = let P : List ℕ → Type 0 = λ k. IsBelow k c in inl (subst P (sym same) more)
-up_to_next a b c (inr same) (inr more) = inr (same ∙ more)
-
-below_next : (a b c : List ℕ) → IsBelow a b → IsUpTo b c → IsBelow a c
-below_next a b c less (inl more) = nat_list_cmp_total.trans a b c less more
-below_next a b c less (inr same) = let P : List ℕ → Type 0 = λ k. IsBelow a k in subst P same less
-
--- the first key is not above any that is kept
-keeps_up : (b : Bool) (P : List ℕ → Type 0) (e : Entry) (es : List Entry) → P e.0
-    → AllByRecursion P (keys_of es) → AllByRecursion P (keys_of (cond b es (e ∷ es)))
-keeps_up true P e es p h = h
-keeps_up false P e es p h = (p, h)
-
-first_up_to : (e : Entry) (es : List Entry) → NeverFall (e ∷ es) → AllByRecursion (λ k. IsUpTo e.0 k) (keys_of (last_of_ties (e ∷ es)))
-first_up_to e [] h = (inr refl, tt)
-first_up_to e (next ∷ es) h =
-    let more = first_up_to next es h.1 in
-    let kept = each_weaker (λ k. IsUpTo next.0 k) (λ k. IsUpTo e.0 k) (λ k up. up_to_next e.0 next.0 k h.0 up) (keys_of (last_of_ties (next ∷ es))) more in
-    keeps_up (is_at (cmp e.0) next.0) (λ k. IsUpTo e.0 k) e (last_of_ties (next ∷ es)) (inr refl) kept
-
--- a key below all others has no value
 -- a value that stands first stands last, where nothing is found after it
 first_or_later : (b : Bool) (v : FieldValue) (found : Option FieldValue)
     → (b ≡ true → found ≡ None) → cond b (Some v) found ≡ later found (cond b (Some v) None)
@@ -85,10 +64,6 @@ earlier false (Some u) v w = refl
 
 -- ---- the last of ties are the table
 
-settled_one : (e : Entry) → IsSettled (e ∷ []) (e ∷ [])
-unfolding IsStrictlySortedBy
-settled_one e = record { rising = (tt, tt); last = λ q. refl }
-
 settled_tied : (e next : Entry) (es kept : List Entry) → e.0 ≡ next.0 → IsSettled kept (next ∷ es) → IsSettled kept (e ∷ next ∷ es)
 settled_tied e next es kept same h = record {
   rising = h.rising;
@@ -102,8 +77,7 @@ unfolding IsStrictlySortedBy
 settled_below e es kept above h = record {
   rising = (above, h.rising);
   last = λ q.
-      let P : List ℕ → Type 0 = λ k. value_at k kept ≡ None in
-      let none : is_at (cmp q) e.0 ≡ true → value_at q kept ≡ None = λ here. subst P (sym (tells_apart exact_bytes q e.0 here)) (absent e.0 kept above) in
+      let none : is_at (cmp q) e.0 ≡ true → value_at q kept ≡ None = λ here. rw (tells_apart exact_bytes q e.0 here) (absent e.0 kept above) in
       first_or_later (is_at (cmp q) e.0) e.1 (value_at q kept) none ∙ ap (λ o. later o (cond (is_at (cmp q) e.0) (Some e.1) None)) (h.last q);
 }
 
@@ -112,74 +86,68 @@ choose_kept : (b : Bool) (e : Entry) (es kept : List Entry) → (b ≡ true → 
 choose_kept true e es kept h k = h refl
 choose_kept false e es kept h k = k refl
 
-below_or_tied : (e next : Entry) → IsUpTo e.0 next.0 → is_at (cmp e.0) next.0 ≡ false → IsBelow e.0 next.0
-below_or_tied e next (inl less) apart = less
-below_or_tied e next (inr same) apart = absurd (true≢false (sym (ap is_eq (tied_itself nat_list_cmp_total e.0)) ∙ ap (λ k. is_at (cmp e.0) k) same ∙ apart))
-
-settled_ties : (es : List Entry) → NeverFall es → IsSettled (last_of_ties es) es
-unfolding IsStrictlySortedBy
-settled_ties [] h = record { rising = tt; last = λ q. refl }
-settled_ties (e ∷ []) h = settled_one e
-settled_ties (e ∷ next ∷ es) h =
-    let kept = last_of_ties (next ∷ es) in
-    let more = settled_ties (next ∷ es) h.1 in
-    choose_kept (is_at (cmp e.0) next.0) e (e ∷ next ∷ es) kept (λ tied. settled_tied e next es kept (tells_apart exact_bytes e.0 next.0 tied) more) (λ apart.
-    let less = below_or_tied e next h.0 apart in
-    settled_below e (next ∷ es) kept
-    (each_weaker (λ k. IsUpTo next.0 k) (λ k. IsBelow e.0 k) (λ k up. below_next e.0 next.0 k less up) (keys_of kept) (first_up_to next es h.1)) more)
+keeps_up : (b : Bool) (P : List ℕ → Type 0) (e : Entry) (es : List Entry) → P e.0
+    → AllByRecursion P (keys_of es) → AllByRecursion P (keys_of (cond b es (e ∷ es)))
+keeps_up true P e es p h = h
+keeps_up false P e es p h = (p, h)
 
 -- ---- marks in order
 
--- the key comes after that of the previous mark, or is the same at a later place
-abbrev After : (EntryMark → Entry) → EntryMark → EntryMark → Type 0
-After f m n = IsBelow (f m).0 (f n).0 ⊎ (((f m).0 ≡ (f n).0) × (m.place < n.place))
+module _ (f : EntryMark → Entry) where
+  -- the key comes after that of the previous mark, or is the same at a later place
+  abbrev After : EntryMark → EntryMark → Type 0
+  After m n = IsBelow (f m).0 (f n).0 ⊎ (((f m).0 ≡ (f n).0) × (m.place < n.place))
 
-abbrev LeadsTo : (EntryMark → Entry) → EntryMark → List EntryMark → Type 0
-LeadsTo f m [] = Unit {0}
-LeadsTo f m (n ∷ ms) = After f m n
+  -- each comes after all before it
+  abbrev IsChain : List EntryMark → Type 0
+  IsChain [] = Unit {0}
+  IsChain (m ∷ ms) = AllByRecursion (After m) ms × IsChain ms
 
-abbrev IsChain : (EntryMark → Entry) → List EntryMark → Type 0
-IsChain f [] = Unit {0}
-IsChain f (m ∷ ms) = LeadsTo f m ms × IsChain f ms
+  below_after : (m n x : EntryMark) → IsBelow (f m).0 (f n).0 → After n x → IsBelow (f m).0 (f x).0
+  below_after m n x less (inl more) = nat_list_cmp_total.trans (f m).0 (f n).0 (f x).0 less more
+  below_after m n x less (inr same) = subst (λ k. IsBelow (f m).0 k) same.0 less
 
-after_next : (f : EntryMark → Entry) (m n x : EntryMark) → After f m n → After f n x → After f m x
-after_next f m n x (inl less) (inl more) = inl (nat_list_cmp_total.trans (f m).0 (f n).0 (f x).0 less more)
-after_next f m n x (inl less) (inr same) = let P : List ℕ → Type 0 = λ k. IsBelow (f m).0 k in inl (subst P same.0 less)
-after_next f m n x (inr same) (inl more) = let P : List ℕ → Type 0 = λ k. IsBelow k (f x).0 in inl (subst P (sym same.0) more)
-after_next f m n x (inr same) (inr more) = inr (same.0 ∙ more.0, omega (arith, same.1, more.1))
+  after_next : (m n x : EntryMark) → After m n → After n x → After m x
+  after_next m n x (inl less) a = inl (below_after m n x less a)
+  after_next m n x (inr same) (inl more) = inl (subst (λ k. IsBelow k (f x).0) (sym same.0) more)
+  after_next m n x (inr same) (inr more) = inr (same.0 ∙ more.0, omega (arith, same.1, more.1))
 
-all_after : (f : EntryMark → Entry) (m : EntryMark) (ms : List EntryMark) → IsChain f (m ∷ ms) → AllByRecursion (After f m) ms
-all_after f m [] h = tt
-all_after f m (n ∷ ms) h = (h.0, each_weaker (After f n) (After f m) (λ x a. after_next f m n x h.0 a) ms (all_after f n ms h.1))
+  precedes : (m n : EntryMark) → After m n → Precedes (λ x. (f x).0) (λ x. x.place) m n
+  precedes m n (inl less) same = absurd (cc (tied_itself nat_list_cmp_total (f m).0))
+  precedes m n (inr later) same = later.1
 
-precedes : (f : EntryMark → Entry) (m n : EntryMark) → After f m n → Precedes (λ x. (f x).0) (λ x. x.place) m n
-precedes f m n (inl less) same =
-    let P : List ℕ → Type 0 = λ k. IsBelow (f m).0 k in
-    let e : Less ≡ Equal = sym (subst P (sym same) less) ∙ tied_itself nat_list_cmp_total (f m).0 in
-    absurd cc
-precedes f m n (inr later) same = later.1
+  placed_chain : (ms : List EntryMark) → IsChain ms → ArePlaced (λ x. (f x).0) (λ x. x.place) ms
+  placed_chain [] h = tt
+  placed_chain (m ∷ ms) h = (each_weaker (After m) (Precedes (λ x. (f x).0) (λ x. x.place) m) (precedes m) ms h.0, placed_chain ms h.1)
 
-placed_chain : (f : EntryMark → Entry) (ms : List EntryMark) → IsChain f ms → ArePlaced (λ x. (f x).0) (λ x. x.place) ms
-placed_chain f [] h = tt
-placed_chain f (m ∷ ms) h = (each_weaker (After f m) (Precedes (λ x. (f x).0) (λ x. x.place) m) (precedes f m) ms (all_after f m ms h), placed_chain f ms h.1)
+  kept_keys : (P : List ℕ → Type 0) (ms : List EntryMark) → AllByRecursion (λ m. P (f m).0) ms → AllByRecursion P (keys_of (last_of_ties (map f ms)))
+  kept_keys P [] h = tt
+  kept_keys P (m ∷ ms) h = keeps_up (ties (f m) (map f ms)) P (f m) (last_of_ties (map f ms)) h.0 (kept_keys P ms h.1)
 
-up_to_after : (f : EntryMark → Entry) (m n : EntryMark) → After f m n → IsUpTo (f m).0 (f n).0
-up_to_after f m n (inl less) = inl less
-up_to_after f m n (inr later) = inr later.0
+  below_or_tied : (m n : EntryMark) → After m n → is_at (cmp (f m).0) (f n).0 ≡ false → IsBelow (f m).0 (f n).0
+  below_or_tied m n (inl less) apart = less
+  below_or_tied m n (inr same) apart = let tied = ap is_eq (tied_itself nat_list_cmp_total (f m).0) in let key = same.0 in absurd cc
 
-never_fall : (f : EntryMark → Entry) (ms : List EntryMark) → IsChain f ms → NeverFall (map f ms)
-never_fall f [] h = tt
-never_fall f (m ∷ []) h = (tt, tt)
-never_fall f (m ∷ n ∷ ms) h = (up_to_after f m n h.0, never_fall f (n ∷ ms) h.1)
+  settled_ties : (ms : List EntryMark) → IsChain ms → IsSettled (last_of_ties (map f ms)) (map f ms)
+  unfolding IsStrictlySortedBy
+  settled_ties [] h = record { rising = tt; last = λ q. refl }
+  settled_ties (m ∷ []) h = record { rising = (tt, tt); last = λ q. refl }
+  settled_ties (m ∷ n ∷ ms) h =
+      let es = map f ms in
+      let kept = last_of_ties (f n ∷ es) in
+      let more = settled_ties (n ∷ ms) h.1 in
+      choose_kept (is_at (cmp (f m).0) (f n).0) (f m) (f m ∷ f n ∷ es) kept
+      (λ tied. settled_tied (f m) (f n) es kept (tells_apart exact_bytes (f m).0 (f n).0 tied) more) (λ apart.
+      let less = below_or_tied m n h.0.0 apart in
+      let below = each_weaker (After n) (λ x. IsBelow (f m).0 (f x).0) (λ x a. below_after m n x less a) ms h.1.0 in
+      settled_below (f m) (f n ∷ es) kept (kept_keys (λ k. IsBelow (f m).0 k) (n ∷ ms) (less, below)) more)
 
 -- ---- the marks of a table
 
 follows_after : (room : ℕ) (content : List ℕ) (m n : EntryMark) → IsRead (entry_at room content m.place)
     → IsRead (entry_at room content n.place) → Follows content m n → After (marked_entry room content) m n
 follows_after room content m n one two (inl less) =
-    let P : List ℕ → List ℕ → Type 0 = λ a b. IsBelow a b in
-    let Q : List ℕ → Type 0 = λ a. IsBelow a (marked_entry room content n).0 in
-    inl (subst Q (entry_key room _ one) (subst (P (key_at content m)) (entry_key room _ two) less))
+    inl (subst (λ k. IsBelow k (marked_entry room content n).0) (entry_key room _ one) (subst (λ k. IsBelow (key_at content m) k) (entry_key room _ two) less))
 follows_after room content m n one two (inr later) = inr (sym (entry_key room _ one) ∙ later.0 ∙ entry_key room _ two, later.1)
 
 chain_of : (room : ℕ) (content : List ℕ) (ms : List EntryMark) → AllByRecursion (λ m. IsRead (entry_at room content m.place)) ms
@@ -187,7 +155,10 @@ chain_of : (room : ℕ) (content : List ℕ) (ms : List EntryMark) → AllByRecu
 chain_of room content [] read h = tt
 chain_of room content (m ∷ []) read h = (tt, tt)
 chain_of room content (m ∷ n ∷ ms) read h =
-    (follows_after room content m n read.0 read.1.0 (h 0 (omega arith)), chain_of room content (n ∷ ms) read.1 (λ k less. h (suc k) (omega (arith, less))))
+    let f = marked_entry room content in
+    let next = follows_after room content m n read.0 read.1.0 (h 0 (omega arith)) in
+    let rest = chain_of room content (n ∷ ms) read.1 (λ k less. h (suc k) (omega (arith, less))) in
+    ((next, each_weaker (After f n) (After f m) (λ x a. after_next f m n x next a) ms rest.0), rest)
 
 -- Marks of all entries of a content, sorted by key and then by place, make the table that the content is, by the last mark of each key.
 pub marks_of_table : (room : ℕ) (content : List ℕ) (ms sorted : List EntryMark) → AreMarks room content ms
@@ -196,10 +167,10 @@ marks_of_table room content ms sorted h moved order =
     let f = marked_entry room content in
     let read = All-permutation (λ m. IsRead (entry_at room content m.place)) ms sorted moved h.read in
     let chain = chain_of room content sorted (recursion_from_All _ sorted read) order in
-    let kept = settled_ties (map f sorted) (never_fall f sorted chain) in
+    let kept = settled_ties f sorted chain in
     let table = last_of_ties (map f sorted) in
-    let P : List Entry → Type 0 = λ es. IsSettled table es in
-    let all = subst P h.entries (settled_in_order f (λ m. m.place) table ms sorted moved h.placed (placed_chain f sorted chain) kept) in
+    let all =
+    subst (λ es. IsSettled table es) h.entries (settled_in_order f (λ m. m.place) table ms sorted moved h.placed (placed_chain f sorted chain) kept) in
     record { read = read; table = sym (settled_is (entries_in room content) table all) }
 
 -- ---- ties among marks
@@ -219,8 +190,3 @@ tied_as room content marks k o read more is =
 
 pub not_tied : (f : EntryMark → Entry) (e : Entry) (marks : List EntryMark) (k : ℕ) → k + 1 ≡ length marks → false ≡ ties e (map f (drop (k + 1) marks))
 not_tied f e marks k last = ap (λ ms. ties e (map f ms)) (sym (drop_all (k + 1) marks (omega arith)))
-
-pub not_equal : (o : Ordering) → (o ≡ Equal → ⊥) → is_eq o ≡ false
-not_equal Less h = refl
-not_equal Equal h = absurd (h refl)
-not_equal Greater h = refl

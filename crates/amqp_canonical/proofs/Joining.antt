@@ -1,10 +1,11 @@
 -- Things one after another are decoded one after another, at every level.
-use Rattle.std.proofs.Common.{◌≡◌, ℕ, ◌+◌, ◌<◌, ◌≤◌, ◌&&◌, Bool, true, false, List, [], ◌∷◌, ◌++◌, length, get_or, take, drop, Result, Ok, Err, refl, sym, ap}
-use Rattle.std.proofs.Common.{ap₂, subst, ◌∙◌, append_assoc, add_assoc, arith}
+use Rattle.std.proofs.Common.{◌≡◌, ◌↔◌, ℕ, ◌+◌, ◌<◌, ◌≤◌, ◌&&◌, Bool, true, false, List, [], ◌∷◌, ◌++◌, length, get_or, take, drop}
+use Rattle.std.proofs.Common.{Result, Ok, Err, refl, sym, ap}
+use Rattle.std.proofs.Common.{subst, ◌∙◌, append_assoc, add_assoc, arith}
 use Rattle.std.proofs.lemmas.List.{length-append, take_at, drop_at, drop-drop, take-append-drop, at_drop_more, drop_all}
 use Rattle.std.proofs.Math.Seq.{take-add}
 use Rattle.amqp_types.specs.Levels.{Level, tidy, strict}
-use Rattle.amqp_types.specs.Judging.{Judged, Judge, took, ◌>>=◌}
+use Rattle.amqp_types.specs.Judging.{Judge, took}
 use Rattle.amqp_types.specs.Sequences.{judge_both, SpellsBoth}
 use Rattle.amqp_types.specs.FormLaws.{IsLawful}
 use Rattle.amqp_types.specs.declared.errors.ParserError.{ParserError}
@@ -13,22 +14,22 @@ use Rattle.amqp_types.proofs.Took.{value_took, count_took}
 use Rattle.amqp_canonical.specs.declared.slots.Judgement.{Judgement}
 use Rattle.amqp_canonical.specs.SlotJudgements.{TakesTidily, JudgesLevels, after_others}
 use Rattle.amqp_canonical.proofs.Refusing.{Fails, fails_next}
-use Rattle.amqp_canonical.proofs.Children.{both_decided, decided_as}
+use Rattle.amqp_canonical.proofs.Children.{both_decided}
 
 -- what is encoded at any level is decoded, whatever follows
 pub record IsRead {A : Type 0} (judge : Judge A) (Spells : Level → List ℕ → A → Type 0) : Type 0 where
   pub read : (level : Level) (bytes rest : List ℕ) (x : A) → Spells level bytes x → judge (bytes ++ rest) ≡ took x (length bytes)
 
 -- What encodes a value of a lawful form at any level is decoded to be that value, whatever follows.
-pub law_read : {A : Type 0} (judge : Judge A) (Spells : Level → List ℕ → A → Type 0) (canonical : A → List ℕ)
+pub law_read : {A : Type 0} {judge : Judge A} {Spells : Level → List ℕ → A → Type 0} {canonical : A → List ℕ}
     → IsLawful judge Spells canonical → IsRead judge Spells
-law_read judge Spells canonical law =
+law_read {Spells = Spells} law =
     record { read = λ level bytes rest x h. law.exact.taken bytes rest x (is_plain Spells law.strict_is_tidy law.tidy_is_plain level bytes x h) }
 
 -- ---- one thing after another
 
-module _ {A B C : Type 0} (first : Judge A) (second : Judge B) (join : A → B → C) (First : Level → List ℕ → A → Type 0)
-    (Second : Level → List ℕ → B → Type 0) (first_read : IsRead first First) (second_read : IsRead second Second) where
+module _ {A B C : Type 0} {first : Judge A} {second : Judge B} {First : Level → List ℕ → A → Type 0}
+    {Second : Level → List ℕ → B → Type 0} (join : A → B → C) (first_read : IsRead first First) (second_read : IsRead second Second) where
   abbrev Both : Level → List ℕ → C → Type 0
   Both level bytes z = SpellsBoth (First level) (Second level) join bytes z
 
@@ -37,70 +38,62 @@ module _ {A B C : Type 0} (first : Judge A) (second : Judge B) (join : A → B �
   both_read = record {
     read = λ level bytes rest z h.
         let tail = h.behind ++ rest in
-        let all : bytes ++ rest ≡ h.front ++ tail = ap (λ bs. bs ++ rest) h.bytes_are ∙ append_assoc h.front h.behind rest in
-        let one : first (h.front ++ tail) ≡ took h.one (length h.front) = first_read.read level h.front tail h.one h.first_is in
-        let two : second (drop (length h.front) (h.front ++ tail)) ≡ took h.two (length h.behind) =
-        ap second (drop_at h.front tail (length h.front) refl) ∙ second_read.read level h.behind rest h.two h.second_is in
-        let count : length h.front + length h.behind ≡ length bytes = sym (ap length h.bytes_are ∙ length-append h.front h.behind) in
-        ap (judge_both first second join) all
-        ∙ ap (λ j. j >>= λ x. second (drop x.1 (h.front ++ tail)) >>= λ y. took (join x.0 y.0) (x.1 + y.1)) one
-        ∙ ap (λ j. j >>= λ y. took (join h.one y.0) (length h.front + y.1)) two ∙ ap₂ (λ y m. took y m) (sym h.joined) count;
+        rw (
+          h.bytes_are,
+          append_assoc h.front h.behind rest,
+          first_read.read level h.front tail h.one h.first_is,
+          drop_at h.front tail (length h.front) refl,
+          second_read.read level h.behind rest h.two h.second_is,
+          h.joined,
+          length-append h.front h.behind,
+        );
   }
-
-  joined_at : (level : Level) (bytes : List ℕ) (x : A) (y : B) (m n : ℕ)
-      → First level (take m bytes) x × Second level (take n (drop m bytes)) y → Both level (take (m + n) bytes) (join x y)
-  joined_at level bytes x y m n h =
-      record {
-        front = take m bytes;
-        behind = take n (drop m bytes);
-        one = x;
-        two = y;
-        bytes_are = take-add m n bytes;
-        first_is = h.0;
-        second_is = h.1;
-        joined = refl;
-      }
 
   -- An encoding of two decoded values, one after the other, is an encoding of each of them, split where the first one ends.
   pub split_at : (level : Level) (bytes : List ℕ) (x : A) (y : B) (m n : ℕ) → first bytes ≡ took x m → second (drop m bytes) ≡ took y n
-      → Both level (take (m + n) bytes) (join x y) → First level (take m bytes) x × Second level (take n (drop m bytes)) y
-  split_at level bytes x y m n h k s =
-      let tail = drop (m + n) bytes in
-      let rest = s.behind ++ tail in
-      let all : bytes ≡ s.front ++ rest = sym (take-append-drop (m + n) bytes) ∙ ap (λ bs. bs ++ tail) s.bytes_are ∙ append_assoc s.front s.behind tail in
-      let one : took s.one (length s.front) ≡ took x m = sym (first_read.read level s.front rest s.one s.first_is) ∙ sym (ap first all) ∙ h in
-      let front_count : length s.front ≡ m = count_took s.one x _ m one in
-      let behind : drop m bytes ≡ rest = ap (drop m) all ∙ drop_at s.front rest m front_count in
-      let two : took s.two (length s.behind) ≡ took y n = sym (second_read.read level s.behind tail s.two s.second_is) ∙ sym (ap second behind) ∙ k in
-      let behind_count : length s.behind ≡ n = count_took s.two y _ n two in
-      let front_is : s.front ≡ take m bytes = sym (take_at s.front rest m front_count) ∙ sym (ap (take m) all) in
-      let behind_is : s.behind ≡ take n (drop m bytes) = sym (take_at s.behind tail n behind_count) ∙ sym (ap (take n) behind) in
-      let P : List ℕ → Type 0 = λ bs. First level bs x in
-      let Q : List ℕ → Type 0 = λ bs. Second level bs y in (
-        subst P front_is (subst (First level s.front) (value_took s.one x _ m one) s.first_is),
-        subst Q behind_is (subst (Second level s.behind) (value_took s.two y _ n two) s.second_is),
-      )
+      → First level (take m bytes) x × Second level (take n (drop m bytes)) y ↔ Both level (take (m + n) bytes) (join x y)
+  split_at level bytes x y m n h k = (
+    λ p. record {
+      front = take m bytes;
+      behind = take n (drop m bytes);
+      one = x;
+      two = y;
+      bytes_are = take-add m n bytes;
+      first_is = p.0;
+      second_is = p.1;
+      joined = refl;
+    },
+    λ s.
+        let tail = drop (m + n) bytes in
+        let rest = s.behind ++ tail in
+        let all : bytes ≡ s.front ++ rest = sym (take-append-drop (m + n) bytes) ∙ ap (λ bs. bs ++ tail) s.bytes_are ∙ append_assoc s.front s.behind tail in
+        let one : took s.one (length s.front) ≡ took x m = sym (first_read.read level s.front rest s.one s.first_is) ∙ sym (ap first all) ∙ h in
+        let front_count : length s.front ≡ m = count_took _ _ _ _ one in
+        let behind : drop m bytes ≡ rest = ap (drop m) all ∙ drop_at s.front rest m front_count in
+        let two : took s.two (length s.behind) ≡ took y n = sym (second_read.read level s.behind tail s.two s.second_is) ∙ sym (ap second behind) ∙ k in
+        let behind_count : length s.behind ≡ n = count_took _ _ _ _ two in
+        let front_is : s.front ≡ take m bytes = sym (take_at s.front rest m front_count) ∙ sym (ap (take m) all) in
+        let behind_is : s.behind ≡ take n (drop m bytes) = sym (take_at s.behind tail n behind_count) ∙ sym (ap (take n) behind) in
+        let x_is : s.one ≡ x = value_took _ _ _ _ one in
+        let y_is : s.two ≡ y = value_took _ _ _ _ two in (
+          rw (← front_is, ← x_is) s.first_is,
+          rw (← behind_is, ← y_is) s.second_is,
+        ),
+  )
 
   -- Where the first of two values is taken, both are decoded as the second one is, after the first.
   pub both_judged : (bytes : List ℕ) (j : Judgement) (r : Result Judgement ParserError)
       → TakesTidily (First strict) (First tidy) j bytes (first bytes) → JudgesLevels Second (drop j.used bytes) r (second (drop j.used bytes))
       → JudgesLevels Both bytes (after_others j.used j.canonical j.tidy r) (judge_both first second join bytes)
   both_judged bytes j (Ok k) one two =
-      let is =
-      ap (λ a. a >>= λ x. second (drop x.1 bytes) >>= λ y. took (join x.0 y.0) (x.1 + y.1)) one.is
-      ∙ ap (λ b. b >>= λ y. took (join one.thing y.0) (j.used + y.1)) two.is in
+      let at = λ (level : Level). split_at level bytes one.thing two.thing j.used k.used one.is two.is in
       record {
         thing = join one.thing two.thing;
-        is = is;
-        canonical = decided_as (j.canonical && k.canonical) _ _ (both_decided j.canonical k.canonical _ _ one.canonical two.canonical)
-            (joined_at strict bytes one.thing two.thing j.used k.used) (split_at strict bytes one.thing two.thing j.used k.used one.is two.is);
-        tidy =
-            decided_as (j.tidy && k.tidy) _ _ (both_decided j.tidy k.tidy _ _ one.tidy two.tidy)
-            (joined_at tidy bytes one.thing two.thing j.used k.used) (split_at tidy bytes one.thing two.thing j.used k.used one.is two.is);
+        is = rw (one.is, two.is);
+        canonical = both_decided one.canonical two.canonical (at strict);
+        tidy = both_decided one.tidy two.tidy (at tidy);
       }
-  both_judged bytes j (Err e) one two =
-      let P : Judged A → Type 0 = λ a. Fails e (a >>= λ x. second (drop x.1 bytes) >>= λ y. took (join x.0 y.0) (x.1 + y.1)) in
-      subst P (sym one.is) (fails_next e (second (drop j.used bytes)) _ two)
+  both_judged bytes j (Err e) one two = rw one.is (fails_next _ _ _ two)
 
 -- ---- what is returned after others
 
@@ -132,8 +125,26 @@ after_none (Err e) = refl
 
 -- ---- many things, one after another
 
-module _ {X A R : Type 0} (one : X → Judge A) (One : X → Level → List ℕ → A → Type 0)
-    (all : List X → Judge R) (All : List X → Level → List ℕ → R → Type 0) where
+-- Things are decoded one after another.
+pub record IsWalk {X A R : Type 0} (one : X → Judge A) (One : X → Level → List ℕ → A → Type 0)
+    (all : List X → Judge R) (All : List X → Level → List ℕ → R → Type 0) : Type 0 where
+  pub step : (x : X) (xs : List X) (bytes : List ℕ) (j : Judgement) (r : Result Judgement ParserError)
+      → TakesTidily (One x strict) (One x tidy) j bytes (one x bytes) → JudgesLevels (All xs) (drop j.used bytes) r (all xs (drop j.used bytes))
+      → JudgesLevels (All (x ∷ xs)) bytes (after_others j.used j.canonical j.tidy r) (all (x ∷ xs) bytes)
+  pub stop : (x : X) (xs : List X) (bytes : List ℕ) (e : ParserError) → Fails e (one x bytes) → Fails e (all (x ∷ xs) bytes)
+  pub none : (bytes : List ℕ) → JudgesLevels (All []) bytes (judgement 0 true true) (all [] bytes)
+
+module _ {X A R : Type 0} {one : X → Judge A} {One : X → Level → List ℕ → A → Type 0}
+    {all : List X → Judge R} {All : List X → Level → List ℕ → R → Type 0} (walk : IsWalk one One all All) where
+  -- One thing alone is decoded as it is.
+  pub one_alone : (x : X) (bytes : List ℕ) (r : Result Judgement ParserError)
+      → JudgesLevels (One x) bytes r (one x bytes) → JudgesLevels (All (x ∷ [])) bytes r (all (x ∷ []) bytes)
+  one_alone x bytes (Ok j) h =
+      subst (λ s. JudgesLevels (All (x ∷ [])) bytes s (all (x ∷ []) bytes))
+      (same_judgement (j.used + 0) j.used (j.canonical && true) j.canonical (j.tidy && true) j.tidy (omega arith) (and_true j.canonical) (and_true j.tidy))
+      (walk.step x [] bytes j (judgement 0 true true) h (walk.none (drop j.used bytes)))
+  one_alone x bytes (Err e) h = walk.stop x [] bytes e h
+
   -- what is returned of the rest says what is returned of all
   pub record IsReached (xs : List X) (bytes : List ℕ) (k at : ℕ) (canonical so_far : Bool) : Type 0 where
     pub onward : (r : Result Judgement ParserError) → JudgesLevels (All (drop k xs)) (drop at bytes) r (all (drop k xs) (drop at bytes))
@@ -141,50 +152,35 @@ module _ {X A R : Type 0} (one : X → Judge A) (One : X → Level → List ℕ 
 
   -- At the start nothing was decoded, and the empty bytes are canonical and tidy.
   pub reached_none : (xs : List X) (bytes : List ℕ) → IsReached xs bytes 0 0 true true
-  reached_none xs bytes =
-      record {
-        onward = λ r h. let P : Result Judgement ParserError → Type 0 = λ s. JudgesLevels (All xs) bytes s (all xs bytes) in subst P (sym (after_none r)) h;
-      }
+  reached_none xs bytes = record { onward = λ r h. subst (λ s. JudgesLevels (All xs) bytes s (all xs bytes)) (sym (after_none r)) h }
 
-  abbrev Steps : Type 0
-  Steps =
-      (x : X) (xs : List X) (bytes : List ℕ) (j : Judgement) (r : Result Judgement ParserError)
-      → TakesTidily (One x strict) (One x tidy) j bytes (one x bytes) → JudgesLevels (All xs) (drop j.used bytes) r (all xs (drop j.used bytes))
-      → JudgesLevels (All (x ∷ xs)) bytes (after_others j.used j.canonical j.tidy r) (all (x ∷ xs) bytes)
+  module _ {xs : List X} {bytes : List ℕ} {k at : ℕ} {canonical so_far : Bool} (before : IsReached xs bytes k at canonical so_far) where
+    -- With one decoded value more, those up to its end are canonical exactly where it is and those before it are, and likewise tidy.
+    pub reached_more : (j : Judgement) (other : X) → k < length xs
+        → (let x = get_or xs k other in TakesTidily (One x strict) (One x tidy) j (drop at bytes) (one x (drop at bytes)))
+        → IsReached xs bytes (k + 1) (at + j.used) (canonical && j.canonical) (so_far && j.tidy)
+    reached_more j other more here = record {
+      onward = λ r h.
+          let others = drop (k + 1) xs in
+          let onward = subst (λ ys.
+          (s : Result Judgement ParserError) → JudgesLevels (All ys) (drop at bytes) s (all ys (drop at bytes))
+          → JudgesLevels (All xs) bytes (after_others at canonical so_far s) (all xs bytes)) (at_drop_more (λ ys. ys) xs k other more) before.onward in
+          subst (λ s. JudgesLevels (All xs) bytes s (all xs bytes)) (after_twice at j.used canonical j.canonical so_far j.tidy r)
+          (onward _ (walk.step (get_or xs k other) others (drop at bytes) j r here
+          (subst (λ bs. JudgesLevels (All others) bs r (all others bs)) (sym (drop-drop j.used at bytes)) h)));
+    }
 
-  -- With one decoded value more, those up to its end are canonical exactly where it is and those before it are, and likewise tidy.
-  pub reached_more : Steps → (xs : List X) (bytes : List ℕ) (k at : ℕ) (canonical so_far : Bool) (j : Judgement) (other : X)
-      → k < length xs → IsReached xs bytes k at canonical so_far
-      → (let x = get_or xs k other in TakesTidily (One x strict) (One x tidy) j (drop at bytes) (one x (drop at bytes)))
-      → IsReached xs bytes (k + 1) (at + j.used) (canonical && j.canonical) (so_far && j.tidy)
-  reached_more step xs bytes k at canonical so_far j other more before here = record {
-    onward = λ r h.
-        let x = get_or xs k other in
-        let others = drop (k + 1) xs in
-        let Rest : List ℕ → Type 0 = λ bs. JudgesLevels (All others) bs r (all others bs) in
-        let P : List X → Type 0 = λ ys.
-        (s : Result Judgement ParserError) → JudgesLevels (All ys) (drop at bytes) s (all ys (drop at bytes))
-        → JudgesLevels (All xs) bytes (after_others at canonical so_far s) (all xs bytes) in
-        let onward = subst P (at_drop_more (λ ys. ys) xs k other more) before.onward in
-        let Whole : Result Judgement ParserError → Type 0 = λ s. JudgesLevels (All xs) bytes s (all xs bytes) in
-        subst Whole (after_twice at j.used canonical j.canonical so_far j.tidy r)
-        (onward _ (step x others (drop at bytes) j r here (subst Rest (sym (drop-drop j.used at bytes)) h)));
-  }
+    -- An error in a value of a list, after those before it, is the error of all.
+    pub reached_fails : (e : ParserError) (other : X) → k < length xs → Fails e (one (get_or xs k other) (drop at bytes)) → Fails e (all xs bytes)
+    reached_fails e other more h =
+        before.onward (Err e) (subst (λ ys. Fails e (all ys (drop at bytes))) (sym (at_drop_more (λ ys. ys) xs k other more))
+        (walk.stop (get_or xs k other) (drop (k + 1) xs) (drop at bytes) e h))
 
-  -- An error in a value of a list, after those before it, is the error of all.
-  pub reached_fails : ((x : X) (xs : List X) (bytes : List ℕ) (e : ParserError) → Fails e (one x bytes) → Fails e (all (x ∷ xs) bytes))
-      → (xs : List X) (bytes : List ℕ) (k at : ℕ) (canonical so_far : Bool) (e : ParserError) (other : X)
-      → k < length xs → IsReached xs bytes k at canonical so_far → Fails e (one (get_or xs k other) (drop at bytes)) → Fails e (all xs bytes)
-  reached_fails stop xs bytes k at canonical so_far e other more before h =
-      let P : List X → Type 0 = λ ys. Fails e (all ys (drop at bytes)) in
-      before.onward (Err e) (subst P (sym (at_drop_more (λ ys. ys) xs k other more)) (stop (get_or xs k other) (drop (k + 1) xs) (drop at bytes) e h))
-
-  -- Where all values of a list were decoded, what is said of them up to the end is said of all.
-  pub reached_all : ((bytes : List ℕ) → JudgesLevels (All []) bytes (judgement 0 true true) (all [] bytes))
-      → (xs : List X) (bytes : List ℕ) (k at : ℕ) (canonical so_far : Bool) → length xs ≤ k
-      → IsReached xs bytes k at canonical so_far → JudgesLevels (All xs) bytes (judgement at canonical so_far) (all xs bytes)
-  reached_all none xs bytes k at canonical so_far end before =
-      let P : List X → Type 0 = λ ys. JudgesLevels (All ys) (drop at bytes) (judgement 0 true true) (all ys (drop at bytes)) in
-      let Whole : Result Judgement ParserError → Type 0 = λ s. JudgesLevels (All xs) bytes s (all xs bytes) in
-      subst Whole (same_judgement (at + 0) at (canonical && true) canonical (so_far && true) so_far (omega arith) (and_true canonical) (and_true so_far))
-      (before.onward (judgement 0 true true) (subst P (sym (drop_all k xs end)) (none (drop at bytes))))
+    -- Where all values of a list were decoded, what is said of them up to the end is said of all.
+    pub reached_all : length xs ≤ k → JudgesLevels (All xs) bytes (judgement at canonical so_far) (all xs bytes)
+    reached_all end =
+        subst (λ s. JudgesLevels (All xs) bytes s (all xs bytes))
+        (same_judgement (at + 0) at (canonical && true) canonical (so_far && true) so_far (omega arith) (and_true canonical) (and_true so_far))
+        (before.onward (judgement 0 true true)
+        (subst (λ ys. JudgesLevels (All ys) (drop at bytes) (judgement 0 true true) (all ys (drop at bytes)))
+        (sym (drop_all k xs end)) (walk.none (drop at bytes))))

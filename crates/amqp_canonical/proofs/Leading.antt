@@ -1,12 +1,11 @@
 -- Keys whose first bytes differ stand as the numbers of those bytes do.
-use Rattle.std.proofs.Common.{◌≡◌, ◌<◌, ◌≤◌, inl, inr, ℕ, zero, suc, ◌+◌, ◌*◌, ◌^◌, Bool, true, false, List, [], ◌∷◌, ◌++◌, length, get_or, drop, nat_eq}
+use Rattle.std.proofs.Common.{◌≡◌, ◌<◌, ◌≤◌, ◌⊎◌, inl, inr, ℕ, zero, suc, ◌+◌, ◌*◌, ◌^◌, Bool, true, false, List, [], ◌∷◌, length, get_or, drop, nat_eq}
 use Rattle.std.proofs.Common.{nat_lt, refl, sym, ap, ap₂, subst, ◌∙◌, arith}
 use Rattle.std.proofs.lemmas.Cmp.{nat_list_cmp_total, tied_itself}
 use Rattle.std.proofs.lemmas.List.{get_or-drop, drop-drop, length-take}
-use Rattle.std.proofs.lemmas.List.Elements.{All-nil, All-cons, All-append}
 use Rattle.std.proofs.lemmas.Map.Lookups.{exact_bytes}
 use Rattle.std.proofs.lemmas.Map.Views.{tells_apart}
-use Rattle.std.specs.Prelude.{All, IsTrue, ◌↔◌}
+use Rattle.std.specs.Prelude.{IsTrue, ◌↔◌}
 use Rattle.std.proofs.lemmas.Bool.{cases_lt, cases_eq, cases_Bool}
 use Rattle.std.proofs.lemmas.Bool.Decides.{nat_tests}
 use Rattle.std.proofs.Math.Nat.{mul-le-mul_right, pow-succ'}
@@ -32,6 +31,18 @@ leading-below (suc n) (b ∷ key) fits =
     let product : (b + 1) * 256 ^ n ≤ 256 * 256 ^ n = mul-le-mul_right (256 ^ n) (omega (arith, first)) in
     omega (arith, rest, power, product)
 
+-- of two numbers of a first digit and others, the first digits decide, and then the others
+digits : (x y power r s : ℕ) → s < power → x * power + r ≤ y * power + s → (x < y) ⊎ ((x ≡ y) × (r ≤ s))
+digits x y power r s fits up = elim (cases_lt x y) [
+  | inl less ↦ inl less
+  | inr higher ↦ elim (cases_eq x y) [
+    | inl same ↦ inr (same, let h : x * power + r ≤ x * power + s = subst (λ z. x * power + r ≤ z * power + s) (sym same) up in omega (arith, h))
+    | inr other ↦
+        let product : (y + 1) * power ≤ x * power = mul-le-mul_right power (omega (arith, higher, other)) in
+        absurd (omega (arith, up, product, fits))
+  ]
+]
+
 -- the first byte that differs decides
 below_first : (x y : ℕ) (xs ys : List ℕ) → x < y → IsBelow (x ∷ xs) (y ∷ ys)
 below_first x y xs ys less = let e : nat_lt x y ≡ true = grind (arith, nat_tests) in rw e refl
@@ -45,115 +56,44 @@ below_rest x y xs ys same less =
 -- a key whose first bytes make a lower number comes before
 pub leading-tells : (n : ℕ) (a b : List ℕ) → IsBytes a → IsBytes b → leading n a < leading n b → IsBelow a b
 unfolding leading
-leading-tells zero a b fa fb less = absurd (omega (arith, less))
-leading-tells (suc n) [] [] fa fb less = absurd (omega (arith, less))
 leading-tells (suc n) [] (y ∷ ys) fa fb less = refl
-leading-tells (suc n) (x ∷ xs) [] fa fb less = absurd (omega (arith, less))
 leading-tells (suc n) (x ∷ xs) (y ∷ ys) fa fb less =
-    elim (cases_lt x y) [
+    elim (digits x y (256 ^ n) (leading n xs + 1) (leading n ys) (leading-below n ys (λ k. fb (suc k))) (omega (arith, less))) [
       | inl lower ↦ below_first x y xs ys lower
-      | inr higher ↦ elim (cases_eq x y) [
-        | inl same ↦
-            below_rest x y xs ys same (leading-tells n xs ys (λ k. fa (suc k)) (λ k. fb (suc k))
-            (let P : ℕ → Type 0 = λ z. x * 256 ^ n + leading n xs < z * 256 ^ n + leading n ys in
-            let h : x * 256 ^ n + leading n xs < x * 256 ^ n + leading n ys = subst P (sym same) less in
-            omega (arith, h)))
-        | inr other ↦ absurd (
-            let more : y + 1 ≤ x = omega (arith, higher, other) in
-            let product : (y + 1) * 256 ^ n ≤ x * 256 ^ n = mul-le-mul_right (256 ^ n) more in
-            omega (arith, less, product, leading-below n ys (λ k. fb (suc k))))
-      ]
+      | inr h ↦ below_rest x y xs ys h.0 (leading-tells n xs ys (λ k. fa (suc k)) (λ k. fb (suc k)) (omega (arith, h.1)))
     ]
+leading-tells n a b fa fb less = absurd (omega (arith, less))
 
 leading-none : (n : ℕ) → leading n [] ≡ 0
 unfolding leading
 leading-none zero = refl
 leading-none (suc n) = refl
 
-not_below : (x y power r s : ℕ) → r < power → x * power + r ≡ y * power + s → x < y → ⊥
-not_below x y power r s one same less =
-    let product : (x + 1) * power ≤ y * power = mul-le-mul_right power (omega (arith, less)) in
-    omega (arith, product, one, same)
-
--- two numbers of a first digit and others below the power are the same in both parts
-same_first : (x y power r s : ℕ) → r < power → s < power → x * power + r ≡ y * power + s → (x ≡ y) × (r ≡ s)
-same_first x y power r s one two same =
-    elim (cases_lt x y) [
-      | inl less ↦ absurd (not_below x y power r s one same less)
-      | inr up ↦ elim (cases_eq x y) [
-        | inl e ↦ (e, let h : x * power + r ≡ x * power + s = same ∙ ap (λ z. z * power + s) (sym e) in omega (arith, h))
-        | inr other ↦ absurd (not_below y x power s r two (sym same) (omega (arith, up, other)))
-      ]
+-- where the first n + 1 bytes are the same, the first one is, and the next n are
+same_first : (n x y : ℕ) (xs ys : List ℕ) → IsBytes (x ∷ xs) → IsBytes (y ∷ ys)
+    → leading (suc n) (x ∷ xs) ≡ leading (suc n) (y ∷ ys) → (x ≡ y) × (leading n xs ≡ leading n ys)
+unfolding leading
+same_first n x y xs ys fx fy same =
+    let up = digits x y (256 ^ n) (leading n xs) (leading n ys) (leading-below n ys (λ k. fy (suc k))) (omega (arith, same)) in
+    let down = digits y x (256 ^ n) (leading n ys) (leading n xs) (leading-below n xs (λ k. fx (suc k))) (omega (arith, same)) in
+    elim up [
+      | inl less ↦ absurd (elim down [ inl more ↦ omega (arith, less, more) | inr h ↦ omega (arith, less, h.0) ])
+      | inr h ↦ elim down [ inl more ↦ absurd (omega (arith, more, h.0)) | inr g ↦ (h.0, omega (arith, h.1, g.1)) ]
     ]
 
--- and so where the first n are the same, and the next ones make a lower number
-pub later-tells : (n m : ℕ) (a b : List ℕ) → IsBytes a → IsBytes b → leading n a ≡ leading n b → leading m (drop n a) < leading m (drop n b) → IsBelow a b
-unfolding leading
-later-tells zero m a b fa fb same less = leading-tells m a b fa fb less
-later-tells (suc n) m [] [] fa fb same less = absurd (omega (arith, less))
-later-tells (suc n) m [] (y ∷ ys) fa fb same less = refl
-later-tells (suc n) m (x ∷ xs) [] fa fb same less = absurd (omega (arith, less, leading-none m))
-later-tells (suc n) m (x ∷ xs) (y ∷ ys) fa fb same less =
-    let one = leading-below n xs (λ k. fa (suc k)) in
-    let two = leading-below n ys (λ k. fb (suc k)) in
-    let first = same_first x y (256 ^ n) (leading n xs) (leading n ys) one two same in
-    below_rest x y xs ys first.0 (later-tells n m xs ys (λ k. fa (suc k)) (λ k. fb (suc k)) first.1 less)
-
--- ---- keys of no more bytes than the numbers have
-
--- of two keys whose first n bytes are the same, one of no more bytes than these comes before a longer one
-shorter_first : (n : ℕ) (a b : List ℕ) → IsBytes a → IsBytes b → leading n a ≡ leading n b → length a ≤ n → length a < length b → IsBelow a b
-unfolding leading
-shorter_first n [] [] fa fb same short less = absurd (omega (arith, less))
-shorter_first n [] (y ∷ ys) fa fb same short less = refl
-shorter_first zero (x ∷ xs) b fa fb same short less = absurd (omega (arith, short))
-shorter_first (suc n) (x ∷ xs) [] fa fb same short less = absurd (omega (arith, less))
-shorter_first (suc n) (x ∷ xs) (y ∷ ys) fa fb same short less =
-    let one = leading-below n xs (λ k. fa (suc k)) in
-    let two = leading-below n ys (λ k. fb (suc k)) in
-    let first = same_first x y (256 ^ n) (leading n xs) (leading n ys) one two same in
-    below_rest x y xs ys first.0 (shorter_first n xs ys (λ k. fa (suc k)) (λ k. fb (suc k)) first.1 (omega (arith, short)) (omega (arith, less)))
-
--- and so where m more are the same
-later_shorter : (n m : ℕ) (a b : List ℕ) → IsBytes a → IsBytes b → leading n a ≡ leading n b
-    → leading m (drop n a) ≡ leading m (drop n b) → length a ≤ n + m → length a < length b → IsBelow a b
-unfolding leading
-later_shorter zero m a b fa fb same next short less = shorter_first m a b fa fb next (omega (arith, short)) less
-later_shorter (suc n) m [] [] fa fb same next short less = absurd (omega (arith, less))
-later_shorter (suc n) m [] (y ∷ ys) fa fb same next short less = refl
-later_shorter (suc n) m (x ∷ xs) [] fa fb same next short less = absurd (omega (arith, less))
-later_shorter (suc n) m (x ∷ xs) (y ∷ ys) fa fb same next short less =
-    let one = leading-below n xs (λ k. fa (suc k)) in
-    let two = leading-below n ys (λ k. fb (suc k)) in
-    let first = same_first x y (256 ^ n) (leading n xs) (leading n ys) one two same in
-    below_rest x y xs ys first.0 (later_shorter n m xs ys (λ k. fa (suc k)) (λ k. fb (suc k)) first.1 next (omega (arith, short)) (omega (arith, less)))
-
--- two of one length, of no more bytes than these, are the same
-same_short : (n : ℕ) (a b : List ℕ) → IsBytes a → IsBytes b → leading n a ≡ leading n b → length a ≤ n → length a ≡ length b → a ≡ b
-unfolding leading
-same_short n [] [] fa fb same short long = refl
-same_short n [] (y ∷ ys) fa fb same short long = absurd (omega (arith, long))
-same_short n (x ∷ xs) [] fa fb same short long = absurd (omega (arith, long))
-same_short zero (x ∷ xs) (y ∷ ys) fa fb same short long = absurd (omega (arith, short))
-same_short (suc n) (x ∷ xs) (y ∷ ys) fa fb same short long =
-    let one = leading-below n xs (λ k. fa (suc k)) in
-    let two = leading-below n ys (λ k. fb (suc k)) in
-    let first = same_first x y (256 ^ n) (leading n xs) (leading n ys) one two same in
-    ap₂ (λ z zs. z ∷ zs) first.0 (same_short n xs ys (λ k. fa (suc k)) (λ k. fb (suc k)) first.1 (omega (arith, short)) (omega (arith, long)))
-
--- and so where m more are the same
-later_same : (n m : ℕ) (a b : List ℕ) → IsBytes a → IsBytes b → leading n a ≡ leading n b
-    → leading m (drop n a) ≡ leading m (drop n b) → length a ≤ n + m → length a ≡ length b → a ≡ b
-unfolding leading
-later_same zero m a b fa fb same next short long = same_short m a b fa fb next (omega (arith, short)) long
-later_same (suc n) m [] [] fa fb same next short long = refl
-later_same (suc n) m [] (y ∷ ys) fa fb same next short long = absurd (omega (arith, long))
-later_same (suc n) m (x ∷ xs) [] fa fb same next short long = absurd (omega (arith, long))
-later_same (suc n) m (x ∷ xs) (y ∷ ys) fa fb same next short long =
-    let one = leading-below n xs (λ k. fa (suc k)) in
-    let two = leading-below n ys (λ k. fb (suc k)) in
-    let first = same_first x y (256 ^ n) (leading n xs) (leading n ys) one two same in
-    ap₂ (λ z zs. z ∷ zs) first.0 (later_same n m xs ys (λ k. fa (suc k)) (λ k. fb (suc k)) first.1 next (omega (arith, short)) (omega (arith, long)))
+-- of two keys of one number of n bytes, one of no more bytes than these comes before a longer one, and is one of its length
+short_keys : (n : ℕ) (a b : List ℕ) → IsBytes a → IsBytes b → leading n a ≡ leading n b → length a ≤ n
+    → (length a < length b → IsBelow a b) × (length a ≡ length b → a ≡ b)
+short_keys n [] [] fa fb same short = (λ less. absurd (omega (arith, less)), λ long. refl)
+short_keys n [] (y ∷ ys) fa fb same short = (λ less. refl, λ long. absurd (omega (arith, long)))
+short_keys n (x ∷ xs) [] fa fb same short = (λ less. absurd (omega (arith, less)), λ long. absurd (omega (arith, long)))
+short_keys zero (x ∷ xs) (y ∷ ys) fa fb same short = absurd (omega (arith, short))
+short_keys (suc n) (x ∷ xs) (y ∷ ys) fa fb same short =
+    let first = same_first n x y xs ys fa fb same in
+    let rest = short_keys n xs ys (λ k. fa (suc k)) (λ k. fb (suc k)) first.1 (omega (arith, short)) in (
+      λ less. below_rest x y xs ys first.0 (rest.0 (omega (arith, less))),
+      λ long. ap₂ (λ z zs. z ∷ zs) first.0 (rest.1 (omega (arith, long))),
+    )
 
 -- ---- the numbers of the bytes
 
@@ -200,54 +140,73 @@ eight_are key = omega (
   leading-zero (drop 8 key),
 )
 
+-- and that of the first ten is that of the first eight and of the next two
+ten_are : (key : List ℕ) → leading 10 key ≡ leading 8 key * 65536 + leading 2 (drop 8 key)
+ten_are key = omega (
+  arith,
+  eight_are key,
+  leading-at 9 0 key,
+  leading-at 8 1 key,
+  leading-at 7 2 key,
+  leading-at 6 3 key,
+  leading-at 5 4 key,
+  leading-at 4 5 key,
+  leading-at 3 6 key,
+  leading-at 2 7 key,
+)
+
+-- where the first eight bytes are the same, and the next two make a lower number, the key comes before
+pub next-tells : (a b : List ℕ) → IsBytes a → IsBytes b → leading 8 a ≡ leading 8 b → leading 2 (drop 8 a) < leading 2 (drop 8 b) → IsBelow a b
+next-tells a b fa fb same less = leading-tells 10 a b fa fb (omega (arith, ten_are a, ten_are b, same, less))
+
 -- ---- marks
 
 key_fits : (bytes : List ℕ) → IsBytes bytes → IsBytes (key_in bytes)
 key_fits [] fits = fits
 key_fits (n ∷ bytes) fits = IsBytes-take n bytes (λ k. fits (suc k))
 
--- A key whose mark has a greater number of its first eight bytes comes after one whose mark has a less.
-pub lead_tells : (content : List ℕ) (previous mark : EntryMark) → IsBytes content → IsMarkOf content previous
-    → IsMarkOf content mark → previous.lead < mark.lead → Ascends content previous mark
-lead_tells content previous mark fits p m less =
-    leading-tells 8 (key_at content previous) (key_at content mark) (key_fits (drop previous.place content) (IsBytes-drop previous.place content fits))
-    (key_fits (drop mark.place content) (IsBytes-drop mark.place content fits)) (omega (arith, p.first, m.first, less))
-
--- Of two keys whose first eight bytes are the same, the one with the greater number of the next two comes after the other.
-pub more_tells : (content : List ℕ) (previous mark : EntryMark) → IsBytes content → IsMarkOf content previous
-    → IsMarkOf content mark → previous.lead ≡ mark.lead → previous.more < mark.more → Ascends content previous mark
-more_tells content previous mark fits p m same less =
-    later-tells 8 2 (key_at content previous) (key_at content mark) (key_fits (drop previous.place content) (IsBytes-drop previous.place content fits))
-    (key_fits (drop mark.place content) (IsBytes-drop mark.place content fits)) (sym p.first ∙ same ∙ m.first) (omega (arith, p.next, m.next, less))
-
 -- a key has at most 255 bytes
 pub key_is_short : (bytes : List ℕ) → IsBytes bytes → length (key_in bytes) < 256
 key_is_short [] fits = omega arith
 key_is_short (n ∷ bytes) fits = let few : n < 256 = fits 0 in omega (arith, few, length-take n bytes)
 
-key_at_fits : (content : List ℕ) (mark : EntryMark) → IsBytes content → IsBytes (key_at content mark)
-key_at_fits content mark fits = key_fits (drop mark.place content) (IsBytes-drop mark.place content fits)
+module _ (content : List ℕ) (a b : EntryMark) (p : IsMarkOf content a) (q : IsMarkOf content b) where
+  abbrev one : List ℕ
+  one = key_at content a
 
--- where the numbers are the same, a key of no more bytes than these comes before a longer one
-pub size_tells : (content : List ℕ) (previous mark : EntryMark) → IsBytes content → IsMarkOf content previous → IsMarkOf content mark
-    → previous.lead ≡ mark.lead → previous.more ≡ mark.more → previous.key_size ≤ 10 → previous.key_size < mark.key_size
-    → Ascends content previous mark
-size_tells content previous mark fits p m same next short less =
-    later_shorter 8 2 (key_at content previous) (key_at content mark) (key_at_fits content previous fits) (key_at_fits content mark fits)
-    (sym p.first ∙ same ∙ m.first) (sym p.next ∙ next ∙ m.next) (omega (arith, p.key_length, short)) (omega (arith, p.key_length, m.key_length, less))
+  abbrev two : List ℕ
+  two = key_at content b
 
--- and two of one length are the same
-pub size_ties : (content : List ℕ) (a b : EntryMark) → IsBytes content → IsMarkOf content a → IsMarkOf content b
-    → a.lead ≡ b.lead → a.more ≡ b.more → a.key_size ≡ b.key_size → a.key_size ≤ 10 → key_at content a ≡ key_at content b
-size_ties content a b fits p q same next long short =
-    later_same 8 2 (key_at content a) (key_at content b) (key_at_fits content a fits) (key_at_fits content b fits)
-    (sym p.first ∙ same ∙ q.first) (sym p.next ∙ next ∙ q.next) (omega (arith, p.key_length, short)) (sym p.key_length ∙ long ∙ q.key_length)
+  -- marks of one key have the same numbers
+  pub same_lead : one ≡ two → (a.lead ≡ b.lead) × (a.more ≡ b.more) × (a.key_size ≡ b.key_size)
+  same_lead same = (
+    p.first ∙ ap (leading 8) same ∙ sym q.first,
+    p.next ∙ ap (λ k. leading 2 (drop 8 k)) same ∙ sym q.next,
+    p.key_length ∙ ap length same ∙ sym q.key_length,
+  )
 
--- marks of one key have the same numbers
-pub same_lead : (content : List ℕ) (a b : EntryMark) → IsMarkOf content a → IsMarkOf content b
-    → key_at content a ≡ key_at content b → (a.lead ≡ b.lead) × (a.more ≡ b.more) × (a.key_size ≡ b.key_size)
-same_lead content a b p q same =
-    (p.first ∙ ap (leading 8) same ∙ sym q.first, p.next ∙ ap (λ k. leading 2 (drop 8 k)) same ∙ sym q.next, p.key_length ∙ ap length same ∙ sym q.key_length)
+  module _ (fits : IsBytes content) where
+    fits_at : (at : ℕ) → IsBytes (key_in (drop at content))
+    fits_at at = key_fits (drop at content) (IsBytes-drop at content fits)
+
+    -- A key whose mark has a greater number of its first eight bytes comes after one whose mark has a less.
+    pub lead_tells : a.lead < b.lead → Ascends content a b
+    lead_tells less = leading-tells 8 one two (fits_at a.place) (fits_at b.place) (omega (arith, p.first, q.first, less))
+
+    -- Of two keys whose first eight bytes are the same, the one with the greater number of the next two comes after the other.
+    pub more_tells : a.lead ≡ b.lead → a.more < b.more → Ascends content a b
+    more_tells same less =
+        next-tells one two (fits_at a.place) (fits_at b.place) (omega (arith, p.first, q.first, same)) (omega (arith, p.next, q.next, less))
+
+    -- Where the numbers are the same, a key of no more bytes than these comes before a longer one, and is one of its length.
+    pub size_tells : a.lead ≡ b.lead → a.more ≡ b.more → a.key_size ≤ 10
+        → (a.key_size < b.key_size → Ascends content a b) × (a.key_size ≡ b.key_size → one ≡ two)
+    size_tells same next short =
+        let ten : leading 10 one ≡ leading 10 two = omega (arith, ten_are one, ten_are two, p.first, q.first, p.next, q.next, same, next) in
+        let tells = short_keys 10 one two (fits_at a.place) (fits_at b.place) ten (omega (arith, p.key_length, short)) in (
+          λ less. tells.0 (omega (arith, p.key_length, q.key_length, less)),
+          λ long. tells.1 (omega (arith, p.key_length, q.key_length, long)),
+        )
 
 -- keys that differ
 pub never : (a b : List ℕ) → (a ≡ b → ⊥) → IsTrue false ↔ (a ≡ b)
@@ -260,14 +219,8 @@ always a b same = (λ t. same, λ e. refl)
 -- a test that holds exactly where two keys are the same
 pub same_test : (a b : List ℕ) (r : Bool) → IsTrue r ↔ (a ≡ b) → r ≡ is_eq (slice_cmp nat_cmp a b)
 same_test a b true h =
-    let P : List ℕ → Type 0 = λ k. is_eq (slice_cmp nat_cmp a k) ≡ true in
-    sym (subst P (h.0 refl) (ap is_eq (tied_itself nat_list_cmp_total a)))
+    sym (subst (λ k. is_eq (slice_cmp nat_cmp a k) ≡ true) (h.0 refl) (ap is_eq (tied_itself nat_list_cmp_total a)))
 same_test a b false h = elim (cases_Bool (is_eq (slice_cmp nat_cmp a b))) [
   | inl tied ↦ h.1 (tells_apart exact_bytes a b tied) ∙ sym tied
   | inr apart ↦ sym apart
 ]
-
--- Marks of entries with one more mark of an entry at the end are marks of entries.
-pub all_marked : (content : List ℕ) (marks : List EntryMark) (mark : EntryMark)
-    → All (IsMarkOf content) marks → IsMarkOf content mark → All (IsMarkOf content) (marks ++ mark ∷ [])
-all_marked content marks mark h one = All-append (IsMarkOf content) marks (mark ∷ []) h (All-cons (IsMarkOf content) mark [] one (All-nil (IsMarkOf content)))

@@ -1,7 +1,7 @@
 -- Entries that are marked one after another.
-use Rattle.std.proofs.Common.{◌≡◌, ◌<◌, ◌≤◌, ℕ, ◌+◌, List, [], ◌∷◌, ◌++◌, length, map, drop, refl, sym, ap, subst, ◌∙◌, append_assoc, append-nil, arith}
+use Rattle.std.proofs.Common.{◌≡◌, ◌<◌, ◌≤◌, ℕ, ◌+◌, List, [], ◌∷◌, ◌++◌, length, map, drop, refl, sym, ap, ◌∙◌, append_assoc, append-nil, arith}
 use Rattle.std.proofs.lemmas.List.{length-drop, drop-drop, map-append}
-use Rattle.std.proofs.lemmas.List.Elements.{All-nil, All-cons, All-append}
+use Rattle.std.proofs.lemmas.List.Elements.{All-push}
 use Rattle.std.specs.List.{AllByRecursion}
 use Rattle.amqp_types.specs.Judging.{IsBytes}
 use Rattle.amqp_types.specs.Values.{Entry}
@@ -44,7 +44,6 @@ entries_next room content at size front fits more sized h =
     let count : one.size ≡ size = sym (sized read ∙ ap (λ j. used_by j) one.is) in
     let entry : judged_entry (entry_at room content at) ≡ one.thing = ap (λ j. judged_entry j) one.is in
     let place : drop one.size (drop at content) ≡ drop (at + size) content = drop-drop one.size at content ∙ ap (λ m. drop (at + m) content) count in
-    let P : List ℕ → Type 0 = λ bs. IsFilled (filled (judge_entry (judge_value room)) 0 bs) in
     let rest : List ℕ → List Entry = λ bs. items_of (filled (judge_entry (judge_value room)) 0 bs) in
     record {
       read = read;
@@ -52,9 +51,8 @@ entries_next room content at size front fits more sized h =
       some = omega (arith, one.some, count);
       within = omega (arith, one.within, count, length-drop at content);
       next = record {
-        left = subst P place one.left;
-        all = ap (λ e. (front ++ e ∷ []) ++ rest (drop (at + size) content)) entry ∙ append_assoc front (one.thing ∷ []) (rest (drop (at + size) content))
-            ∙ ap (λ bs. front ++ one.thing ∷ rest bs) (sym place) ∙ ap (λ es. front ++ es) (sym one.all) ∙ h.all;
+        left = rw (← place) one.left;
+        all = rw (entry, append_assoc front (one.thing ∷ []) (rest (drop (at + size) content)), ← place, ← one.all) h.all;
       };
     }
 
@@ -73,9 +71,6 @@ pub record MarkedTo (room : ℕ) (content : List ℕ) (at : ℕ) (marks : List E
   pub placed : ArePlaced (λ mark. (marked_entry room content mark).0) (λ mark. mark.place) marks
   pub below : AllByRecursion (λ mark. mark.place < at) marks
 
-pub marked_none : (room : ℕ) (content : List ℕ) → AreEntries room content → MarkedTo room content 0 []
-marked_none room content h = record { read = All-nil _; entries = entries_none room content h; placed = tt; below = tt }
-
 -- Marks of the entries up to a place, and one at the place, are marks of the entries up to the end of that entry.
 pub marked_next : (room : ℕ) (content : List ℕ) (at size : ℕ) (marks : List EntryMark) (mark : EntryMark) → IsBytes content → at < length content
     → (IsRead (entry_at room content at) → size ≡ used_by (entry_at room content at)) → mark.place ≡ at → MarkedTo room content at marks
@@ -83,15 +78,10 @@ pub marked_next : (room : ℕ) (content : List ℕ) (at size : ℕ) (marks : Lis
 marked_next room content at size marks mark fits more sized is h =
     let f = marked_entry room content in
     let here = entries_next room content at size (map f marks) fits more sized h.entries in
-    let P : ℕ → Type 0 = λ k. IsRead (entry_at room content k) in
-    let Q : ℕ → Type 0 = λ k. EntriesTo room content (at + size) (map f marks ++ judged_entry (entry_at room content k) ∷ []) in
-    let R : List Entry → Type 0 = λ es. EntriesTo room content (at + size) es in
-    let read : IsRead (entry_at room content mark.place) = subst P (sym is) here.read in
+    let read : IsRead (entry_at room content mark.place) = rw is here.read in
     record {
-      read =
-          All-append (λ m. IsRead (entry_at room content m.place)) marks (mark ∷ []) h.read
-          (All-cons (λ m. IsRead (entry_at room content m.place)) mark [] read (All-nil _));
-      entries = subst R (sym (map-append f marks (mark ∷ []))) (subst Q (sym is) here.next);
+      read = All-push (λ m. IsRead (entry_at room content m.place)) marks mark h.read read;
+      entries = rw (map-append f marks (mark ∷ []), is) here.next;
       placed =
           placed_last (λ m. (f m).0) (λ m. m.place) marks mark h.placed
           (each_weaker (λ m. m.place < at) (λ m. Precedes (λ x. (f x).0) (λ x. x.place) m mark) (λ m less same. omega (arith, less, is)) marks h.below);

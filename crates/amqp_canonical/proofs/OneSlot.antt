@@ -8,16 +8,15 @@ use Rattle.std.specs.Cmp.Lexicographic.{pointwise, told_text}
 use Rattle.std.specs.Int.{from_be_bytes}
 use Rattle.std.specs.Result.{IsErrAnd}
 use Rattle.amqp_types.specs.Levels.{Level, plain, tidy, strict}
-use Rattle.amqp_types.specs.Judging.{Judged, took, past, IsBytes, ◌>>=◌}
+use Rattle.amqp_types.specs.Judging.{Judge, Judged, IsExact, took, past, IsBytes, ◌>>=◌}
 use Rattle.amqp_types.specs.Answers.{AnswersFully}
-use Rattle.amqp_types.specs.Numbers.{NumberWidth, bytes2, width_of, byte_count, number_limit, judge_number, number_bytes}
-use Rattle.amqp_types.specs.Flags.{flags_from, judge_flags}
-use Rattle.amqp_types.specs.Strings.{judge_short_string, judge_long_string}
-use Rattle.amqp_types.specs.Values.{Entry}
+use Rattle.amqp_types.specs.Numbers.{NumberWidth, bytes2, width_of, byte_count, number_limit, judge_number, number_bytes, SpellsNumber}
+use Rattle.amqp_types.specs.Flags.{FromTidy, SpellsFlags, flags_from, judge_flags}
+use Rattle.amqp_types.specs.Sequences.{SpellsMapped, judge_map}
+use Rattle.amqp_types.specs.Strings.{judge_short_string, judge_long_string, SpellsShortString, SpellsLongString}
 use Rattle.amqp_types.specs.ValueJudging.{judge_table, judge_value}
-use Rattle.amqp_types.specs.ValueSpelling.{SpellsTable, SpellsValue}
-use Rattle.amqp_types.specs.Slots.{Item, number_item, flag_item, text_item, bytes_item, entries_item, Form, number_form, flags_form}
-use Rattle.amqp_types.specs.Slots.{short_string_form, long_string_form, table_form}
+use Rattle.amqp_types.specs.Slots.{Item, number_item, flag_item, text_item, bytes_item, entries_item, Form, number_form, flags_form, short_string_form}
+use Rattle.amqp_types.specs.Slots.{long_string_form, table_form}
 use Rattle.amqp_types.specs.SlotJudging.{judge_form, judge_dropped}
 use Rattle.amqp_types.specs.SlotBytes.{form_bytes}
 use Rattle.amqp_types.specs.SlotSpelling.{SpellsForm, SpellsReserved}
@@ -44,18 +43,38 @@ use Rattle.amqp_canonical.proofs.Strict.{table_strict}
 pub err_passed : {A : Type 0} (IsCanonical IsTidy : List ℕ → A → Type 0) (bytes : List ℕ) (r : Result Judgement ParserError) (e : ParserError) (j : Judged A)
     → IsErrAnd r (λ x. x ≡ e) → Fails e j → JudgesTidily IsCanonical IsTidy bytes r j
 err_passed IsCanonical IsTidy bytes (Ok w) e j is h = absurd is
-err_passed IsCanonical IsTidy bytes (Err x) e j is h = let P : ParserError → Type 0 = λ y. Fails y j in subst P (sym is) h
+err_passed IsCanonical IsTidy bytes (Err x) e j is h = rw is h
 
 -- what is taken at a level, form by form
 abbrev Taken : Form → ℕ → Bool → Bool → List ℕ → Type 0
 Taken form n canonical neat bytes =
     TakesTidily (SpellsForm strict form) (SpellsForm tidy form) (record { used = n; canonical = canonical; tidy = neat }) bytes (judge_form form bytes)
 
+-- what is taken of a reserved field, as it was written or not
+abbrev TakenReserved : Form → List Item → ℕ → Bool → List ℕ → Type 0
+TakenReserved form constant n as_written bytes =
+    TakesTidily (SpellsReserved strict form constant) (SpellsReserved tidy form constant)
+    (record { used = n; canonical = as_written; tidy = as_written }) bytes (judge_dropped form bytes)
+
 -- of what has one encoding
-one_spelling : (form : Form) (bytes : List ℕ) (items : List Item) (n : ℕ) → judge_form form bytes ≡ took items n
-    → ((level : Level) → SpellsForm level form (take n bytes) items) → Taken form n true true bytes
-one_spelling form bytes items n is spelled =
-    record { thing = items; is = is; canonical = (λ t. spelled strict, λ h. refl); tidy = (λ t. spelled tidy, λ h. refl) }
+one_took : {A : Type 0} (form : Form) (make : A → Item) (judge : Judge A) (Spells : List ℕ → A → Type 0) → IsExact judge Spells
+    → judge_form form ≡ judge_map (λ x. make x ∷ []) judge → ((level : Level) → SpellsMapped Spells (λ x. make x ∷ []) ≡ SpellsForm level form)
+    → (bytes : List ℕ) (x : A) (n : ℕ) → IsBytes bytes → judge bytes ≡ took x n → Taken form n true true bytes
+one_took form make judge Spells exact is same bytes x n fits h =
+    let one = exact.spelled bytes x n fits h in
+    let spelled : (level : Level) → SpellsForm level form (take n bytes) (make x ∷ []) = λ level.
+    subst (λ S. S (take n bytes) (make x ∷ [])) (same level) (record { thing = x; spelled = one.0; made = refl }) in
+    record {
+      thing = make x ∷ [];
+      is = ap (λ f. f bytes) is ∙ ap (λ j. j >>= λ y. took (make y.0 ∷ []) y.1) h;
+      canonical = (λ t. spelled strict, λ s. refl);
+      tidy = (λ t. spelled tidy, λ s. refl);
+    }
+
+number_taken : (width : NumberWidth) (bytes : List ℕ) (x n : ℕ) → IsBytes bytes → judge_number width bytes ≡ took x n
+    → Taken (number_form width) n true true bytes
+unfolding judge_form
+number_taken width = one_took (number_form width) number_item (judge_number width) (SpellsNumber width) (number_exact width) refl (λ level. refl)
 
 -- ---- numbers
 
@@ -64,23 +83,11 @@ pub number_form_past : (width : NumberWidth) (bytes : List ℕ) (n : ℕ) → by
 unfolding judge_form
 number_form_past width bytes n count short = ap (λ j. j >>= λ x. took (number_item x.0 ∷ []) x.1) (number_past width bytes (omega (arith, count, short)))
 
-number_form_whole : (width : NumberWidth) (bytes : List ℕ) → IsBytes bytes
-    → byte_count width ≤ length bytes → Taken (number_form width) (byte_count width) true true bytes
-unfolding judge_form
-number_form_whole width bytes fits long =
-    let bits : ℕ = from_be_bytes (width_of width) (take (byte_count width) bytes) in
-    let is = number_took width bytes long in
-    let exact = number_exact width in
-    let one = exact.spelled bytes bits (byte_count width) fits is in
-    one_spelling (number_form width) bytes (number_item bits ∷ []) (byte_count width)
-    (ap (λ j. j >>= λ x. took (number_item x.0 ∷ []) x.1) is) (λ level. record { thing = bits; spelled = one.0; made = refl })
-
 -- A number as a field takes the bytes of its width, and is canonical and tidy.
 pub number_form_took : (width : NumberWidth) (bytes : List ℕ) (n : ℕ) → IsBytes bytes
     → byte_count width ≡ n → n ≤ length bytes → Taken (number_form width) n true true bytes
 number_form_took width bytes n fits count long =
-    let P : ℕ → Type 0 = λ k. Taken (number_form width) k true true bytes in
-    subst P count (number_form_whole width bytes fits (omega (arith, count, long)))
+    rw (← count) (number_taken width bytes _ (byte_count width) fits (number_took width bytes (omega (arith, count, long))))
 
 -- ---- strings
 
@@ -93,10 +100,7 @@ short_form_fails bytes view e h = fails_next e (judge_short_string bytes) _ (ful
 -- A short string as a field takes what the string takes, and is canonical and tidy.
 pub short_form_took : (bytes text : List ℕ) (n : ℕ) → IsBytes bytes → judge_short_string bytes ≡ took text n → Taken short_string_form n true true bytes
 unfolding judge_form
-short_form_took bytes text n fits is =
-    let one = short_string_exact.spelled bytes text n fits is in
-    one_spelling short_string_form bytes (text_item text ∷ []) n (ap (λ j. j >>= λ x. took (text_item x.0 ∷ []) x.1) is)
-    (λ level. record { thing = text; spelled = one.0; made = refl })
+short_form_took = one_took short_string_form text_item judge_short_string SpellsShortString short_string_exact refl (λ level. refl)
 
 -- An error in a long string is the error of the field.
 pub long_form_fails : {A : Type 0} (bytes : List ℕ) (view : A → List ℕ) (e : ParserError)
@@ -107,10 +111,7 @@ long_form_fails bytes view e h = fails_next e (judge_long_string bytes) _ (fully
 -- A long string as a field takes what the string takes, and is canonical and tidy.
 pub long_form_took : (bytes content : List ℕ) (n : ℕ) → IsBytes bytes → judge_long_string bytes ≡ took content n → Taken long_string_form n true true bytes
 unfolding judge_form
-long_form_took bytes content n fits is =
-    let one = long_string_exact.spelled bytes content n fits is in
-    one_spelling long_string_form bytes (bytes_item content ∷ []) n (ap (λ j. j >>= λ x. took (bytes_item x.0 ∷ []) x.1) is)
-    (λ level. record { thing = content; spelled = one.0; made = refl })
+long_form_took = one_took long_string_form bytes_item judge_long_string SpellsLongString long_string_exact refl (λ level. refl)
 
 -- ---- flags
 
@@ -120,8 +121,17 @@ unfolding judge_form judge_flags
 flags_form_past count [] h = refl
 flags_form_past count (b ∷ bytes) h = absurd (omega (arith, h))
 
-same_byte : (b c : ℕ) → b ∷ [] ≡ c ∷ [] → b ≡ c
-same_byte b c h = cc
+flags_level : (level : Level) (count b : ℕ) (fits : Bool) → b < 256 → IsTrue fits ↔ (b < 2 ^ count)
+    → ((x : ℕ) → FromTidy level (x < 2 ^ count) ↔ (x < 2 ^ count))
+    → IsTrue fits ↔ SpellsMapped (SpellsFlags level count) (map flag_item) (b ∷ []) (map flag_item (flags_from count 0 b))
+flags_level level count b fits low decides same =
+    decided_as fits _ _ decides
+    (λ small. record {
+      thing = flags_from count 0 b;
+      spelled = record { byte = b; fits = low; bytes_are = refl; flags_are = refl; unused = (same b).1 small };
+      made = refl;
+    })
+    (λ s. let is : b ≡ s.spelled.byte = let e = s.spelled.bytes_are in cc in rw is ((same s.spelled.byte).0 s.spelled.unused))
 
 -- Flags take one byte, and are canonical and tidy exactly where no bit above them is set.
 pub flags_form_took : (count : ℕ) (bytes : List ℕ) (fits : Bool) → IsBytes bytes → 1 ≤ length bytes
@@ -130,20 +140,13 @@ flags_form_took count [] fits all some decides = absurd (omega (arith, some))
 flags_form_took count (b ∷ bytes) fits all some decides =
     let flags = flags_from count 0 b in
     let low : b < 256 = omega (arith, all 0) in
-    let Low : ℕ → Type 0 = λ x. x < 2 ^ count in
     record {
       thing = map flag_item flags;
       is =
           (forms_lawful (flags_form count)).exact.taken (b ∷ []) bytes (map flag_item flags)
           (record { thing = flags; spelled = record { byte = b; fits = low; bytes_are = refl; flags_are = refl; unused = tt }; made = refl });
-      canonical =
-          decided_as fits _ _ decides
-          (λ small. record { thing = flags; spelled = record { byte = b; fits = low; bytes_are = refl; flags_are = refl; unused = small }; made = refl })
-          (λ s. subst Low (sym (same_byte b s.spelled.byte s.spelled.bytes_are)) s.spelled.unused);
-      tidy =
-          decided_as fits _ _ decides
-          (λ small. record { thing = flags; spelled = record { byte = b; fits = low; bytes_are = refl; flags_are = refl; unused = small }; made = refl })
-          (λ s. subst Low (sym (same_byte b s.spelled.byte s.spelled.bytes_are)) s.spelled.unused);
+      canonical = flags_level strict count b fits low decides (λ x. (λ p. p, λ p. p));
+      tidy = flags_level tidy count b fits low decides (λ x. (λ p. p, λ p. p));
     }
 
 -- no bit above the first ones
@@ -165,9 +168,6 @@ pub table_form_fails : (bytes : List ℕ) (e : ParserError) → Fails e (judge_t
 unfolding judge_form
 table_form_fails bytes e h = fails_next e (judge_table (judge_value 63) bytes) _ h
 
-same_entries : (es fs : List Entry) → entries_item es ∷ [] ≡ entries_item fs ∷ [] → es ≡ fs
-same_entries es fs h = cc
-
 -- A table as a field takes what the table takes, is canonical exactly where the table is, and is tidy.
 pub table_form_took : (bytes : List ℕ) (w : ValueJudgement) → IsBytes bytes
     → DecodesAs IsCanonicalTable w bytes (judge_table (judge_value 63) bytes) → Taken table_form w.used w.canonical true bytes
@@ -175,14 +175,13 @@ unfolding judge_form
 table_form_took bytes w fits h =
     let is = ap (λ j. j >>= λ x. took (entries_item x.0 ∷ []) x.1) h.is in
     let decides = table_strict 63 bytes h.thing w.used fits h.is in
-    let Q : List Entry → Type 0 = λ es. SpellsTable strict (SpellsValue strict 63) (take w.used bytes) es in
     let one = (forms_lawful table_form).exact.spelled bytes (entries_item h.thing ∷ []) w.used fits is in
     record {
       thing = entries_item h.thing ∷ [];
       is = is;
       canonical =
           decided_as w.canonical _ _ h.decides (λ e. record { thing = h.thing; spelled = decides.0 e; made = refl })
-          (λ s. decides.1 (subst Q (sym (same_entries h.thing s.thing s.made)) s.spelled));
+          (λ s. let same : h.thing ≡ s.thing = let e = s.made in cc in decides.1 (rw same s.spelled));
       tidy = (
         λ t. record { thing = one.0.thing; spelled = field_table_plain_is_tidy (take w.used bytes) one.0.thing one.0.spelled; made = one.0.made },
         λ s. refl,
@@ -193,26 +192,13 @@ table_form_took bytes w fits h =
 
 reserved_tidy_is_strict : (form : Form) (constant : List Item) (bytes : List ℕ) (items : List Item) → is_least form constant ≡ true
     → SpellsReserved tidy form constant bytes items → SpellsReserved strict form constant bytes items
-reserved_tidy_is_strict (number_form width) constant bytes items least h = record { dropped = h.dropped; spelled = h.spelled; none = h.none; unused = h.unused }
-reserved_tidy_is_strict (flags_form count) constant bytes items least h = record {
-  dropped = h.dropped;
-  spelled = record {
-    thing = h.spelled.thing;
-    spelled = record {
-      byte = h.spelled.spelled.byte;
-      fits = h.spelled.spelled.fits;
-      bytes_are = h.spelled.spelled.bytes_are;
-      flags_are = h.spelled.spelled.flags_are;
-      unused = h.spelled.spelled.unused;
-    };
-    made = h.spelled.made;
-  };
-  none = h.none;
-  unused = h.unused;
-}
-reserved_tidy_is_strict short_string_form constant bytes items least h = record { dropped = h.dropped; spelled = h.spelled; none = h.none; unused = h.unused }
-reserved_tidy_is_strict long_string_form constant bytes items least h = record { dropped = h.dropped; spelled = h.spelled; none = h.none; unused = h.unused }
+reserved_tidy_is_strict (flags_form count) constant bytes items least h =
+    let s = h.spelled.spelled in
+    let flags : SpellsFlags strict count bytes h.spelled.thing =
+    record { byte = s.byte; fits = s.fits; bytes_are = s.bytes_are; flags_are = s.flags_are; unused = s.unused } in
+    record { dropped = h.dropped; spelled = record { thing = h.spelled.thing; spelled = flags; made = h.spelled.made }; none = h.none; unused = h.unused }
 reserved_tidy_is_strict table_form constant bytes items least h = absurd cc
+reserved_tidy_is_strict _ constant bytes items least h = record { dropped = h.dropped; spelled = h.spelled; none = h.none; unused = h.unused }
 
 -- An error in the form of a reserved field is the error of the field.
 pub reserved_fails : (form : Form) (bytes : List ℕ) (e : ParserError) → Fails e (judge_form form bytes) → Fails e (judge_dropped form bytes)
@@ -222,16 +208,14 @@ reserved_fails form bytes e h = fails_next e (judge_form form bytes) _ h
 pub reserved_took : (form : Form) (constant : List Item) (bytes : List ℕ) (j : Judgement) (as_written : Bool) → IsBytes bytes
     → is_least form constant ≡ true → TakesTidily (SpellsForm strict form) (SpellsForm tidy form) j bytes (judge_form form bytes)
     → IsTrue as_written ↔ (take j.used bytes ≡ form_bytes form constant)
-    → TakesTidily (SpellsReserved strict form constant) (SpellsReserved tidy form constant)
-    (record { used = j.used; canonical = as_written; tidy = as_written }) bytes (judge_dropped form bytes)
+    → TakenReserved form constant j.used as_written bytes
 unfolding judge_dropped
 reserved_took form constant bytes j as_written fits least h decides =
     let law = reserved_lawful form constant least in
     let is : judge_dropped form bytes ≡ took [] j.used = ap (λ j. j >>= λ x. took [] x.1) h.is in
     let one = law.exact.spelled bytes [] j.used fits is in
     let front = take j.used bytes in
-    let P : List ℕ → Type 0 = λ bs. SpellsReserved strict form constant bs [] in
-    let up : front ≡ form_bytes form constant → SpellsReserved strict form constant front [] = λ e. subst P (sym e) (law.canonical_is_strict front [] one.0) in
+    let up : front ≡ form_bytes form constant → SpellsReserved strict form constant front [] = λ e. rw e (law.canonical_is_strict front [] one.0) in
     record {
       thing = [];
       is = is;
@@ -250,8 +234,7 @@ bytes_decided xs ys false h = (λ t. absurd (true≢false (sym t)), λ e. absurd
 pub constant_took : (form : Form) (bytes constant : List ℕ) (j : Judgement) (as_written : Bool) → IsBytes bytes
     → is_constant form constant ≡ true → TakesTidily (SpellsForm strict form) (SpellsForm tidy form) j bytes (judge_form form bytes)
     → IsTrue as_written ↔ (take j.used bytes ≡ constant)
-    → TakesTidily (SpellsReserved strict form (constant_of form constant)) (SpellsReserved tidy form (constant_of form constant))
-    (record { used = j.used; canonical = as_written; tidy = as_written }) bytes (judge_dropped form bytes)
+    → TakenReserved form (constant_of form constant) j.used as_written bytes
 constant_took form bytes constant j as_written fits is h decides =
     let put = constant_put form constant is in
     reserved_took form (constant_of form constant) bytes j as_written fits
@@ -260,17 +243,12 @@ constant_took form bytes constant j as_written fits is h decides =
 -- a number is its constant
 pub reserved_number_took : (width : NumberWidth) (bytes : List ℕ) (n constant used : ℕ) (as_written : Bool) → IsBytes bytes
     → constant < number_limit width → judge_number width bytes ≡ took n used → IsTrue as_written ↔ (n ≡ constant)
-    → TakesTidily (SpellsReserved strict (number_form width) (number_item constant ∷ [])) (SpellsReserved tidy (number_form width) (number_item constant ∷ []))
-    (record { used = used; canonical = as_written; tidy = as_written }) bytes (judge_dropped (number_form width) bytes)
+    → TakenReserved (number_form width) (number_item constant ∷ []) used as_written bytes
 unfolding judge_form form_bytes
 reserved_number_took width bytes n constant used as_written fits low is decides =
-    let exact = number_exact width in
-    let one = exact.spelled bytes n used fits is in
-    let found =
-    one_spelling (number_form width) bytes (number_item n ∷ []) used
-    (ap (λ j. j >>= λ x. took (number_item x.0 ∷ []) x.1) is) (λ level. record { thing = n; spelled = one.0; made = refl }) in
+    let one = (number_exact width).spelled bytes n used fits is in
     reserved_took (number_form width) (number_item constant ∷ []) bytes
-    (record { used = used; canonical = true; tidy = true }) as_written fits (grind (arith, nat_tests)) found
+    (record { used = used; canonical = true; tidy = true }) as_written fits (grind (arith, nat_tests)) (number_taken width bytes n used fits is)
     (decided_as as_written _ _ decides (λ e. one.0.bytes_are ∙ ap (number_bytes width) e)
     (λ e. (numbers_lawful width).one_meaning plain (take used bytes) n constant one.0 (record { fits = low; bytes_are = e })))
 
@@ -291,12 +269,7 @@ two_bytes (a ∷ b ∷ c ∷ bytes) two = absurd (omega (arith, two))
 pub reserved_short_took : (bytes constant : List ℕ) (n written used : ℕ) (as_written : Bool) → IsBytes bytes
     → length constant ≡ 2 → written ≡ from_be_bytes (width_of bytes2) (get_or constant 0 0 ∷ get_or constant 1 0 ∷ [])
     → written < number_limit bytes2 → judge_number bytes2 bytes ≡ took n used → IsTrue as_written ↔ (n ≡ written)
-    → (let items = constant_of (number_form bytes2) constant in
-    TakesTidily (SpellsReserved strict (number_form bytes2) items) (SpellsReserved tidy (number_form bytes2) items)
-    (record { used = used; canonical = as_written; tidy = as_written }) bytes (judge_dropped (number_form bytes2) bytes))
+    → TakenReserved (number_form bytes2) (constant_of (number_form bytes2) constant) used as_written bytes
 reserved_short_took bytes constant n written used as_written fits two is low taken decides =
     let same : written ≡ from_be_bytes (width_of bytes2) constant = is ∙ ap (from_be_bytes (width_of bytes2)) (sym (two_bytes constant two)) in
-    let P : ℕ → Type 0 = λ m.
-    TakesTidily (SpellsReserved strict (number_form bytes2) (number_item m ∷ [])) (SpellsReserved tidy (number_form bytes2) (number_item m ∷ []))
-    (record { used = used; canonical = as_written; tidy = as_written }) bytes (judge_dropped (number_form bytes2) bytes) in
-    subst P same (reserved_number_took bytes2 bytes n written used as_written fits low taken decides)
+    rw (← same) (reserved_number_took bytes2 bytes n written used as_written fits low taken decides)

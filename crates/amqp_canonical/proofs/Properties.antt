@@ -7,9 +7,8 @@ use Rattle.std.proofs.lemmas.Nat.Bits.{bit_at_above}
 use Rattle.std.proofs.Math.Seq.{take-add}
 use Rattle.std.specs.Int.{bit_at}
 use Rattle.amqp_types.specs.Levels.{Level, plain, tidy, strict}
-use Rattle.amqp_types.specs.Judging.{Judged, Judge, took, IsBytes, ◌>>=◌}
+use Rattle.amqp_types.specs.Judging.{took, IsBytes}
 use Rattle.amqp_types.specs.Sequences.{SpellsBoth, SpellsMapped}
-use Rattle.amqp_types.specs.Answers.{AnswersFully}
 use Rattle.amqp_types.specs.Numbers.{bytes2, number_bytes, judge_number, SpellsNumber}
 use Rattle.amqp_types.specs.Flags.{flag_at, FromTidy}
 use Rattle.amqp_types.specs.Slots.{Item, Slot}
@@ -19,8 +18,7 @@ use Rattle.amqp_types.specs.SlotSpelling.{SpellsForm, SpellsSlots}
 use Rattle.amqp_types.specs.Properties.{Property, properties}
 use Rattle.amqp_types.specs.PropertyJudging.{first_item, judge_optional, judge_set, judge_properties}
 use Rattle.amqp_types.specs.PropertySpelling.{SpellsOptional, SpellsSet, SpellsProperties}
-use Rattle.amqp_types.specs.PropertyBytes.{properties_bytes}
-use Rattle.amqp_types.specs.ContentHeaders.{header_slots, header_of_parts, judge_content_header, SpellsContentHeader, content_header_bytes}
+use Rattle.amqp_types.specs.ContentHeaders.{header_slots, header_of_parts, judge_content_header, SpellsContentHeader}
 use Rattle.amqp_types.specs.declared.errors.ParserError.{ParserError}
 use Rattle.amqp_types.proofs.Bytes.{IsBytes-drop}
 use Rattle.amqp_types.proofs.FormLaws.{numbers_lawful}
@@ -34,10 +32,10 @@ use Rattle.amqp_canonical.specs.declared.shapes.Form.{Form}
 use Rattle.amqp_canonical.specs.declared.slots.Judgement.{Judgement}
 use Rattle.amqp_canonical.specs.Shapes.{form_of, property_of}
 use Rattle.amqp_canonical.specs.SlotJudgements.{TakesTidily, JudgesTidily, JudgesLevels, after_others, IsCanonicalContentHeader}
-use Rattle.amqp_canonical.proofs.Refusing.{Fails, fully, fails_next}
+use Rattle.amqp_canonical.proofs.Refusing.{Fails, fails_next}
 use Rattle.amqp_canonical.proofs.Children.{decided_as, both_decided}
-use Rattle.amqp_canonical.proofs.Joining.{IsRead, law_read, both_read, both_judged, split_at, judgement, and_true, IsReached, reached_none}
-use Rattle.amqp_canonical.proofs.Joining.{reached_more, reached_fails, reached_all}
+use Rattle.amqp_canonical.proofs.Joining.{IsRead, law_read, both_read, both_judged, split_at, judgement, and_true, IsWalk}
+use Rattle.amqp_canonical.proofs.Joining.{IsReached, reached_more, reached_fails}
 use Rattle.amqp_canonical.proofs.Forms.{slots_read, canonical_of_levels}
 
 -- ---- one property
@@ -72,11 +70,11 @@ optional_there true form bytes (Ok j) fits there h =
     let neat = mapped_at tidy form front h.thing one.0 in
     record {
       thing = first_item h.thing;
-      is = ap (λ j. j >>= λ x. took (first_item x.0) x.1) h.is;
-      canonical = decided_as j.canonical _ _ h.canonical up.0 up.1;
-      tidy = decided_as j.tidy _ _ h.tidy neat.0 neat.1;
+      is = rw h.is;
+      canonical = decided_as _ _ _ h.canonical up.0 up.1;
+      tidy = decided_as _ _ _ h.tidy neat.0 neat.1;
     }
-optional_there true form bytes (Err e) fits there h = fails_next e (judge_form form bytes) _ h
+optional_there true form bytes (Err e) fits there h = fails_next _ _ _ h
 optional_there false form bytes r fits there h = absurd (true≢false (sym there))
 
 -- A property that is not set takes no bytes, and is canonical and tidy.
@@ -92,68 +90,24 @@ optional_none false form bytes none = record { thing = None; is = refl; canonica
 pub set_read : (mask : ℕ) (ps : List Property) → IsRead (judge_set mask ps) (λ level. SpellsSet level mask ps)
 unfolding judge_set
 set_read mask [] = record { read = λ level bytes rest options h. ap₂ (λ a b. took a b) (sym h.1) (sym (ap length h.0)) }
-set_read mask (p ∷ ps) =
-    both_read (judge_optional (flag_at mask p.bit) p.form) (judge_set mask ps)
-    (λ option options. option ∷ options) (λ level. SpellsOptional level (flag_at mask p.bit) p.form)
-    (λ level. SpellsSet level mask ps) (optional_read (flag_at mask p.bit) p.form) (set_read mask ps)
+set_read mask (p ∷ ps) = both_read (λ option options. option ∷ options) (optional_read (flag_at mask p.bit) p.form) (set_read mask ps)
 
 module _ (mask : ℕ) where
-  abbrev one_property : ℕ × Form → Judge (Option Item)
-  one_property p = judge_optional (flag_at mask p.0) (form_of p.1)
-
-  abbrev OneProperty : ℕ × Form → Level → List ℕ → Option Item → Type 0
-  OneProperty p level = SpellsOptional level (flag_at mask p.0) (form_of p.1)
-
-  abbrev all_properties : List (ℕ × Form) → Judge (List (Option Item))
-  all_properties ps = judge_set mask (map property_of ps)
-
-  abbrev AllProperties : List (ℕ × Form) → Level → List ℕ → List (Option Item) → Type 0
-  AllProperties ps level = SpellsSet level mask (map property_of ps)
-
-  -- the first k properties were decoded up to a place, with what is said of them
-  abbrev pub ArePropertiesReached : List (ℕ × Form) → List ℕ → ℕ → ℕ → Bool → Bool → Type 0
-  ArePropertiesReached = IsReached one_property OneProperty all_properties AllProperties
-
-  -- At the start no property was decoded, and the empty bytes are canonical and tidy.
-  pub properties_none : (ps : List (ℕ × Form)) (bytes : List ℕ) → ArePropertiesReached ps bytes 0 0 true true
-  properties_none = reached_none one_property OneProperty all_properties AllProperties
-
-  properties_step : (p : ℕ × Form) (ps : List (ℕ × Form)) (bytes : List ℕ) (j : Judgement) (r : Result Judgement ParserError)
-      → TakesTidily (OneProperty p strict) (OneProperty p tidy) j bytes (one_property p bytes)
-      → JudgesLevels (AllProperties ps) (drop j.used bytes) r (all_properties ps (drop j.used bytes))
-      → JudgesLevels (AllProperties (p ∷ ps)) bytes (after_others j.used j.canonical j.tidy r) (all_properties (p ∷ ps) bytes)
+  -- Properties that shapes stand for are decoded one after another.
+  pub properties_walk : IsWalk (λ (p : ℕ × Form). judge_optional (flag_at mask p.0) (form_of p.1))
+      (λ p level. SpellsOptional level (flag_at mask p.0) (form_of p.1))
+      (λ ps. judge_set mask (map property_of ps)) (λ ps level. SpellsSet level mask (map property_of ps))
   unfolding judge_set
-  properties_step p ps bytes j r one others =
-      both_judged (one_property p) (all_properties ps) (λ option options. option ∷ options) (OneProperty p) (AllProperties ps)
-      (optional_read (flag_at mask p.0) (form_of p.1)) (set_read mask (map property_of ps)) bytes j r one others
+  properties_walk = record {
+    step = λ p ps bytes j r one others.
+        both_judged (λ option options. option ∷ options) (optional_read (flag_at mask p.0) (form_of p.1))
+        (set_read mask (map property_of ps)) bytes j r one others;
+    stop = λ p ps bytes e h. fails_next _ _ _ h;
+    none = λ bytes. record { thing = []; is = refl; canonical = (λ t. (refl, refl), λ h. refl); tidy = (λ t. (refl, refl), λ h. refl) };
+  }
 
-  properties_stop : (p : ℕ × Form) (ps : List (ℕ × Form)) (bytes : List ℕ) (e : ParserError)
-      → Fails e (one_property p bytes) → Fails e (all_properties (p ∷ ps) bytes)
-  unfolding judge_set
-  properties_stop p ps bytes e h = fails_next e (one_property p bytes) _ h
-
-  no_properties : (bytes : List ℕ) → JudgesLevels (AllProperties []) bytes (judgement 0 true true) (all_properties [] bytes)
-  unfolding judge_set
-  no_properties bytes = record { thing = []; is = refl; canonical = (λ t. (refl, refl), λ h. refl); tidy = (λ t. (refl, refl), λ h. refl) }
-
-  pub properties_more : (ps : List (ℕ × Form)) (bytes : List ℕ) (k at : ℕ) (canonical so_far : Bool) (j : Judgement) (other : ℕ × Form)
-      → k < length ps → ArePropertiesReached ps bytes k at canonical so_far
-      → (let p = get_or ps k other in TakesTidily (OneProperty p strict) (OneProperty p tidy) j (drop at bytes) (one_property p (drop at bytes)))
-      → ArePropertiesReached ps bytes (k + 1) (at + j.used) (canonical && j.canonical) (so_far && j.tidy)
-  properties_more = reached_more one_property OneProperty all_properties AllProperties properties_step
-
-  pub properties_fail : (ps : List (ℕ × Form)) (bytes : List ℕ) (k at : ℕ) (canonical so_far : Bool) (e : ParserError) (other : ℕ × Form)
-      → k < length ps → ArePropertiesReached ps bytes k at canonical so_far
-      → Fails e (one_property (get_or ps k other) (drop at bytes)) → Fails e (all_properties ps bytes)
-  properties_fail = reached_fails one_property OneProperty all_properties AllProperties properties_stop
-
-  -- Where all properties were decoded, what is said of them up to the end is said of all.
-  pub properties_all : (ps : List (ℕ × Form)) (bytes : List ℕ) (k at : ℕ) (canonical so_far : Bool) → length ps ≤ k
-      → ArePropertiesReached ps bytes k at canonical so_far → JudgesLevels (AllProperties ps) bytes (judgement at canonical so_far) (all_properties ps bytes)
-  properties_all = reached_all one_property OneProperty all_properties AllProperties no_properties
-
-  module _ (ps : List (ℕ × Form)) (bytes : List ℕ) (k at : ℕ) (canonical so_far : Bool) (other : ℕ × Form)
-      (more : k < length ps) (before : ArePropertiesReached ps bytes k at canonical so_far) where
+  module _ {ps : List (ℕ × Form)} {bytes : List ℕ} {k at : ℕ} {canonical so_far : Bool} (other : ℕ × Form)
+      (before : IsReached properties_walk ps bytes k at canonical so_far) (more : k < length ps) where
     abbrev bit : ℕ
     bit = let p = get_or ps k other in p.0
 
@@ -161,62 +115,33 @@ module _ (mask : ℕ) where
     form = let p = get_or ps k other in form_of p.1
 
     -- the next one is not present
-    pub property_absent : flag_at mask bit ≡ false → ArePropertiesReached ps bytes (k + 1) at canonical so_far
+    pub property_absent : flag_at mask bit ≡ false → IsReached properties_walk ps bytes (k + 1) at canonical so_far
     property_absent absent =
         let next =
-        properties_more ps bytes k at canonical so_far (record { used = 0; canonical = true; tidy = true }) other more before
+        reached_more properties_walk before (record { used = 0; canonical = true; tidy = true }) other more
         (optional_none (flag_at mask bit) form (drop at bytes) absent) in
         let none : at + 0 ≡ at = omega arith in
-        let P : ℕ → Type 0 = λ n. ArePropertiesReached ps bytes (k + 1) n (canonical && true) (so_far && true) in
-        let Q : Bool → Type 0 = λ b. ArePropertiesReached ps bytes (k + 1) at b (so_far && true) in
-        let R : Bool → Type 0 = λ b. ArePropertiesReached ps bytes (k + 1) at canonical b in
-        subst R (and_true so_far) (subst Q (and_true canonical) (subst P none next))
+        rw (← none, ← and_true canonical, ← and_true so_far) next
 
     -- it is, and was decoded
     pub property_there : (j : Judgement) → IsBytes bytes → flag_at mask bit ≡ true
         → TakesTidily (SpellsForm strict form) (SpellsForm tidy form) j (drop at bytes) (judge_form form (drop at bytes))
-        → ArePropertiesReached ps bytes (k + 1) (at + j.used) (canonical && j.canonical) (so_far && j.tidy)
+        → IsReached properties_walk ps bytes (k + 1) (at + j.used) (canonical && j.canonical) (so_far && j.tidy)
     property_there j fits there h =
-        properties_more ps bytes k at canonical so_far j other more before
+        reached_more properties_walk before j other more
         (optional_there (flag_at mask bit) form (drop at bytes) (Ok j) (IsBytes-drop at bytes fits) there h)
 
     -- it is, and was not decoded
     pub property_fails : (e : ParserError) → IsBytes bytes → flag_at mask bit ≡ true
-        → Fails e (judge_form form (drop at bytes)) → Fails e (all_properties ps bytes)
+        → Fails e (judge_form form (drop at bytes)) → Fails e (judge_set mask (map property_of ps) bytes)
     property_fails e fits there h =
-        properties_fail ps bytes k at canonical so_far e other more before
+        reached_fails properties_walk before e other more
         (optional_there (flag_at mask bit) form (drop at bytes) (Err e) (IsBytes-drop at bytes fits) there h)
-
--- of the whole table
-pub set_judged : (mask : ℕ) (ps : List (ℕ × Form)) (bytes : List ℕ) (r : Result Judgement ParserError) → map property_of ps ≡ properties
-    → JudgesLevels (λ level. SpellsSet level mask (map property_of ps)) bytes r (judge_set mask (map property_of ps) bytes)
-    → JudgesLevels (λ level. SpellsSet level mask properties) bytes r (judge_set mask properties bytes)
-set_judged mask ps bytes r is h =
-    let P : List Property → Type 0 = λ xs. JudgesLevels (λ level. SpellsSet level mask xs) bytes r (judge_set mask xs bytes) in
-    subst P is h
 
 -- ---- the mask
 
 abbrev NoUnused : ℕ → Type 0
 NoUnused mask = (flag_at mask 1 ≡ false) × (flag_at mask 0 ≡ false)
-
--- An error in the mask is the error of the properties.
-pub properties_unread : {A : Type 0} (bytes : List ℕ) (view : A → ℕ) (e : ParserError)
-    → AnswersFully view (Err e) (judge_number bytes2 bytes) → Fails e (judge_properties bytes)
-unfolding judge_properties
-properties_unread bytes view e h = fails_next e (judge_number bytes2 bytes) _ (fully view e (judge_number bytes2 bytes) h)
-
-mask_read : (bytes : List ℕ) (mask n : ℕ) → judge_number bytes2 bytes ≡ took mask n
-    → judge_properties bytes ≡ (judge_set mask properties (drop n bytes) >>= λ set. took set.0 (n + set.1))
-unfolding judge_properties
-mask_read bytes mask n is = ap (λ j. j >>= λ m. judge_set m.0 properties (drop m.1 bytes) >>= λ set. took set.0 (m.1 + set.1)) is
-
--- An error in the properties that the mask sets is the error of all.
-pub set_fails : (bytes : List ℕ) (mask n : ℕ) (e : ParserError) → judge_number bytes2 bytes ≡ took mask n
-    → Fails e (judge_set mask properties (drop n bytes)) → Fails e (judge_properties bytes)
-set_fails bytes mask n e is h =
-    let P : Judged (List (Option Item)) → Type 0 = λ j. Fails e j in
-    subst P (sym (mask_read bytes mask n is)) (fails_next e (judge_set mask properties (drop n bytes)) _ h)
 
 module _ (bytes : List ℕ) (mask n used : ℕ) (options : List (Option Item)) (fits : IsBytes bytes)
     (is : judge_number bytes2 bytes ≡ took mask n) (set_is : judge_set mask properties (drop n bytes) ≡ took options used) where
@@ -248,8 +173,6 @@ module _ (bytes : List ℕ) (mask n used : ℕ) (options : List (Option Item)) (
       → SpellsProperties level (take (n + used) bytes) options → SpellsSet level mask properties (take used (drop n bytes)) options × NoUnused mask
   set_at level to s =
       let same = same_mask level s in
-      let P : ℕ → Type 0 = λ m. SpellsSet level m properties s.behind options in
-      let Q : ℕ → Type 0 = λ m. NoUnused m in
       let both : SpellsBoth (SpellsNumber bytes2) (SpellsSet level mask properties) (λ m o. o) (take (n + used) bytes) options =
       record {
         front = number_bytes bytes2 s.mask;
@@ -258,15 +181,12 @@ module _ (bytes : List ℕ) (mask n used : ℕ) (options : List (Option Item)) (
         two = options;
         bytes_are = s.bytes_are;
         first_is = record { fits = s.fits; bytes_are = refl };
-        second_is = subst P same s.set;
+        second_is = subst (λ m. SpellsSet level m properties s.behind options) same s.set;
         joined = refl;
       } in
-      let split =
-      split_at (judge_number bytes2) (judge_set mask properties) (λ m o. o) (λ level. SpellsNumber bytes2) (λ level. SpellsSet level mask properties)
-      (law_read (judge_number bytes2) (λ level. SpellsNumber bytes2) (number_bytes bytes2) (numbers_lawful bytes2)) (set_read mask properties)
-      level bytes mask options n used is set_is both
-      in
-      (split.1, subst Q same (to s))
+      let split = split_at (λ m o. o) (law_read (numbers_lawful bytes2)) (set_read mask properties) level bytes mask options n used is set_is in
+      let parts = split.1 both in
+      (parts.1, subst (λ m. NoUnused m) same (to s))
 
 -- Properties take the mask and those that it sets, and are canonical, or tidy, exactly where these are and no unused bit is set.
 pub properties_took : (bytes : List ℕ) (mask n : ℕ) (unused : Bool) (j : Judgement)
@@ -274,15 +194,15 @@ pub properties_took : (bytes : List ℕ) (mask n : ℕ) (unused : Bool) (j : Jud
     → TakesTidily (SpellsSet strict mask properties) (SpellsSet tidy mask properties) j (drop n bytes) (judge_set mask properties (drop n bytes))
     → TakesTidily (SpellsProperties strict) (SpellsProperties tidy)
     (record { used = n + j.used; canonical = j.canonical && unused; tidy = j.tidy && unused }) bytes (judge_properties bytes)
+unfolding judge_properties
 properties_took bytes mask n unused j fits is none h =
     let up = λ (level : Level). properties_at bytes mask n j.used h.thing fits is h.is level in
     let down = λ (level : Level). set_at bytes mask n j.used h.thing fits is h.is level in
     record {
       thing = h.thing;
-      is = mask_read bytes mask n is ∙ ap (λ k. k >>= λ set. took set.0 (n + set.1)) h.is;
-      canonical =
-          decided_as (j.canonical && unused) _ _ (both_decided j.canonical unused _ _ h.canonical none) (up strict (λ x. x)) (down strict (λ s. s.unused));
-      tidy = decided_as (j.tidy && unused) _ _ (both_decided j.tidy unused _ _ h.tidy none) (up tidy (λ x. x)) (down tidy (λ s. s.unused));
+      is = rw (is, h.is);
+      canonical = both_decided h.canonical none (up strict (λ x. x), down strict (λ s. s.unused));
+      tidy = both_decided h.tidy none (up tidy (λ x. x), down tidy (λ s. s.unused));
     }
 
 -- a bit beyond the mask
@@ -291,11 +211,6 @@ bit_beyond mask bit fits far = let none = bit_at_above mask 16 bit fits far in n
 
 -- ---- content headers
 
--- An error in the front of a content header is the error of the header.
-pub header_unread : (bytes : List ℕ) (e : ParserError) → Fails e (judge_slots header_slots bytes) → Fails e (judge_content_header bytes)
-unfolding judge_content_header
-header_unread bytes e h = fails_next e (judge_slots header_slots bytes) _ h
-
 -- Where the front of a content header is taken, the header is decoded as its properties are, after the front.
 pub header_judged : (bytes : List ℕ) (j : Judgement) (r : Result Judgement ParserError) → IsBytes bytes
     → JudgesLevels (λ level. SpellsSlots level header_slots) bytes (Ok j) (judge_slots header_slots bytes)
@@ -303,7 +218,5 @@ pub header_judged : (bytes : List ℕ) (j : Judgement) (r : Result Judgement Par
     → JudgesTidily IsCanonicalContentHeader (SpellsContentHeader tidy) bytes (after_others j.used j.canonical j.tidy r) (judge_content_header bytes)
 unfolding judge_content_header
 header_judged bytes j r fits front behind =
-    canonical_of_levels judge_content_header SpellsContentHeader content_header_bytes content_headers_lawful bytes
-    (after_others j.used j.canonical j.tidy r) fits
-    (both_judged (judge_slots header_slots) judge_properties header_of_parts (λ level. SpellsSlots level header_slots) SpellsProperties
-    (slots_read header_slots) (law_read judge_properties SpellsProperties properties_bytes properties_lawful) bytes j r front behind)
+    canonical_of_levels content_headers_lawful bytes (after_others j.used j.canonical j.tidy r) fits
+    (both_judged header_of_parts (slots_read header_slots) (law_read properties_lawful) bytes j r front behind)

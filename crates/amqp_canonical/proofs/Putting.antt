@@ -1,5 +1,5 @@
 -- Things that are put one after another.
-use Rattle.std.proofs.Common.{◌≡◌, ◌≤◌, false, ◌^◌, ◌<◌, ℕ, Bool, ◌+◌, List, [], ◌∷◌, ◌++◌, length, refl, sym, ap, subst, ◌∙◌, append_assoc, append-nil, arith}
+use Rattle.std.proofs.Common.{◌≡◌, ◌≤◌, false, ◌^◌, ◌<◌, ℕ, Bool, ◌+◌, List, [], ◌∷◌, ◌++◌, length, refl, sym, ap, ◌∙◌, append_assoc, append-nil, arith}
 use Rattle.std.proofs.lemmas.List.{length-append}
 use Rattle.amqp_types.specs.Writing.{Puts, written}
 use Rattle.amqp_types.proofs.WrittenParts.{written-written, written-nil}
@@ -25,7 +25,7 @@ none_put buf at bytes none = record { put = λ room. sym (ap (written buf at) no
 
 -- A put of bytes is a put of equal bytes.
 pub same_put : {old new : List ℕ} {at end : ℕ} {bytes other : List ℕ} → bytes ≡ other → PutsIfRoom old new at bytes end → PutsIfRoom old new at other end
-same_put {old} {new} {at} {end} is h = let P : List ℕ → Type 0 = λ bs. PutsIfRoom old new at bs end in subst P is h
+same_put is h = rw (← is) h
 
 -- room up to a place before another
 pub has_room : {sure : Bool} {end last len long : ℕ} → end ≤ last → len ≡ long → HasRoom sure last long → HasRoom sure end len
@@ -50,7 +50,12 @@ pub record IsEach {A : Type 0} (content : List A → List ℕ) (one : A → List
   pub none : content [] ≡ []
   pub more : (x : A) (xs : List A) → content (x ∷ xs) ≡ one x ++ content xs
 
-module _ {A : Type 0} (content : List A → List ℕ) (one : A → List ℕ) (each : IsEach content one) where
+-- Things that are left to be put are left by another name too.
+pub put_left : {A : Type 0} {content : List A → List ℕ} {all done left other : List A} {old new : List ℕ} {at end : ℕ} → left ≡ other
+    → PutTo content all done left old new at end → PutTo content all done other old new at end
+put_left {done = done} is h = record { parts = ap (λ xs. done ++ xs) (sym is) ∙ h.parts; put = h.put }
+
+module _ {A : Type 0} {content : List A → List ℕ} {one : A → List ℕ} (each : IsEach content one) where
   content_parts : (xs ys : List A) → content (xs ++ ys) ≡ content xs ++ content ys
   content_parts [] ys = sym (ap (λ bs. bs ++ content ys) each.none)
   content_parts (x ∷ xs) ys =
@@ -60,11 +65,11 @@ module _ {A : Type 0} (content : List A → List ℕ) (one : A → List ℕ) (ea
   content_one : (xs : List A) (x : A) → content (xs ++ x ∷ []) ≡ content xs ++ one x
   content_one xs x = content_parts xs (x ∷ []) ∙ ap (λ bs. content xs ++ bs) (each.more x [] ∙ ap (λ bs. one x ++ bs) each.none ∙ append-nil (one x))
 
-  -- At the start none of a list were put, and the buffer is as it was.
-  pub put_none : (all : List A) (buf : List ℕ) (at : ℕ) → PutTo content all [] all buf buf at at
-  put_none all buf at = record { parts = refl; put = none_put buf at (content []) each.none }
+  -- At the start none of a list were put.
+  pub put_none : {all : List A} {buf : List ℕ} {at : ℕ} → PutTo content all [] all buf buf at at
+  put_none {buf = buf} {at} = record { parts = refl; put = none_put buf at (content []) each.none }
 
-  module _ (all done left : List A) (x : A) (old mid : List ℕ) (at end : ℕ) (h : PutTo content all done (x ∷ left) old mid at end) where
+  module _ {all done left : List A} {x : A} {old mid : List ℕ} {at end : ℕ} (h : PutTo content all done (x ∷ left) old mid at end) where
     total : length (content all) ≡ length (content done) + (length (one x) + length (content left))
     total =
         ap (λ xs. length (content xs)) (sym h.parts) ∙ ap length (content_parts done (x ∷ left) ∙ ap (λ bs. content done ++ bs) (each.more x left))
@@ -75,12 +80,9 @@ module _ {A : Type 0} (content : List A → List ℕ) (one : A → List ℕ) (ea
     put_within = omega (arith, h.put.behind, total)
 
     -- and is put
-    pub put_next : (new : List ℕ) (place : ℕ) → PutsIfRoom mid new end (one x) place → PutTo content all (done ++ x ∷ []) left old new at place
-    put_next new place two =
-        record {
-          parts = append_assoc done (x ∷ []) left ∙ h.parts;
-          put = same_put (sym (content_one done x)) (then_put h.put two);
-        }
+    pub put_next : {new : List ℕ} {place : ℕ} → PutsIfRoom mid new end (one x) place → PutTo content all (done ++ x ∷ []) left old new at place
+    put_next two = record { parts = append_assoc done (x ∷ []) left ∙ h.parts; put = same_put (sym (content_one done x)) (then_put h.put two) }
 
-  pub put_end : (all done : List A) (old new : List ℕ) (at end : ℕ) → PutTo content all done [] old new at end → PutsIfRoom old new at (content all) end
-  put_end all done old new at end h = same_put (ap content (sym (append-nil done) ∙ h.parts)) h.put
+  -- Where nothing is left, all were put.
+  pub put_end : {all done : List A} {old new : List ℕ} {at end : ℕ} → PutTo content all done [] old new at end → PutsIfRoom old new at (content all) end
+  put_end {done = done} h = same_put (ap content (sym (append-nil done) ∙ h.parts)) h.put

@@ -1,13 +1,13 @@
 -- What was read, by its parts.
-use Rattle.std.proofs.Common.{◌≡◌, ℕ, suc, ◌+◌, ◌<◌, ◌≤◌, nat_lt, List, [], ◌∷◌, length, get_or, take, drop, Some, None, Result, Ok, Err, refl}
-use Rattle.std.proofs.Common.{sym, ap, ap₂, subst, ◌∙◌, arith}
+use Rattle.std.proofs.Common.{◌≡◌, ℕ, suc, ◌+◌, ◌<◌, ◌≤◌, nat_lt, List, [], ◌∷◌, length, get_or, take, drop, Some, None, Result, Ok, Err, refl, sym, ap, ap₂}
+use Rattle.std.proofs.Common.{subst, ◌∙◌, arith}
 use Rattle.std.proofs.lemmas.Bool.Decides.{nat_tests}
 use Rattle.std.proofs.lemmas.List.{length-take-le}
 use Rattle.std.specs.Str.{is_utf8}
-use Rattle.amqp_types.specs.Judging.{Fault, Judged, Judge, took, past, fault, not_utf8, ◌>>=◌, IsBytes, IsExact}
+use Rattle.amqp_types.specs.Judging.{Fault, Judged, Judge, took, not_utf8, ◌>>=◌, IsBytes, IsExact}
 use Rattle.amqp_types.specs.Strings.{short_string_bytes, judge_short_string}
-use Rattle.amqp_types.specs.Tags.{tag_at, tag_byte, tag_of}
-use Rattle.amqp_types.specs.Values.{FieldValue, Entry}
+use Rattle.amqp_types.specs.Tags.{tag_at, tag_byte}
+use Rattle.amqp_types.specs.Values.{FieldValue}
 use Rattle.amqp_types.specs.ValueBytes.{value_bytes, tagged_bytes}
 use Rattle.amqp_types.specs.ValueJudging.{filled, next_item, read_map, judge_entry, judge_behind, judge_value, nested}
 use Rattle.amqp_types.specs.ValueSpelling.{SpellsEntry, SpellsValue}
@@ -15,7 +15,7 @@ use Rattle.amqp_types.specs.Levels.{plain}
 use Rattle.amqp_types.specs.declared.tag.FieldTag.{FieldTag}
 use Rattle.amqp_types.specs.declared.errors.ParserError.{ParserError}
 use Rattle.amqp_types.specs.declared.errors.ParserError.TheVariants as errors
-use Rattle.amqp_types.proofs.Took.{bind_took, guard_took, test_took, value_took, count_took}
+use Rattle.amqp_types.proofs.Took.{guard_took, test_took, value_took, count_took}
 use Rattle.amqp_laws.proofs.Filling.{filled_next, none_left}
 use Rattle.amqp_laws.proofs.Filled.{HasBytes, entry_exact, entry_some}
 use Rattle.amqp_laws.proofs.Exactly.{value_exact, value_some, tag_behind}
@@ -28,33 +28,33 @@ use Rattle.amqp_types.specs.Tidiness.{used_by}
 -- What was decoded is a value, with a number of bytes taken.
 pub took_of : {A : Type 0} (j : Judged A) → IsRead j → (x : A) × (n : ℕ) × (j ≡ took x n)
 took_of (took x n) h = (x, n, refl)
-took_of past h = absurd h
-took_of (fault bad) h = absurd h
+took_of _ h = absurd h
+
+-- what is decoded takes n bytes
+abbrev pub Uses : {A : Type 0} → Judged A → ℕ → Type 0
+Uses j n = IsRead j → n ≡ used_by j
 
 -- A value that was taken was decoded.
 pub is_read : {A : Type 0} (j : Judged A) (x : A) (n : ℕ) → j ≡ took x n → IsRead j
-is_read j x n h = let P : Judged _ → Type 0 = λ k. IsRead k in subst P (sym h) tt
+is_read j x n h = rw h tt
 
--- what is refused was not read
-refused_took : {A : Type 0} (e : ParserError) (x : A) (n : ℕ) → Fails e (took x n) → ⊥
-refused_took errors.Incomplete x n h = let e = h.1 in cc
-refused_took errors.UnknownFrameType x n h = let e = h.1 in cc
-refused_took errors.BadProtocolHeader x n h = let e = h.1 in cc
-refused_took errors.BadFrameEnd x n h = let e = h.1 in cc
-refused_took errors.UnknownClass x n h = let e = h.1 in cc
-refused_took errors.UnknownMethod x n h = let e = h.1 in cc
-refused_took errors.ShortPayload x n h = let e = h.1 in cc
-refused_took errors.TrailingBytes x n h = let e = h.1 in cc
-refused_took errors.NotUtf8 x n h = let e = h.1 in cc
-refused_took errors.UnknownTag x n h = let e = h.1 in cc
-refused_took errors.TooDeep x n h = let e = h.1 in cc
-refused_took errors.NoMemory x n h = h.0 refl
+-- Where two steps are decoded, so is the first one, and the second one on what the first one took.
+pub bind_read : {A B : Type 0} (j : Judged A) (f : A × ℕ → Judged B)
+    → IsRead (j >>= f) → (x : A) × (n : ℕ) × (j ≡ took x n) × IsRead (f (x, n)) × ((j >>= f) ≡ f (x, n))
+bind_read (took x n) f h = (x, n, refl, h, refl)
+bind_read _ f h = absurd h
+
+-- Where a step after another one takes as many bytes as that took, both do.
+pub same_count : {A B : Type 0} (j : Judged A) (f : A × ℕ → Judged B) → ((x : A) (n : ℕ) → IsRead (f (x, n)) → n ≡ used_by (f (x, n)))
+    → IsRead (j >>= f) → IsRead j × (used_by j ≡ used_by (j >>= f))
+same_count (took x n) f same h = (tt, same x n h)
+same_count _ f same h = absurd h
 
 -- What is refused was not decoded.
 pub unread : {A : Type 0} (e : ParserError) (j : Judged A) → Fails e j → IsRead j → ⊥
-unread e (took x n) h r = refused_took e x n h
-unread e past h r = r
-unread e (fault bad) h r = r
+unread errors.NoMemory (took x n) h r = h.0 refl
+unread _ (took x n) h r = let e = h.1 in cc
+unread _ _ h r = r
 
 -- ---- a tag and its value
 
@@ -67,43 +67,29 @@ pub record TagParts (room : ℕ) (bytes : List ℕ) (t : FieldTag) : Type 0 wher
 abbrev with_tag : Judged FieldValue → Judged FieldValue
 with_tag j = j >>= λ v. took v.0 (1 + v.1)
 
-with_tag_read : (j : Judged FieldValue) → IsRead (with_tag j) → IsRead j
-with_tag_read (took v n) h = tt
-with_tag_read past h = h
-with_tag_read (fault bad) h = h
-
-with_tag_used : (j : Judged FieldValue) → IsRead (with_tag j) → used_by (with_tag j) ≡ 1 + used_by j
-with_tag_used (took v n) h = refl
-with_tag_used past h = absurd h
-with_tag_used (fault bad) h = absurd h
-
-with_tag_bytes : (j : Judged FieldValue) (t : FieldTag) → ((v : FieldValue) (n : ℕ) → j ≡ took v n → tag_of v ≡ t)
-    → IsRead (with_tag j) → canonical_of tagged_bytes (with_tag j) ≡ tag_byte t ∷ canonical_of value_bytes j
-with_tag_bytes (took v n) t kind h = ap (λ u. tag_byte u ∷ value_bytes v) (kind v n refl)
-with_tag_bytes past t kind h = absurd h
-with_tag_bytes (fault bad) t kind h = absurd h
-
 -- A decoded value with a tag is decoded after the tag, and its canonical bytes are the tag byte that is written and those after it.
 pub tag_parts : (room : ℕ) (bytes : List ℕ) (t : FieldTag) → 0 < length bytes
     → tag_at (get_or bytes 0 0) ≡ Some t → IsRead (judge_value room bytes) → TagParts room bytes t
 tag_parts room bytes t some is h =
     let j = judge_behind (nested room) t (drop 1 bytes) in
     let same : judge_value room bytes ≡ with_tag j = judged_tag room bytes (Some t) some is in
-    let P : Judged FieldValue → Type 0 = λ k. IsRead k in
-    let read : IsRead (with_tag j) = subst P same h in
+    let one = bind_read j (λ v. took v.0 (1 + v.1)) (rw same at h) in
+    let kind = tag_behind (nested room) t (drop 1 bytes) one.0 one.1 one.2 in
     record {
-      read = with_tag_read j read;
-      used = ap (λ k. used_by k) same ∙ with_tag_used j read;
-      bytes_are = ap (λ k. canonical_of tagged_bytes k) same ∙ with_tag_bytes j t (λ v n is. tag_behind (nested room) t (drop 1 bytes) v n is) read;
+      read = is_read j one.0 one.1 one.2;
+      used = ap used_by (same ∙ one.4) ∙ sym (ap (λ k. 1 + used_by k) one.2);
+      bytes_are =
+          ap (canonical_of tagged_bytes) (same ∙ one.4) ∙ ap (λ u. tag_byte u ∷ value_bytes one.0) kind
+          ∙ sym (ap (λ k. tag_byte t ∷ canonical_of value_bytes k) one.2);
     }
 
 -- no value was read where there is none
 pub none_read : (room : ℕ) (bytes : List ℕ) → length bytes < 1 → IsRead (judge_value room bytes) → ⊥
-none_read room bytes few h = let P : Judged FieldValue → Type 0 = λ k. IsRead k in subst P (value_empty room bytes few) h
+none_read room bytes few h = rw (value_empty room bytes few) at h
 
 -- No value is decoded where the first byte is no tag.
 pub unknown_read : (room : ℕ) (bytes : List ℕ) → 0 < length bytes → tag_at (get_or bytes 0 0) ≡ None → IsRead (judge_value room bytes) → ⊥
-unknown_read room bytes some is h = let P : Judged FieldValue → Type 0 = λ k. IsRead k in subst P (value_unknown room bytes some is) h
+unknown_read room bytes some is h = rw (value_unknown room bytes some is) at h
 
 -- ---- a key and its value
 
@@ -139,18 +125,14 @@ text_parts (k ∷ bytes) text n h =
 pub entry_parts : (room : ℕ) (bytes : List ℕ) → IsRead (judge_entry (judge_value room) bytes) → EntryParts room bytes
 unfolding judge_entry
 entry_parts room bytes h =
-    let all = took_of (judge_entry (judge_value room) bytes) h in
-    let text = bind_took (judge_short_string bytes) _ all.0 all.1 all.2 in
+    let text = bind_read (judge_short_string bytes) _ h in
     let t = text_parts bytes text.0 text.1 text.2 in
-    let value = bind_took (judge_value room (drop text.1 bytes)) _ all.0 all.1 text.3 in
-    let entry : all.0 ≡ (text.0, value.0) = sym (value_took (text.0, value.0) all.0 (text.1 + value.1) all.1 value.3) in
-    let count : all.1 ≡ text.1 + value.1 = sym (count_took (text.0, value.0) all.0 (text.1 + value.1) all.1 value.3) in
-    let Q : List ℕ → Type 0 = λ bs. judge_value room bs ≡ took value.0 value.1 in
+    let value = bind_read (judge_value room (drop text.1 bytes)) _ text.3 in
     record {
       value = value.0;
       count = value.1;
-      value_is = subst Q t.2 value.2;
-      is = all.2 ∙ ap₂ (λ (e : Entry) m. took e m) (entry ∙ ap (λ k. (k, value.0)) t.0) (count ∙ ap (λ m. m + value.1) t.1);
+      value_is = sym (ap (judge_value room) t.2) ∙ value.2;
+      is = text.4 ∙ value.4 ∙ ap₂ (λ k m. took (k, value.0) (m + value.1)) t.0 t.1;
       within = t.3;
       front = t.4;
     }
@@ -167,10 +149,6 @@ pub record First {A : Type 0} (item : Judge A) (bytes : List ℕ) : Type 0 where
   pub left : IsFilled (filled item 0 (drop size bytes))
   pub all : items_of (filled item 0 bytes) ≡ thing ∷ items_of (filled item 0 (drop size bytes))
 
-filled_of : {A : Type 0} (r : Result (List A) Fault) → IsFilled r → (xs : List A) × (r ≡ Ok xs)
-filled_of (Ok xs) h = (xs, refl)
-filled_of (Err bad) h = absurd h
-
 filled_rest : {A : Type 0} (x : A) (r : Result (List A) Fault) → IsFilled (read_map (λ xs. x ∷ xs) r)
     → IsFilled r × (items_of (read_map (λ xs. x ∷ xs) r) ≡ x ∷ items_of r)
 filled_rest x (Ok xs) h = (tt, refl)
@@ -178,8 +156,7 @@ filled_rest x (Err bad) h = absurd h
 
 first_read : {A : Type 0} (j : Judged A) (others : ℕ → Result (List A) Fault) → IsFilled (next_item j others) → (x : A) × (n : ℕ) × (j ≡ took x n)
 first_read (took x n) others h = (x, n, refl)
-first_read past others h = absurd h
-first_read (fault bad) others h = absurd h
+first_read _ others h = absurd h
 
 first_taken : {A : Type 0} (item : Judge A) (bytes : List ℕ) → 0 < length bytes → IsFilled (filled item 0 bytes) → (x : A) × (n : ℕ) × (item bytes ≡ took x n)
 unfolding filled
@@ -223,8 +200,8 @@ pub entry_used : (room : ℕ) (bytes : List ℕ) (k n : ℕ) → k ≡ length (k
     → 1 + k + n ≡ used_by (judge_entry (judge_value room) bytes)
 entry_used room bytes k n key value h =
     let p = entry_parts room bytes h in
-    let all = ap (λ j. used_by j) p.is in
-    let count = ap (λ j. used_by j) p.value_is in
+    let all = ap used_by p.is in
+    let count = ap used_by p.value_is in
     let n_is = value (is_read (judge_value room (after_key bytes)) p.value p.count p.value_is) in
     omega (arith, all, count, n_is, key)
 

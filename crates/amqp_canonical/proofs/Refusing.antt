@@ -18,33 +18,13 @@ Fails error judged = MayRefuse error × Refuses error judged
 
 -- Where decoding returns an error, which is never out of memory here, that error is refused.
 pub fully : {A B : Type 0} (view : A → B) (e : ParserError) (j : Judged B) → AnswersFully view (Err e) j → Fails e j
-fully view errors.Incomplete j h = (λ e. cc, h)
-fully view errors.UnknownFrameType j h = (λ e. cc, h)
-fully view errors.BadProtocolHeader j h = (λ e. cc, h)
-fully view errors.BadFrameEnd j h = (λ e. cc, h)
-fully view errors.UnknownClass j h = (λ e. cc, h)
-fully view errors.UnknownMethod j h = (λ e. cc, h)
-fully view errors.ShortPayload j h = (λ e. cc, h)
-fully view errors.TrailingBytes j h = (λ e. cc, h)
-fully view errors.NotUtf8 j h = (λ e. cc, h)
-fully view errors.UnknownTag j h = (λ e. cc, h)
-fully view errors.TooDeep j h = (λ e. cc, h)
 fully view errors.NoMemory j h = absurd h
+fully view _ j h = (λ e. cc, h)
 
 -- a refusal inside is not out of memory either
 inside_refused : (error : ParserError) → MayRefuse error → MayRefuse (inside_error error)
 inside_refused errors.Incomplete h = λ e. cc
-inside_refused errors.UnknownFrameType h = h
-inside_refused errors.BadProtocolHeader h = h
-inside_refused errors.BadFrameEnd h = h
-inside_refused errors.UnknownClass h = h
-inside_refused errors.UnknownMethod h = h
-inside_refused errors.ShortPayload h = h
-inside_refused errors.TrailingBytes h = h
-inside_refused errors.NotUtf8 h = h
-inside_refused errors.UnknownTag h = h
-inside_refused errors.TooDeep h = h
-inside_refused errors.NoMemory h = h
+inside_refused _ h = h
 
 -- The error inside of another one is not out of memory, where the other is not.
 pub refused_inside : (error inside : ParserError) → inside ≡ inside_error error → MayRefuse error → MayRefuse inside

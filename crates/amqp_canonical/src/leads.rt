@@ -4,6 +4,7 @@ ghost use Rattle.std.specs.Prelude.{◌≡◌, ◌<◌, length, drop};
 ghost use Rattle.amqp_canonical.specs.Leads.{leading};
 
 /// The bytes of a key of fewer than eight bytes as a number, with zeros after them.
+#[tactic(auto, using(crate::proofs::Leading::eight_are, crate::proofs::Leading::beyond))]
 #[inline(never)]
 fn fewer_than_eight(key: &[u8]) -> u64
     requires { length key.now < 8 }
@@ -22,6 +23,7 @@ fn fewer_than_eight(key: &[u8]) -> u64
 }
 
 /// The first eight bytes of a key as a number, with zeros after a shorter key.
+#[tactic(auto, using(crate::proofs::Leading::eight_are))]
 #[inline(always)]
 pub(crate) fn first_eight(key: &[u8]) -> u64
     ensures { result ≡ leading 8 key.now }
@@ -33,6 +35,7 @@ pub(crate) fn first_eight(key: &[u8]) -> u64
 }
 
 /// The two bytes of a key after its first eight as a number, with zeros after a shorter key.
+#[tactic(auto, using(crate::proofs::Leading::two_are, crate::proofs::Leading::beyond))]
 #[inline(always)]
 pub(crate) fn next_two(key: &[u8]) -> u16
     ensures { result ≡ leading 2 (drop 8 key.now) }
@@ -55,6 +58,7 @@ fn any_ten(key: &[u8]) -> (u64, u16)
 
 /// The first eight bytes of a key as a number, and the two after them, with zeros after a shorter key. Most keys have as
 /// many, or one less, and take no call.
+#[tactic(auto, using(crate::proofs::Leading::eight_are, crate::proofs::Leading::two_are, crate::proofs::Leading::beyond))]
 #[inline(always)]
 pub(crate) fn first_ten(key: &[u8]) -> (u64, u16)
     ensures first { result.0 ≡ leading 8 key.now }

@@ -1,8 +1,6 @@
 -- Two ways to judge the same bytes that agree: what one takes the other takes too.
 use Rattle.std.proofs.Common.{◌≡◌, ℕ, ◌≤◌, List, ◌∷◌, Result, Ok, Err, refl, sym, ap, subst, ◌∙◌}
-use Rattle.amqp_types.proofs.Took.{bind_took, value_took, count_took}
-use Rattle.amqp_types.specs.Judging.{Fault, Judged, fault, past, took, ◌>>=◌}
-use Rattle.amqp_types.specs.ValueJudging.{next_item, read_map}
+use Rattle.amqp_fields.proofs.Names.{bind_took, value_took, count_took, Fault, Judged, fault, past, took, ◌>>=◌, next_item, read_map}
 
 -- what holds of what was taken holds of what is the same
 pub as_took : {B : Type 0} (P : B → ℕ → Type 0) {x y : B} {n m : ℕ} → took x n ≡ took y m → P x n → P y m
@@ -21,49 +19,49 @@ pub record Agree {A B : Type 0} (R : A → B → ℕ → Type 0) (size : ℕ) (j
   pub there : Follows R size j k
   pub back : (y : B) (n : ℕ) → k ≡ took y n → (x : A) × (j ≡ took x n)
 
--- what the second takes is related to what the first takes
-pub agree_back : {A B : Type 0} {R : A → B → ℕ → Type 0} {size : ℕ} {j : Judged A} {k : Judged B} → Agree R size j k
-    → (y : B) (n : ℕ) → k ≡ took y n → (x : A) × (j ≡ took x n) × (n ≤ size) × R x y n
-agree_back {R = R} h y n e =
-    let one = h.back y n e in
-    let all = h.there one.0 n one.1 in
-    (one.0, one.1, all.2, subst (λ z. R one.0 z n) (value_took all.0 y n n (sym all.1 ∙ e)) all.3)
+module _ {A B : Type 0} {R : A → B → ℕ → Type 0} {size : ℕ} where
+  -- what the second takes is related to what the first takes
+  pub agree_back : {j : Judged A} {k : Judged B} → Agree R size j k → (y : B) (n : ℕ) → k ≡ took y n → (x : A) × (j ≡ took x n) × (n ≤ size) × R x y n
+  agree_back h y n e =
+      let one = h.back y n e in
+      let all = h.there one.0 n one.1 in
+      (one.0, one.1, all.2, subst (λ z. R one.0 z n) (value_took all.0 y n n (sym all.1 ∙ e)) all.3)
 
--- both take something
-pub agree_took : {A B : Type 0} {R : A → B → ℕ → Type 0} {size : ℕ} (x : A) (y : B) (n : ℕ) → n ≤ size → R x y n → Agree R size (took x n) (took y n)
-agree_took {R = R} {size = size} x y n few r = record {
-  there = λ z m e. as_took (Takes R size (took y n)) e (y, refl, few, r);
-  back = λ z m e. (x, ap (took x) (count_took y z n m e));
-}
+  -- both take something
+  pub agree_took : (x : A) (y : B) (n : ℕ) → n ≤ size → R x y n → Agree R size (took x n) (took y n)
+  agree_took x y n few r = record {
+    there = λ z m e. as_took (Takes R size (took y n)) e (y, refl, few, r);
+    back = λ z m e. (x, ap (took x) (count_took y z n m e));
+  }
 
--- no byte is there
-pub agree_past : {A B : Type 0} {R : A → B → ℕ → Type 0} {size : ℕ} → Agree R size past past
-agree_past = record { there = λ x n e. absurd cc; back = λ y n e. absurd cc }
+  -- no byte is there
+  pub agree_past : Agree R size past past
+  agree_past = record { there = λ x n e. absurd cc; back = λ y n e. absurd cc }
 
--- both find a fault
-pub agree_fault : {A B : Type 0} {R : A → B → ℕ → Type 0} {size : ℕ} {a b : Fault} → Agree R size (fault a) (fault b)
-agree_fault = record { there = λ x n e. absurd cc; back = λ y n e. absurd cc }
+  -- both find a fault
+  pub agree_fault : {a b : Fault} → Agree R size (fault a) (fault b)
+  agree_fault = record { there = λ x n e. absurd cc; back = λ y n e. absurd cc }
 
--- of what is related more is known
-pub agree_as : {A B : Type 0} {R S : A → B → ℕ → Type 0} {size : ℕ} {j : Judged A} {k : Judged B}
-    → Agree R size j k → ((x : A) (y : B) (n : ℕ) → R x y n → S x y n) → Agree S size j k
-agree_as h more = record { there = λ x n e. let y = h.there x n e in (y.0, y.1, y.2, more x y.0 n y.3); back = h.back }
+  -- of what is related more is known
+  pub agree_as : {S : A → B → ℕ → Type 0} {j : Judged A} {k : Judged B} → Agree R size j k → ((x : A) (y : B) (n : ℕ) → R x y n → S x y n) → Agree S size j k
+  agree_as h more = record { there = λ x n e. let y = h.there x n e in (y.0, y.1, y.2, more x y.0 n y.3); back = h.back }
 
--- something is made of what the first takes
-pub follows_make : {A B C : Type 0} {R : A → C → ℕ → Type 0} {size : ℕ} (S : B → C → ℕ → Type 0) (j : Judged A) (k : Judged C) (make : A → B)
-    → Follows R size j k → ((x : A) (y : C) (n : ℕ) → R x y n → S (make x) y n) → Follows S size (j >>= λ x. took (make x.0) x.1) k
-follows_make {size = size} S j k make h made z m e =
-    let one = bind_took j (λ x. took (make x.0) x.1) z m e in
-    let y = h one.0 one.1 one.2 in
-    as_took (Takes S size k) one.3 (y.0, y.1, y.2, made one.0 y.0 one.1 y.3)
+module _ {A B C : Type 0} {R : A → C → ℕ → Type 0} {size : ℕ} where
+  -- something is made of what the first takes
+  pub follows_make : (S : B → C → ℕ → Type 0) (j : Judged A) (k : Judged C) (make : A → B)
+      → Follows R size j k → ((x : A) (y : C) (n : ℕ) → R x y n → S (make x) y n) → Follows S size (j >>= λ x. took (make x.0) x.1) k
+  follows_make S j k make h made z m e =
+      let one = bind_took j (λ x. took (make x.0) x.1) z m e in
+      let y = h one.0 one.1 one.2 in
+      as_took (Takes S size k) one.3 (y.0, y.1, y.2, made one.0 y.0 one.1 y.3)
 
--- so it is of both
-pub agree_make : {A B C : Type 0} {R : A → C → ℕ → Type 0} {S : B → C → ℕ → Type 0} {size : ℕ} (j : Judged A) (k : Judged C) (make : A → B)
-    → Agree R size j k → ((x : A) (y : C) (n : ℕ) → R x y n → S (make x) y n) → Agree S size (j >>= λ x. took (make x.0) x.1) k
-agree_make {S = S} j k make h made = record {
-  there = follows_make S j k make h.there made;
-  back = λ y n e. let one = h.back y n e in (make one.0, ap (λ q. q >>= λ x. took (make x.0) x.1) one.1);
-}
+  -- so it is of both
+  pub agree_make : {S : B → C → ℕ → Type 0} (j : Judged A) (k : Judged C) (make : A → B)
+      → Agree R size j k → ((x : A) (y : C) (n : ℕ) → R x y n → S (make x) y n) → Agree S size (j >>= λ x. took (make x.0) x.1) k
+  agree_make {S = S} j k make h made = record {
+    there = follows_make S j k make h.there made;
+    back = λ y n e. let one = h.back y n e in (make one.0, ap (λ q. q >>= λ x. took (make x.0) x.1) one.1);
+  }
 
 -- the second makes something of what the first takes
 pub agree_of : {A B : Type 0} {R : A → B → ℕ → Type 0} {size : ℕ} (j : Judged A) (other : A → ℕ → B)

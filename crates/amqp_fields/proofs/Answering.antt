@@ -1,33 +1,22 @@
 -- The nodes of whole payloads: those of a frame, at most one a byte, and where they stand once they were put.
-use Rattle.std.proofs.Common.{◌≡◌, ℕ, suc, ◌+◌, ◌-◌, ◌<◌, ◌≤◌, ◌^◌, ◌==◌, cond, Bool, true, false, List, [], ◌∷◌, ◌++◌, length, take, drop, set}
-use Rattle.std.proofs.Common.{Result, Ok, Err, refl, sym, ap}
-use Rattle.std.proofs.Common.{◌∙◌, append_assoc, append-nil, add-one, arith}
-use Rattle.std.specs.Prelude.{IsOk}
-use Rattle.std.proofs.Math.Seq.{take-suc-set}
-use Rattle.std.proofs.lemmas.List.{length-set, take-set-le}
-use Rattle.amqp_types.specs.Judging.{Fault, Judged, took, past, fault, trailing_bytes}
+use Rattle.std.proofs.Common.{IsOk, take-suc-set, length-set, ◌≡◌, ℕ, suc, ◌+◌, ◌-◌, ◌<◌, ◌≤◌, ◌^◌, ◌==◌, cond, Bool, true, false, List, [], ◌∷◌, ◌++◌, length}
+use Rattle.std.proofs.Common.{take, drop, set, Result, Ok, Err, refl, sym, ap, ◌∙◌, append_assoc, append-nil, add-one, arith}
+use Rattle.amqp_fields.proofs.Names.{take-set-le, Fault, Judged, took, judge_form, judge_slots, AMQPFrameType, Frame, Proto, Meth, Head, Body, Beat, BadBeat}
+use Rattle.amqp_fields.proofs.Names.{beat_on, outline_of, Node, Grows, Listing, listing, pushed, pushed_all, listed_payload, payload_nodes, version_slots}
+use Rattle.amqp_fields.proofs.Names.{count_of, Counts, AreNodesOf, IsSpan, fields_of}
 use Rattle.amqp_types.specs.Methods.{judge_payload}
 use Rattle.amqp_types.specs.ContentHeaders.{judge_content_header}
 use Rattle.amqp_types.specs.Slots.{number_item}
-use Rattle.amqp_types.specs.SlotJudging.{judge_form, judge_slots}
-use Rattle.amqp_wire.specs.declared.frame_type.AMQPFrameType.{AMQPFrameType}
 use Rattle.amqp_wire.specs.declared.frame_type.AMQPFrameType.TheVariants as kinds
-use Rattle.amqp_wire.specs.Frames.{Frame, Proto, Meth, Head, Body, Beat, BadBeat, beat_on}
-use Rattle.amqp_wire.specs.Outlines.{outline_of}
 use Rattle.amqp_wire.specs.Verdicts.{all_of, filling, decode_raw, decode_payload}
 use Rattle.amqp_wire.proofs.Encoded.{read_as}
-use Rattle.amqp_fields.specs.declared.node.Node.{Node}
-use Rattle.amqp_fields.specs.Listing.{Grows, Listing, listing, pushed, pushed_all}
-use Rattle.amqp_fields.specs.Listed.{listed_payload, payload_nodes, version_slots}
-use Rattle.amqp_fields.specs.Counting.{count_of}
-use Rattle.amqp_fields.specs.Finding.{Counts}
-use Rattle.amqp_fields.specs.Meaning.{AreNodesOf, IsSpan, fields_of}
+use Rattle.amqp_wire.proofs.Payloads as payloads
 use Rattle.amqp_fields.specs.Reading.{IsWhole, NeedsMore, StandInFront, fields_nodes, payload_as}
 use Rattle.amqp_fields.proofs.Pushing.{pushed_count}
 use Rattle.amqp_fields.proofs.Spans.{Stands, itself}
 use Rattle.amqp_fields.proofs.Groups.{IsAt}
 use Rattle.amqp_fields.proofs.FieldsFound.{slots_found}
-use Rattle.amqp_fields.proofs.PayloadsFound.{header_found, method_found}
+use Rattle.amqp_fields.proofs.PayloadsFound.{IsListed, header_found, method_found}
 
 -- ---- the list
 
@@ -43,10 +32,9 @@ pub pushed_front : (xs : List Node) (k : ℕ) (added : List Node) → k + length
 unfolding pushed
 pushed_front xs k [] fits = ap (λ n. take n xs) {x = k + 0} {y = k} (omega arith) ∙ sym (append-nil (take k xs))
 pushed_front xs k (node ∷ added) fits =
-    ap (λ n. take n (pushed_all (listing (set xs k node) (k + 1)) added).nodes) {x = k + suc (length added)} {y = k + 1 + length added} (omega arith)
-    ∙ pushed_front (set xs k node) (k + 1) added (omega (arith, length-set xs k node))
-    ∙ ap (λ n. take n (set xs k node) ++ added) (add-one k)
-    ∙ ap (λ (ns : List Node). ns ++ added) (take-suc-set xs k node (omega arith)) ∙ append_assoc (take k xs) (node ∷ []) added
+    let size : k + suc (length added) ≡ k + 1 + length added = omega arith in
+    rw size (pushed_front (set xs k node) (k + 1) added (omega (arith, length-set xs k node))
+    ∙ rw (add-one k, take-suc-set xs k node (omega arith)) (append_assoc (take k xs) (node ∷ []) added))
 
 -- what is put after so many nodes leaves these
 pub pushed_keeps : (s : Listing) (k : ℕ) (added : List Node) → k ≤ s.count → take k (pushed_all s added).nodes ≡ take k s.nodes
@@ -57,32 +45,17 @@ pushed_keeps s k (node ∷ added) h = pushed_keeps (pushed s node) k added (omeg
 -- ---- whole payloads
 
 -- the nodes that were listed are those of the frame, with spans in some bytes
-pub record AreListed (kind : AMQPFrameType) (bytes : List ℕ) (end : ℕ) (payload : List ℕ) (deep : Bool) (frame : Frame) : Type 0 where
-  pub nodes : List Node
-  pub used : ℕ
-  pub is : listed_payload kind deep end payload ≡ took nodes used
-  pub nodes_are : AreNodesOf deep bytes frame nodes
-  pub few : length nodes ≤ length payload
-  pub count : length (fields_of frame) ≡ count_of payload (outline_of frame)
+abbrev pub AreListed : AMQPFrameType → List ℕ → ℕ → List ℕ → Bool → Frame → Type 0
+AreListed kind bytes end payload deep frame =
+    IsListed deep bytes payload (listed_payload kind deep end payload) (fields_of frame) (count_of payload (outline_of frame))
 
 -- where what is read fills all bytes, it was taken
 pub filled_took : {A : Type 0} (n : ℕ) (j : Judged A) (x : A) → filling n j ≡ Ok x → (k : ℕ) × (j ≡ took x k)
-filled_took n past x h = absurd cc
-filled_took n (fault bad) x h = absurd cc
-filled_took n (took y used) x h = by_size (used == n) h
-  where
-    by_size : (all : Bool) → cond all (Ok y) (Err trailing_bytes) ≡ Ok x → (k : ℕ) × (took y used ≡ took x k)
-    by_size true h = let is : y ≡ x = cc in (used, ap (λ z. took z used) is)
-    by_size false h = absurd cc
+filled_took n j x h = (n, payloads.filled_took n j x h)
 
--- a heartbeat has no fields on any channel
-beat_fields : (payload : List ℕ) (channel : ℕ) → (fields_of (beat_on channel) ≡ []) × (count_of payload (outline_of (beat_on channel)) ≡ 0)
-unfolding fields_of
-beat_fields payload channel = by_test (channel == 0)
-  where
-    by_test : (zero : Bool) → (fields_of (cond zero Beat (BadBeat channel)) ≡ []) × (count_of payload (outline_of (cond zero Beat (BadBeat channel))) ≡ 0)
-    by_test true = (refl, refl)
-    by_test false = (refl, refl)
+-- no nodes, where there are no fields
+none_listed : (payload : List ℕ) {deep : Bool} {bytes : List ℕ} → IsListed deep bytes payload (took [] 0) [] 0
+none_listed payload = ([], 0, refl, record { number = refl; nodes_are = record { means = refl; few = omega arith } })
 
 module _ (deep : Bool) (bytes : List ℕ) (end : ℕ) where
   at : {payload : List ℕ} → Stands bytes end payload → IsAt bytes (end - length payload) end payload
@@ -99,14 +72,7 @@ module _ (deep : Bool) (bytes : List ℕ) (end : ℕ) where
       let found =
       (slots_found deep bytes (end - 3) end version_slots (a ∷ b ∷ c ∷ []) 0 (omega arith) (at stands)).there
       (number_item a ∷ number_item b ∷ number_item c ∷ []) 3 refl in
-      rw (← is) (record {
-        nodes = found.0;
-        used = 3;
-        is = found.1;
-        nodes_are = found.3.fields.means;
-        few = omega arith;
-        count = refl;
-      })
+      rw (← is) (found.0, 3, found.1, record { number = refl; nodes_are = record { means = found.3.fields.means; few = omega arith } })
   version_found (a ∷ b ∷ c ∷ d ∷ more) channel frame stands h = absurd cc
 
   -- the nodes that are listed of a whole payload are those of its frame, where they stand in some bytes
@@ -117,30 +83,17 @@ module _ (deep : Bool) (bytes : List ℕ) (end : ℕ) where
   whole_found kinds.Method payload channel frame stands h =
       let read = read_as (λ x. Meth channel x) (all_of judge_payload payload) frame h in
       let m = filled_took (length payload) (judge_payload payload) read.0 read.1 in
-      let found = method_found deep bytes (end - length payload) end payload m.0 read.0 (at stands) m.1 in
-      rw (← read.2)
-      (record { nodes = found.0; used = found.1; is = found.2; nodes_are = found.3.nodes_are.means; few = found.3.nodes_are.few; count = found.3.number })
+      rw (← read.2) (method_found deep bytes (end - length payload) end payload m.0 read.0 (at stands) m.1)
   whole_found kinds.Header payload channel frame stands h =
       let read = read_as (λ x. Head channel x) (all_of judge_content_header payload) frame h in
       let header = filled_took (length payload) (judge_content_header payload) read.0 read.1 in
-      let found = header_found deep bytes (end - length payload) end payload header.0 read.0 (at stands) header.1 in
-      rw (← read.2)
-      (record { nodes = found.0; used = found.1; is = found.2; nodes_are = found.3.nodes_are.means; few = found.3.nodes_are.few; count = found.3.number })
-  whole_found kinds.Body payload channel frame stands h =
-      let is : Body channel payload ≡ frame = cc in
-      rw (← is)
-      (record { nodes = []; used = 0; is = refl; nodes_are = refl; few = omega arith; count = refl })
-  whole_found kinds.Heartbeat payload channel frame stands h =
-      let is : beat_on channel ≡ frame = cc in
-      let none = beat_fields payload channel in
-      rw (← is) (record {
-        nodes = [];
-        used = 0;
-        is = refl;
-        nodes_are = rw none.0 refl;
-        few = omega arith;
-        count = ap length none.0 ∙ sym none.1;
-      })
+      rw (← read.2) (header_found deep bytes (end - length payload) end payload header.0 read.0 (at stands) header.1)
+  whole_found kinds.Body payload channel frame stands h = let is : Body channel payload ≡ frame = cc in rw (← is) (none_listed payload)
+  whole_found kinds.Heartbeat payload channel frame stands h = let is : beat_on channel ≡ frame = cc in rw (← is) (by_test (channel == 0))
+    where
+      by_test : (none : Bool) → AreListed kinds.Heartbeat bytes end payload deep (cond none Beat (BadBeat channel))
+      by_test true = none_listed payload
+      by_test false = none_listed payload
 
 -- ---- what is promised of them
 
@@ -159,7 +112,7 @@ pub listed_mean : (deep : Bool) (bytes payload : List ℕ) (start : ℕ) (kind :
     → AreNodesOf deep bytes frame (payload_nodes kind deep (start + length payload) payload)
 listed_mean deep bytes payload start kind channel frame span is =
     let all = whole_found deep bytes (start + length payload) kind payload channel frame (span_stands bytes payload start span) is in
-    rw all.is all.nodes_are
+    rw all.2 all.3.nodes_are.means
 
 pub is_ok : {A : Type 0} (read : Result A Fault) (x : A) → read ≡ Ok x → IsOk read
 is_ok read x h = rw h
@@ -178,7 +131,7 @@ pub fields_few : (kind : AMQPFrameType) (payload : List ℕ) (deep : Bool) → I
 fields_few kind payload deep h =
     let frame = ok_of (decode_raw (payload_as kind payload)) h in
     let all = whole_found deep payload (length payload) kind payload 0 frame.0 (itself payload) frame.1 in
-    rw all.is all.few
+    rw all.2 all.3.nodes_are.few
 
 -- ---- nodes that were put after others
 
@@ -201,12 +154,10 @@ put_length nodes old new first count put = ap length put.list_is ∙ pushed_leng
 -- nodes for which the list has room stand in front of it
 pub put_front : (nodes old new : List Node) (count : ℕ) → ArePut nodes old 0 new count → count ≤ length new → StandInFront nodes new count
 put_front nodes old new count put room =
-    let front = pushed_front old 0 nodes (omega (arith, put_length nodes old new 0 count put)) in
     record {
       count_is = omega arith;
       fit = room;
-      front =
-          ap (λ n. take n new) put.count_is ∙ ap (take (0 + length nodes)) put.list_is ∙ front;
+      front = rw (put.count_is, put.list_is) (pushed_front old 0 nodes (omega (arith, put_length nodes old new 0 count put)));
     }
 
 -- and else the list is too short for them
@@ -219,7 +170,7 @@ pub put_all : (kind : AMQPFrameType) (bytes : List ℕ) (end : ℕ) (payload : L
     → (all : AreListed kind bytes end payload deep frame) → first + length payload < 2 ^ 32
     → Counts (listed_payload kind deep end payload) old first new count → ArePut (payload_nodes kind deep end payload) old first new count
 put_all kind bytes end payload deep frame old new first count all few h =
-    rw all.is (grown all.nodes old new first count (rw all.is at h) (omega (arith, few)))
+    rw all.2 (grown all.0 old new first count (rw all.2 at h) (omega (arith, few, all.3.nodes_are.few)))
 
 -- ---- the fields of a payload that stands alone
 

@@ -1,19 +1,10 @@
 -- The nodes of the content of a table or an array that stands alone: those of its entries or values, at most one a byte.
 use Rattle.std.proofs.Common.{◌≡◌, ℕ, ◌-◌, ◌<◌, ◌≤◌, ◌^◌, List, length, Result, Ok, Err, refl, sym, subst, ◌∙◌, arith}
-use Rattle.amqp_types.specs.Judging.{Fault}
-use Rattle.amqp_types.specs.Constants.{inner_depth}
+use Rattle.amqp_fields.proofs.Names.{Fault, inner_depth, filled, judge_entry, judge_value, IsFilled, Node, Filled, ListsAll, entries_nodes, joined}
+use Rattle.amqp_fields.proofs.Names.{listed_entry, listed_value, nodes_in, values_nodes, AreNodes, MeansElement, MeansEntry, MeansValue, blank, LieIn}
 use Rattle.amqp_types.specs.Values.{Entry, FieldValue}
-use Rattle.amqp_types.specs.ValueJudging.{filled, judge_entry, judge_value}
-use Rattle.amqp_canonical.specs.Writes.{IsFilled}
-use Rattle.amqp_fields.specs.declared.node.Node.{Node}
-use Rattle.amqp_fields.specs.declared.listing.Filled.{Filled}
 use Rattle.amqp_fields.specs.Contents.{entries_in, values_in}
-use Rattle.amqp_fields.specs.Finding.{ListsAll}
-use Rattle.amqp_fields.specs.Listed.{entries_nodes, joined, listed_entry, listed_value, nodes_in, values_nodes}
-use Rattle.amqp_fields.specs.Meaning.{AreNodes, MeansElement, MeansEntry, MeansValue}
-use Rattle.amqp_fields.specs.Nodes.{blank}
 use Rattle.amqp_fields.specs.Reading.{NeedsMore, StandInFront}
-use Rattle.amqp_fields.specs.Spans.{LieIn}
 use Rattle.amqp_fields.proofs.Agreeing.{AgreeAll}
 use Rattle.amqp_fields.proofs.Answering.{ArePut, grown, put_front, put_length, put_needs}
 use Rattle.amqp_fields.proofs.Groups.{AreFound, at_front, filled_found}

@@ -1,28 +1,17 @@
 -- How many fields a frame has, by the table of methods and by the mask of properties.
-use Rattle.std.proofs.Common.{Bor, ◌≡◌, ℕ, ◌+◌, ◌<◌, ◌≤◌, true, false, List, [], ◌∷◌, length, get_or, drop, map, Option, Some}
-use Rattle.std.proofs.Common.{Ok, refl, sym, ap, ◌∙◌, arith}
+use Rattle.std.proofs.Common.{Bor, ◌≡◌, ℕ, ◌+◌, ◌<◌, ◌≤◌, true, false, List, [], ◌∷◌, length, get_or, drop, map, Option, Some, Ok, refl, sym, ap, ◌∙◌, arith}
 use Rattle.std.specs.Prelude.{option_copied, option_map, unwrap_or}
-use Rattle.amqp_types.specs.Judging.{took}
-use Rattle.amqp_types.specs.Numbers.{bytes2, judge_number}
-use Rattle.amqp_types.specs.Flags.{bit_of, flag_at}
-use Rattle.amqp_types.specs.Properties.{properties}
-use Rattle.amqp_types.specs.Rows.{slots_at}
+use Rattle.amqp_fields.proofs.Names.{took, bytes2, judge_number, bit_of, flag_at, properties, slots_at, property_of, slot_of, slots_of, AMQPFrameType, Frame}
+use Rattle.amqp_fields.proofs.Names.{outline_of, count_of, method_count, set_at, set_count, total, kept_count, fields_of, length-map}
 use Rattle.amqp_types.specs.Methods.{method}
 use Rattle.amqp_canonical.specs.declared.shapes.Form.{Form as FormShape}
 use Rattle.amqp_canonical.specs.declared.shapes.Slot.{Slot as SlotShape}
-use Rattle.amqp_canonical.specs.Shapes.{property_of, slot_of, slots_of}
-use Rattle.amqp_wire.specs.declared.frame_type.AMQPFrameType.{AMQPFrameType}
 use Rattle.amqp_wire.specs.declared.frame_type.AMQPFrameType.TheVariants as kinds
-use Rattle.amqp_wire.specs.Frames.{Frame}
-use Rattle.amqp_wire.specs.Outlines.{outline_of}
 use Rattle.amqp_wire.specs.Verdicts.{decode_payload}
-use Rattle.amqp_fields.specs.Counting.{count_of, method_count, set_at, set_count, total}
-use Rattle.amqp_fields.specs.Listed.{kept_count}
-use Rattle.amqp_fields.specs.Meaning.{fields_of}
-use Rattle.std.proofs.lemmas.List.{length-map}
 use Rattle.amqp_fields.proofs.Answering.{whole_found}
 use Rattle.amqp_fields.proofs.Spans.{itself}
-use Rattle.amqp_fields.proofs.PayloadsFound.{fourteen, slots_small, small_is}
+use Rattle.amqp_fields.proofs.PayloadsFound.{few_fields, fourteen}
+use Rattle.amqp_fields.proofs.PayloadSteps.{method_is}
 
 -- ---- what is counted
 
@@ -37,14 +26,10 @@ pub total_more : (shapes : List SlotShape) (other : SlotShape) → 1 ≤ length 
 total_more [] other h = absurd (omega arith)
 total_more (shape ∷ shapes) other h = refl
 
-method_is : (class id : ℕ) (found : Option (Bor (List SlotShape))) (shapes : Bor (List SlotShape))
-    → option_map slots_of (option_copied found) ≡ slots_at class id → found ≡ Some shapes → slots_at class id ≡ Some (slots_of shapes.now)
-method_is class id found shapes at is = sym at ∙ ap (λ o. option_map slots_of (option_copied o)) is
-
 -- a method whose shapes were found has at most 255 fields
 pub method_few : (class id : ℕ) (found : Option (Bor (List SlotShape))) (shapes : Bor (List SlotShape))
     → option_map slots_of (option_copied found) ≡ slots_at class id → found ≡ Some shapes → total (slots_of shapes.now) ≤ 255
-method_few class id found shapes at is = (small_is (slots_of shapes.now) (slots_small class id (slots_of shapes.now) (method_is class id found shapes at is))).0
+method_few class id found shapes at is = few_fields class id (slots_of shapes.now) (method_is class id found shapes at is)
 
 -- the shapes that were found for a method have as many fields as the method
 pub method_total : (class id : ℕ) (found : Option (Bor (List SlotShape))) (shapes : Bor (List SlotShape))
@@ -85,4 +70,4 @@ no_mask (a ∷ b ∷ bytes) h = absurd (omega arith)
 -- a frame has as many fields as its outline says
 pub frame_counted : (kind : AMQPFrameType) (channel : ℕ) (payload : List ℕ) (frame : Frame)
     → decode_payload kind channel payload ≡ Ok frame → count_of payload (outline_of frame) ≡ length (fields_of frame)
-frame_counted kind channel payload frame h = sym (whole_found false payload (length payload) kind payload channel frame (itself payload) h).count
+frame_counted kind channel payload frame h = sym (whole_found false payload (length payload) kind payload channel frame (itself payload) h).3.number

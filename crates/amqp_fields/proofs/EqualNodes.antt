@@ -1,15 +1,13 @@
 -- Nodes and heads, and what is read of payloads and frames, are equal exactly where contracts see the same.
 use Rattle.std.proofs.Common.{◌≡◌, rules}
 use Rattle.std.specs.Bool.{Decides}
-use Rattle.std.proofs.lemmas.Bool.Decides.{Decides-eqb}
+use Rattle.amqp_fields.proofs.Names.{Decides-eqb, Node, FramesRead}
 use Rattle.amqp_laws.proofs.Deciding.{both}
-use Rattle.amqp_fields.specs.declared.node.Node.{Node}
 use Rattle.amqp_fields.specs.contracts.node.NodePartialEq.TheImpl as node
 use Rattle.amqp_fields.specs.declared.reading.FieldsRead.{FieldsRead}
 use Rattle.amqp_fields.specs.contracts.reading.FieldsReadPartialEq.TheImpl as read
 use Rattle.amqp_fields.specs.declared.head.Head.{Head}
 use Rattle.amqp_fields.specs.contracts.head.HeadPartialEq.TheImpl as head
-use Rattle.amqp_fields.specs.declared.frames.FramesRead.{FramesRead}
 use Rattle.amqp_fields.specs.contracts.frames.FramesReadPartialEq.TheImpl as frames
 use Rattle.amqp_fields.specs.declared.frames.FramesEnd.{FramesEnd}
 use Rattle.amqp_fields.specs.contracts.frames.FramesEndPartialEq.TheImpl as ends

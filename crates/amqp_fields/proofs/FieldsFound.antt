@@ -1,33 +1,20 @@
 -- The nodes of fields mean the fields.
-use Rattle.std.proofs.Common.{◌≡◌, ℕ, zero, suc, ◌+◌, ◌-◌, ◌<◌, ◌≤◌, Bool, true, false, List, [], ◌∷◌, ◌++◌, length, drop, inl, map, refl, sym, ap, ◌∙◌}
-use Rattle.std.proofs.Common.{append_assoc, append-nil, subst, arith}
-use Rattle.std.specs.Prelude.{replicate}
-use Rattle.std.proofs.lemmas.List.{length-append, length-drop, length-map, length-replicate}
-use Rattle.amqp_types.proofs.Took.{bind_took, value_took, count_took}
-use Rattle.amqp_types.specs.Judging.{Judge, Judged, took, ◌>>=◌}
-use Rattle.amqp_types.specs.Sequences.{judge_both, judge_map}
-use Rattle.amqp_types.specs.Numbers.{NumberWidth, bytes1, bytes2, bytes4, bytes8, byte_count, judge_number}
-use Rattle.amqp_types.specs.Strings.{judge_short_string, judge_long_string}
-use Rattle.amqp_types.specs.Flags.{bit_of, flags_from, judge_flags}
-use Rattle.amqp_types.specs.ValueJudging.{filled, read_map, judge_entry, judge_table, judge_value, judge_field_table}
-use Rattle.amqp_types.specs.Settling.{settled}
+use Rattle.std.proofs.Common.{replicate, length-append, length-drop, ◌≡◌, ℕ, zero, suc, ◌+◌, ◌-◌, ◌<◌, ◌≤◌, Bool, true, false, List, [], ◌∷◌, ◌++◌, length}
+use Rattle.std.proofs.Common.{drop, inl, map, refl, sym, ap, ◌∙◌, append_assoc, append-nil, subst, arith}
+use Rattle.amqp_fields.proofs.Names.{length-map, length-replicate, bind_took, value_took, count_took, Judge, Judged, took, ◌>>=◌, judge_both, judge_map}
+use Rattle.amqp_fields.proofs.Names.{NumberWidth, bytes1, byte_count, judge_number, judge_short_string, judge_long_string, bit_of, flags_from, judge_flags}
+use Rattle.amqp_fields.proofs.Names.{filled, read_map, judge_entry, judge_table, judge_value, judge_field_table, settled, judge_dropped, judge_form, judge_slot}
+use Rattle.amqp_fields.proofs.Names.{judge_slots, inner_depth, Node, numbered, spanned, total, kind_of, end_before, field_count, kept_count, listed_bits}
+use Rattle.amqp_fields.proofs.Names.{listed_form, listed_slot, listed_slots, listed_span, next_place, placed, AreNodes, Field, IsText, MeansField, MeansItem}
+use Rattle.amqp_fields.proofs.Names.{field, fields_from, kinds_in, kinds_of, LieIn, has_span}
 use Rattle.amqp_types.specs.Slots.{Item, number_item, flag_item, text_item, bytes_item, entries_item, Form, number_form, flags_form, short_string_form}
 use Rattle.amqp_types.specs.Slots.{long_string_form, table_form, Slot, kept_slot, reserved_slot}
-use Rattle.amqp_types.specs.SlotJudging.{judge_dropped, judge_form, judge_slot, judge_slots}
-use Rattle.amqp_types.specs.Constants.{inner_depth}
-use Rattle.amqp_fields.specs.declared.node.Node.{Node}
-use Rattle.amqp_fields.specs.Nodes.{numbered}
-use Rattle.amqp_fields.specs.Counting.{total}
-use Rattle.amqp_fields.specs.Kinds.{kind_of}
-use Rattle.amqp_fields.specs.Listed.{field_count, kept_count, listed_bits, listed_form, listed_slot, listed_slots, listed_span, next_place, placed}
-use Rattle.amqp_fields.specs.Meaning.{AreNodes, Field, MeansField, MeansItem, field, fields_from, kinds_in, kinds_of}
-use Rattle.amqp_fields.specs.Spans.{LieIn, has_span}
 use Rattle.amqp_fields.proofs.Agreeing.{Agree, Follows, Takes, agree_back, agree_of, as_took, follows_make}
 use Rattle.amqp_fields.proofs.Groups.{Finds, IsAt, IsGroupOf, at_drop, regroup}
 use Rattle.amqp_fields.proofs.Lying.{append_lie, none_lie}
-use Rattle.amqp_fields.proofs.Spans.{byte_below, long_part, number_took, short_part}
-use Rattle.amqp_fields.proofs.ValuesFound.{IsBounded, IsLabel, Keeps, all_took, leaf, map_bounded, map_read, map_took, number_bounded}
-use Rattle.amqp_fields.proofs.ValuesFound.{span_found, table_found, value_found}
+use Rattle.amqp_fields.proofs.Spans.{IsPart, byte_below, long_part, number_took, short_part}
+use Rattle.amqp_fields.proofs.ValuesFound.{IsBounded, IsLabel, Keeps, all_took, leaf, map_bounded, map_read, map_took, number_bounded, span_group, table_found}
+use Rattle.amqp_fields.proofs.ValuesFound.{value_found}
 
 -- ---- lists of nodes
 
@@ -139,11 +126,8 @@ excess (flags_form count) = count - 1
 excess form = 0
 
 kinds_count : (form : Form) → length (kinds_of form) ≡ field_count form
-kinds_count (number_form width) = refl
 kinds_count (flags_form count) = length-replicate count 5
-kinds_count short_string_form = refl
-kinds_count long_string_form = refl
-kinds_count table_form = refl
+kinds_count form = refl
 
 table_bounded : IsBounded judge_field_table
 unfolding judge_table
@@ -161,10 +145,7 @@ form_bounded long_string_form = map_bounded _ (λ bytes text n h. (long_part byt
 form_bounded table_form = map_bounded _ table_bounded
 
 label_of : {from to : ℕ} (place : ℕ) (form : Form) → IsLabel from to (placed place form)
-label_of place form = record {
-  fresh = record { inside = refl; items = refl; start = refl; count = refl; number = refl; scale = refl };
-  key = inl (refl, refl);
-}
+label_of place form = record { fresh = search; key = inl (refl, refl) }
 
 -- the node of one field, with those inside it
 one_field : {deep : Bool} {payload : List ℕ} {from to : ℕ} (most place : ℕ) (form : Form) (item : Item) {nodes : List Node}
@@ -201,7 +182,7 @@ module _ (deep : Bool) (payload : List ℕ) (from to : ℕ) where
   bits_found place [] few = (record { means = refl; few = omega arith }, none_lie)
   bits_found place (flag ∷ flags) few =
       let next : next_place place 1 ≡ place + 1 = byte_below (place + 1) (omega (arith, few)) in
-      let one = leaf (label_of place (flags_form 1)) refl 0 0 (bit_of flag) refl in
+      let one = leaf (label_of place (flags_form 1)) refl {digits = 0} {scale = 0} refl (bit_of flag) in
       let others = bits_found (place + 1) flags (omega (arith, few)) in
       rw next (
         fields_then (one_field 1 place (flags_form 1) (flag_item flag) one) others.0 (omega arith),
@@ -246,29 +227,37 @@ module _ (deep : Bool) (payload : List ℕ) (from to : ℕ) where
       (agree_of (judge_number width bytes) (λ x n. numbered (placed place (number_form width)) x ∷ []) (λ x n e.
       let size = number_took width bytes x n e in (
         size.1,
-        regroup (leaf (label_of place (number_form width)) (no_span width) 0 0 x refl) (let some = width_some width in omega arith)
+        regroup (leaf (label_of place (number_form width)) (no_span width) refl x) (let some = width_some width in omega arith)
             (λ node inside means. means),
       )))
     where
       no_span : (w : NumberWidth) → has_span (kind_of (number_form w)) ≡ false
       no_span bytes1 = refl
-      no_span bytes2 = refl
-      no_span bytes4 = refl
-      no_span bytes8 = refl
+      no_span w = refl
 
       width_some : (w : NumberWidth) → 1 ≤ byte_count w
       width_some bytes1 = omega arith
-      width_some bytes2 = omega arith
-      width_some bytes4 = omega arith
-      width_some bytes8 = omega arith
+      width_some w = omega arith
 
 module _ (payload : List ℕ) (from to : ℕ) (bytes : List ℕ) (at : IsAt payload from to bytes) where
+  -- a string or a byte array by its span
+  span_found : (place : ℕ) (form : Form) (judge : Judge (List ℕ)) (front : ℕ)
+      → ((bytes content : List ℕ) (n : ℕ) → judge bytes ≡ took content n → IsPart bytes content front n) → 1 ≤ front
+      → Finds (λ node inside content. Keeps (placed place form) node × IsText payload node inside content) from to (length bytes)
+      (judge bytes) (listed_span judge to (placed place form) bytes)
+  unfolding listed_span
+  span_found place form judge front parts some =
+      agree_of (judge bytes) (λ content n. spanned (placed place form) (end_before to (drop n bytes)) content ∷ [])
+      (λ content n e.
+      let part = parts bytes content n e in
+      (part.within, span_group at (label_of place form) content front n part (omega (arith, part.used_is))))
+
   -- a table alone
   alone_found : (place : ℕ) → Found (AreItems false payload place 1 (kind_of table_form ∷ []) 0) from to (length bytes)
       (judge_map (λ es. entries_item es ∷ []) judge_field_table bytes) (listed_span judge_long_string to (placed place table_form) bytes)
   unfolding judge_table
   alone_found place =
-      let span = span_found at (label_of place table_form) judge_long_string 4 long_part (omega arith) in
+      let span = span_found place table_form judge_long_string 4 long_part (omega arith) in
       record {
         there = λ items n e.
             let one = map_took judge_field_table (λ es. entries_item es ∷ []) bytes items n e in
@@ -307,10 +296,10 @@ module _ (payload : List ℕ) (from to : ℕ) (bytes : List ℕ) (at : IsAt payl
   form_found deep place (flags_form count) room = flags_found deep payload from to place count bytes room
   form_found deep place short_string_form room =
       one_found deep payload from to place short_string_form (judge_short_string bytes) _ text_item
-      (span_found at (label_of place short_string_form) judge_short_string 1 short_part (omega arith))
+      (span_found place short_string_form judge_short_string 1 short_part (omega arith))
   form_found deep place long_string_form room =
       one_found deep payload from to place long_string_form (judge_long_string bytes) _ bytes_item
-      (span_found at (label_of place long_string_form) judge_long_string 4 long_part (omega arith))
+      (span_found place long_string_form judge_long_string 4 long_part (omega arith))
   form_found true place table_form room =
       one_found true payload from to place table_form (judge_field_table bytes) _ entries_item
       (table_found inner_depth (value_found inner_depth) at (label_of place table_form))

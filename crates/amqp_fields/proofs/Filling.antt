@@ -1,15 +1,11 @@
 -- Decoding what fills a table or an array, item by item.
 use Rattle.std.proofs.Common.{◌≡◌, ℕ, ◌+◌, ◌<◌, ◌≤◌, List, ◌∷◌, length, drop, Result, Ok, Err, sym, ap, ◌∙◌}
-use Rattle.std.proofs.lemmas.List.{nil_from_length}
-use Rattle.amqp_types.specs.Judging.{Fault, Judge, took, ◌>>=◌}
+use Rattle.amqp_fields.proofs.Names.{nil_from_length, Fault, Judge, took, ◌>>=◌, judge_short_string, filled, inside_error, judge_entry, judge_value, read_map}
+use Rattle.amqp_fields.proofs.Names.{ParserError, IsFilled}
 use Rattle.amqp_types.proofs.Judged.{refuses_next}
 use Rattle.amqp_types.specs.Answers.{Refuses, RefusesWhole}
-use Rattle.amqp_types.specs.Strings.{judge_short_string}
 use Rattle.amqp_types.specs.Values.{FieldValue}
-use Rattle.amqp_types.specs.ValueJudging.{filled, inside_error, judge_entry, judge_value, read_map}
-use Rattle.amqp_types.specs.declared.errors.ParserError.{ParserError}
 use Rattle.amqp_canonical.specs.Judgements.{MayRefuse}
-use Rattle.amqp_canonical.specs.Writes.{IsFilled}
 use Rattle.amqp_canonical.proofs.Refusing.{refused_inside}
 use Rattle.amqp_laws.proofs.Filling.{RefusesWhole-map, filled_next, filled_refused}
 use Rattle.amqp_fields.specs.Contents.{FillsOrFails, UsesOrFails}
@@ -23,28 +19,28 @@ map_filled : {A : Type 0} (x : A) (r : Result (List A) Fault) → IsFilled r →
 map_filled x (Ok xs) h = tt
 map_filled x (Err bad) h = absurd h
 
--- a thing that is decoded leaves what comes after it to be filled
-pub goes_on : {A : Type 0} (item : Judge A) (content rest next : List ℕ) (x : A) (n : ℕ) → Onward item content rest
-    → 0 < length rest → item rest ≡ took x n → 0 < n → n ≤ length rest → next ≡ drop n rest → Onward item content next
-goes_on item content rest next x n h some is up le e =
-    let same : filled item 0 rest ≡ read_map (λ xs. x ∷ xs) (filled item 0 next) =
-    filled_next item rest x n some is up le ∙ ap (λ bs. read_map (λ xs. x ∷ xs) (filled item 0 bs)) (sym e) in
-    record {
-      refused = λ e r. h.refused e (rw same (RefusesWhole-map e (λ xs. x ∷ xs) (filled item 0 next) r));
-      fills = λ f. h.fills (rw same (map_filled x (filled item 0 next) f));
-    }
+module _ {A : Type 0} {item : Judge A} {content rest : List ℕ} (h : Onward item content rest) where
+  -- a thing that is decoded leaves what comes after it to be filled
+  pub goes_on : {next : List ℕ} {x : A} {n : ℕ} → 0 < length rest → item rest ≡ took x n → (0 < n) × (n ≤ length rest) → next ≡ drop n rest
+      → Onward item content next
+  goes_on {next = next} {x = x} {n = n} some is size e =
+      let same : filled item 0 rest ≡ read_map (λ xs. x ∷ xs) (filled item 0 next) =
+      filled_next item rest x n some is size.0 size.1 ∙ ap (λ bs. read_map (λ xs. x ∷ xs) (filled item 0 bs)) (sym e) in
+      record {
+        refused = λ e r. h.refused e (rw same (RefusesWhole-map e (λ xs. x ∷ xs) (filled item 0 next) r));
+        fills = λ f. h.fills (rw same (map_filled x (filled item 0 next) f));
+      }
 
--- a fault of the next thing is one of the whole
-pub fails : {A : Type 0} (item : Judge A) (content rest : List ℕ) (e inside : ParserError) → Onward item content rest → 0 < length rest
-    → inside ≡ inside_error e → MayRefuse e → Refuses e (item rest) → FillsOrFails (Err inside) (filled item 0 content)
-fails item content rest e inside h some is may refused =
-    (refused_inside e inside is may, h.refused inside (rw is (filled_refused item e rest some refused)))
+  -- a fault of the next thing is one of the whole
+  pub fails : {e inside : ParserError} → 0 < length rest → inside ≡ inside_error e → MayRefuse e × Refuses e (item rest)
+      → FillsOrFails (Err inside) (filled item 0 content)
+  fails {e = e} {inside = inside} some is refused =
+      (refused_inside e inside is refused.0, h.refused inside (rw is (filled_refused item e rest some refused.1)))
 
--- where nothing is left, things fill the content
-pub ends : {A : Type 0} (item : Judge A) (content rest : List ℕ) (done : Unit {0})
-    → Onward item content rest → length rest ≡ 0 → FillsOrFails (Ok done) (filled item 0 content)
-unfolding filled
-ends item content rest done h none = h.fills (rw (nil_from_length rest none) tt)
+  -- where nothing is left, things fill the content
+  pub ends : length rest ≡ 0 → FillsOrFails (Ok tt) (filled item 0 content)
+  unfolding filled
+  ends none = h.fills (rw (nil_from_length rest none) tt)
 
 -- ---- an entry
 

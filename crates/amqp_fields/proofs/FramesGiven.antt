@@ -1,33 +1,24 @@
 -- The frames that are read, one after another, with their heads and nodes.
-use Rattle.std.proofs.Common.{◌≡◌, ℕ, suc, ◌+◌, ◌*◌, ◌-◌, ◌<◌, ◌≤◌, ◌^◌, Bool, List, [], ◌∷◌, ◌++◌, length, take, drop, set, append_assoc, append-nil, Some}
-use Rattle.std.proofs.Common.{Ok}
-use Rattle.std.proofs.Common.{refl, sym, ap, subst, ◌∙◌, arith}
-use Rattle.std.proofs.lemmas.List.{drop-drop, length-append, length-drop, length-set, length-take, length-take-le, take_more_set}
+use Rattle.std.proofs.Common.{drop-drop, length-append, length-drop, length-set, length-take, length-take-le, ◌≡◌, ℕ, suc, ◌+◌, ◌*◌, ◌-◌, ◌<◌, ◌≤◌, ◌^◌, Bool}
+use Rattle.std.proofs.Common.{List, [], ◌∷◌, ◌++◌, length, take, drop, set, append_assoc, append-nil, Some, Ok, refl, sym, ap, ap₂, subst, subst₂, ◌∙◌, arith}
+use Rattle.amqp_fields.proofs.Names.{take_more_set, Judged, took, ParserError, Frame, Raw, outline_of, Node, FramesRead, listing, pushed_all, IsSpan, nodes_of}
+use Rattle.amqp_fields.proofs.Names.{payload_nodes}
 use Rattle.amqp_types.specs.Answers.{RefusesWhole}
-use Rattle.amqp_types.specs.Judging.{Judged, took}
 use Rattle.amqp_types.specs.Levels.{plain}
-use Rattle.amqp_types.specs.declared.errors.ParserError.{ParserError}
 use Rattle.amqp_types.specs.declared.errors.ParserError.TheVariants as errors
 use Rattle.amqp_wire.specs.declared.looking.FrameLayout.{FrameLayout}
-use Rattle.amqp_wire.specs.Frames.{Frame, Raw}
 use Rattle.amqp_wire.specs.Judgements.{IsPayloadFault}
 use Rattle.amqp_wire.specs.Looks.{laid_out, payload_place}
 use Rattle.amqp_wire.specs.HeaderScan.{scan}
-use Rattle.amqp_wire.specs.Outlines.{outline_of}
 use Rattle.amqp_wire.specs.Verdicts.{is_at, judge_scanned, judge_decoded, judge_frame, decode_raw}
 use Rattle.amqp_wire.specs.Fronts.{front, place}
 use Rattle.amqp_wire.proofs.Cuts.{front-got}
 use Rattle.amqp_wire.proofs.HeaderScan.{scan-in_bounds}
-use Rattle.amqp_fields.specs.declared.node.Node.{Node}
 use Rattle.amqp_fields.specs.declared.head.Head.{Head}
-use Rattle.amqp_fields.specs.declared.frames.FramesRead.{FramesRead}
 use Rattle.amqp_fields.specs.Frames.{HasNoRoom, ReadsFrames, SaysFault, in_reach}
 use Rattle.amqp_fields.specs.Framing.{IsFound, IsNextFrame, IsRead}
 use Rattle.amqp_fields.specs.Heads.{SayFrames, SaysFrame, head_of, nodes_at}
 use Rattle.amqp_fields.specs.Laws.{AreInFront}
-use Rattle.amqp_fields.specs.Listing.{listing, pushed_all}
-use Rattle.amqp_fields.specs.Meaning.{IsSpan}
-use Rattle.amqp_fields.specs.Listed.{nodes_of, payload_nodes}
 use Rattle.amqp_fields.proofs.Answering.{pushed_front, pushed_keeps, pushed_length, put_all, whole_found}
 use Rattle.amqp_fields.proofs.Spans.{Stands, itself, stands_part}
 
@@ -39,67 +30,45 @@ pub verdict_whole : (m : ℕ) (left : List ℕ) (raw : Raw) (size : ℕ) (frame 
 unfolding judge_frame
 verdict_whole m left raw size frame found is = ap (judge_scanned plain) found ∙ ap (λ r. judge_decoded (is_at plain raw) r size) is
 
--- what fills a payload ends where the payload does
-frame_stands : (bytes payload : List ℕ) (used place count : ℕ) → used + (place + count) ≤ length bytes
-    → payload ≡ take count (drop place (drop used bytes)) → Stands bytes (used + place + length payload) payload
-frame_stands bytes payload used place count within is =
-    let part = stands_part bytes bytes (length bytes) (used + place) count (itself bytes) (omega (arith, within)) in
-    let same : take count (drop (used + place) bytes) ≡ payload = ap (take count) (sym (drop-drop place used bytes) ∙ refl) ∙ sym is in
-    let size : length payload ≡ count =
-    ap length (sym same) ∙ length-take-le count (drop (used + place) bytes) (omega (arith, within, length-drop (used + place) bytes)) in
-    let end : length bytes - length (drop (used + place + count) bytes) ≡ used + place + length payload =
-    omega (arith, within, length-drop (used + place + count) bytes) in
-    let P : ℕ → Type 0 = λ e. Stands bytes e (take count (drop (used + place) bytes)) in
-    subst (Stands bytes (used + place + length payload)) same (subst P end part)
-
-stands_span : (bytes payload : List ℕ) (start : ℕ) → Stands bytes (start + length payload) payload → IsSpan bytes start (length payload) payload
-stands_span bytes payload start h =
-    record {
-      within = h.within;
-      bytes_are = ap (λ s. take (length payload) (drop s bytes)) {x = start} {y = start + length payload - length payload} (omega arith) ∙ h.is;
-    }
-
--- what was read of the frame at a place is its head and its nodes
-pub next_frame : (m : ℕ) (deep : Bool) (bytes : List ℕ) (used start : ℕ) (old new : List Node) (first : ℕ) (layout : FrameLayout) (raw : Raw) (head : Head)
-    → length bytes < 2 ^ 32 → used ≤ length bytes → first ≤ used → IsFound m (drop used bytes) layout → raw ≡ laid_out layout (drop used bytes)
-    → start ≡ used + layout.payload_start → IsRead raw start deep old first new head → IsNextFrame m deep bytes used old first new layout.frame_len head
-next_frame m deep bytes used start old new first layout raw head few within counted found is place read =
-    let left = length-drop used bytes in
+next_laid : (m : ℕ) (deep : Bool) (bytes : List ℕ) (used : ℕ) (old new : List Node) (first : ℕ) (layout : FrameLayout) (head : Head)
+    → length bytes < 2 ^ 32 → used ≤ length bytes → first ≤ used → IsFound m (drop used bytes) layout
+    → IsRead (laid_out layout (drop used bytes)) (used + layout.payload_start) deep old first new head
+    → IsNextFrame m deep bytes used old first new layout.frame_len head
+next_laid m deep bytes used old new first layout head few within counted found read =
+    let raw = laid_out layout (drop used bytes) in
     let payload = raw.payload in
-    let payload_is : payload ≡ take layout.payload_len (drop layout.payload_start (drop used bytes)) = ap (λ (r : Raw). r.payload) is in
-    let kind : raw.kind ≡ layout.frame_type = ap (λ (r : Raw). r.kind) is in
-    let inside : used + (layout.payload_start + layout.payload_len) ≤ length bytes = omega (arith, within) in
+    let start = used + layout.payload_start in
+    let left = length-drop used bytes in
+    let inside : start + layout.payload_len ≤ length bytes = omega (arith, within) in
+    let size : length payload ≡ layout.payload_len =
+    length-take-le layout.payload_len (drop layout.payload_start (drop used bytes))
+    (omega (arith, within, length-drop layout.payload_start (drop used bytes))) in
+    let end : length bytes - length (drop (start + layout.payload_len) bytes) ≡ start + length payload =
+    omega (arith, inside, length-drop (start + layout.payload_len) bytes) in
+    let P : ℕ → List ℕ → Type 0 = λ e xs. Stands bytes e (take layout.payload_len xs) in
     let stands : Stands bytes (start + length payload) payload =
-    subst (λ s. Stands bytes (s + length payload) payload) (sym place)
-    (frame_stands bytes payload used layout.payload_start layout.payload_len inside payload_is) in
-    let size : length payload ≤ layout.payload_len = omega (
-      arith,
-      ap length payload_is,
-      length-take-le layout.payload_len (drop layout.payload_start (drop used bytes))
-          (omega (arith, within, length-drop layout.payload_start (drop used bytes))),
-    ) in
+    subst₂ P end (sym (drop-drop layout.payload_start used bytes)) (stands_part bytes bytes (length bytes) start layout.payload_len (itself bytes) inside) in
+    let span : IsSpan bytes start (length payload) payload = record {
+      within = stands.within;
+      bytes_are = ap (λ s. take (length payload) (drop s bytes)) {x = start} {y = start + length payload - length payload} (omega arith) ∙ stands.is;
+    } in
     let all = whole_found deep bytes (start + length payload) raw.kind payload raw.channel read.frame stands read.is in
     let put =
-    put_all raw.kind bytes (start + length payload) payload deep read.frame old new first read.count all
-    (omega (arith, few)) read.counts in
-    let begins : start ≡ used + payload_place raw.kind = place ∙ ap (λ k. used + k) (found.placed.0 ∙ ap payload_place (sym kind)) in
-    let scan_is : scan (Some m) (drop used bytes) ≡ took raw layout.frame_len = found.found ∙ ap (λ (r : Raw). took r layout.frame_len) (sym is) in
-    let bounds = scan-in_bounds (Some m) (drop used bytes) raw layout.frame_len scan_is in
+    put_all raw.kind bytes (start + length payload) payload deep read.frame old new first read.count all (omega (arith, few)) read.counts in
+    let begins : start ≡ used + payload_place raw.kind = ap (λ k. used + k) found.placed.0 in
+    let bounds = scan-in_bounds (Some m) (drop used bytes) raw layout.frame_len found.found in
     let own = payload_nodes raw.kind deep (start + length payload) payload in
     let many : read.count - first ≡ length own = omega arith in
-    let own_few : length own ≤ length payload = subst (λ (ns : List Node). length ns ≤ length payload) (sym (ap nodes_of all.is)) all.few in
-    let head_is : head ≡ head_of raw (outline_of read.frame) (used + payload_place raw.kind) first (length own) =
-    read.head_is ∙ ap (λ s. head_of raw (outline_of read.frame) s first (read.count - first)) begins
-    ∙ ap (head_of raw (outline_of read.frame) (used + payload_place raw.kind) first) many in
+    let own_few : length own ≤ length payload = subst (λ (ns : List Node). length ns ≤ length payload) (sym (ap nodes_of all.2)) all.3.nodes_are.few in
     record {
       own = own;
       says = record {
         raw = raw;
         frame = read.frame;
-        found = scan_is;
+        found = found.found;
         is = read.is;
-        payload_is = subst (λ (h : Head). IsSpan bytes h.start h.length payload) (sym read.head_is) (stands_span bytes payload start stands);
-        head_is = head_is;
+        payload_is = subst (λ (h : Head). IsSpan bytes h.start h.length payload) (sym read.head_is) span;
+        head_is = read.head_is ∙ ap₂ (λ s n. head_of raw (outline_of read.frame) s first n) begins many;
         nodes_are = ap (nodes_at raw deep) begins;
       };
       list_is = put.list_is;
@@ -108,20 +77,18 @@ next_frame m deep bytes used start old new first layout raw head few within coun
       some = bounds.least;
     }
 
+-- what was read of the frame at a place is its head and its nodes
+pub next_frame : (m : ℕ) (deep : Bool) (bytes : List ℕ) (used start : ℕ) (old new : List Node) (first : ℕ) (layout : FrameLayout) (raw : Raw) (head : Head)
+    → length bytes < 2 ^ 32 → used ≤ length bytes → first ≤ used → IsFound m (drop used bytes) layout → raw ≡ laid_out layout (drop used bytes)
+    → start ≡ used + layout.payload_start → IsRead raw start deep old first new head → IsNextFrame m deep bytes used old first new layout.frame_len head
+next_frame m deep bytes used start old new first layout raw head few within counted found is place read =
+    next_laid m deep bytes used old new first layout head few within counted found (rw (is, place) at read)
+
 faulty : (error : ParserError) (j : Judged Raw) (raw : Raw) (size : ℕ) → j ≡ took raw size
     → IsPayloadFault error → RefusesWhole error (decode_raw raw) → SaysFault error (judge_scanned plain j)
 faulty errors.Incomplete j raw size e may h = absurd h
-faulty errors.UnknownFrameType j raw size e may h = absurd may.0
-faulty errors.BadProtocolHeader j raw size e may h = absurd may.0
-faulty errors.BadFrameEnd j raw size e may h = absurd may.0
-faulty errors.UnknownClass j raw size e may h = ap (judge_scanned plain) e ∙ ap (λ r. judge_decoded (is_at plain raw) r size) h
-faulty errors.UnknownMethod j raw size e may h = ap (judge_scanned plain) e ∙ ap (λ r. judge_decoded (is_at plain raw) r size) h
-faulty errors.ShortPayload j raw size e may h = ap (judge_scanned plain) e ∙ ap (λ r. judge_decoded (is_at plain raw) r size) h
-faulty errors.TrailingBytes j raw size e may h = ap (judge_scanned plain) e ∙ ap (λ r. judge_decoded (is_at plain raw) r size) h
-faulty errors.NotUtf8 j raw size e may h = ap (judge_scanned plain) e ∙ ap (λ r. judge_decoded (is_at plain raw) r size) h
-faulty errors.UnknownTag j raw size e may h = ap (judge_scanned plain) e ∙ ap (λ r. judge_decoded (is_at plain raw) r size) h
-faulty errors.TooDeep j raw size e may h = ap (judge_scanned plain) e ∙ ap (λ r. judge_decoded (is_at plain raw) r size) h
 faulty errors.NoMemory j raw size e may h = absurd (may.1 refl)
+faulty error j raw size e may h = ap (judge_scanned plain) e ∙ ap (λ r. judge_decoded (is_at plain raw) r size) h
 
 -- a fault of a payload is that of its frame
 pub payload_fault : (m : ℕ) (left : List ℕ) (layout : FrameLayout) (raw : Raw) (error : ParserError) → IsFound m left layout
@@ -136,19 +103,16 @@ one_more : (m : ℕ) (deep : Bool) (bytes : List ℕ) (at first end size : ℕ) 
     → SayFrames m deep bytes at first heads nodes end → SaysFrame m deep bytes end (first + length nodes) head own size
     → SayFrames m deep bytes at first (heads ++ head ∷ []) (nodes ++ own) (end + size)
 one_more m deep bytes at first end size [] nodes own head h says =
-    let P : ℕ → Type 0 = λ a. SaysFrame m deep bytes a first head own size in
-    let Q : ℕ → Type 0 = λ f. SaysFrame m deep bytes end f head own size in
     let place : first + length nodes ≡ first = omega (arith, ap length h.0) in
     record {
       own = own;
       others = [];
       size = size;
       nodes_are = ap (λ (ns : List Node). ns ++ own) h.0 ∙ sym (append-nil own);
-      says = subst P (sym h.1) (subst Q place says);
+      says = rw (place, ← h.1) at says;
       rest = (refl, ap (λ a. a + size) h.1);
     }
 one_more m deep bytes at first end size (one ∷ heads) nodes own head h says =
-    let Q : ℕ → Type 0 = λ f. SaysFrame m deep bytes end f head own size in
     let place : first + length nodes ≡ first + length h.own + length h.others = omega (arith, ap length h.nodes_are, length-append h.own h.others) in
     record {
       own = h.own;
@@ -156,7 +120,7 @@ one_more m deep bytes at first end size (one ∷ heads) nodes own head h says =
       size = h.size;
       nodes_are = ap (λ (ns : List Node). ns ++ own) h.nodes_are ∙ append_assoc h.own h.others own;
       says = h.says;
-      rest = one_more m deep bytes (at + h.size) (first + length h.own) end size heads h.others own head h.rest (subst Q place says);
+      rest = one_more m deep bytes (at + h.size) (first + length h.own) end size heads h.others own head h.rest (rw place at says);
     }
 
 -- so many heads and nodes in front of their lists say the frames in front
@@ -195,15 +159,13 @@ module _ {m : ℕ} {deep : Bool} {bytes : List ℕ} {heads : List Head} {nodes n
       let says : SaysFrame m deep bytes used (0 + length (take total nodes)) head next.own size =
       subst Q {x = total} {y = 0 + length (take total nodes)} (omega arith) next.says in
       let more = one_more m deep bytes 0 0 used size (take count heads) (take total nodes) next.own head g.frames says in
-      let P : List Head → Type 0 = λ hs. SayFrames m deep bytes 0 0 hs (take total nodes ++ next.own) (used + size) in
-      let R : List Node → Type 0 = λ ns. SayFrames m deep bytes 0 0 (take (count + 1) (set heads count head)) ns (used + size) in
       record {
         heads_fit = omega (arith, length-set heads count head);
         nodes_fit = fits;
         within = next.within;
         few = next_few;
         few_heads = omega arith;
-        frames = subst R own (subst P (sym (take_more_set heads count head room)) more);
+        frames = rw (take_more_set heads count head room, ← own) more;
       }
 
   -- what was put behind the nodes that are given changes none of them

@@ -1,12 +1,6 @@
 -- What fills some bytes has a group of nodes for each thing.
-use Rattle.std.proofs.Common.{◌≡◌, ℕ, zero, suc, ◌+◌, ◌-◌, ◌≤◌, List, [], ◌∷◌, ◌++◌, length, drop, refl, ap, subst, arith}
-use Rattle.std.proofs.lemmas.List.{length-append, length-drop}
-use Rattle.amqp_types.specs.Judging.{Judge, Judged}
-use Rattle.amqp_types.specs.ValueJudging.{filled}
-use Rattle.amqp_fields.specs.declared.node.Node.{Node}
-use Rattle.amqp_fields.specs.Listed.{joined}
-use Rattle.amqp_fields.specs.Meaning.{AreNodes}
-use Rattle.amqp_fields.specs.Spans.{LieIn}
+use Rattle.std.proofs.Common.{length-append, length-drop, ◌≡◌, ℕ, zero, suc, ◌+◌, ◌-◌, ◌≤◌, List, [], ◌∷◌, ◌++◌, length, drop, refl, ap, subst, arith}
+use Rattle.amqp_fields.proofs.Names.{Judge, Judged, filled, Node, joined, AreNodes, LieIn}
 use Rattle.amqp_fields.proofs.Agreeing.{Agree, AgreeAll, agree_next, agree_ok}
 use Rattle.amqp_fields.proofs.Lying.{append_lie, none_lie}
 use Rattle.amqp_fields.proofs.Spans.{IsPart, Stands, itself, part_stands, stands_drop}

@@ -1,4 +1,5 @@
 -- The lemmas of amqp_fields.
+pub mod Names
 pub mod Pushing
 pub mod Strings
 pub mod Stepping
@@ -19,29 +20,3 @@ pub mod SpansLie
 pub mod Filling
 pub mod ContentsFound
 pub mod EqualNodes
-pub mod Bits
-pub mod Combined
-pub mod EachMade
-pub mod ValuesMade
-pub mod FieldsMade
-pub mod FramesMade
-pub mod HeadsInLoops
-pub mod MadeOfParts
-pub mod GivenLengths
-pub mod SignedNumbers
-pub mod PropertiesMade
-pub mod Ends
-pub mod Quick
-pub mod QuickFields
-pub mod QuickFrames
-pub mod ValuesTold
-pub mod FieldsTold
-pub mod FramesTold
-pub mod Ordered
-pub mod MeantValuesMade
-pub mod MeantFieldsMade
-pub mod MeantFramesMade
-pub mod NoProperties
-pub mod Encoding
-pub mod SameNodes
-pub mod HeadsTold

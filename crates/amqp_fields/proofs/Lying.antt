@@ -1,16 +1,14 @@
 -- Nodes that lie between two places, one after another.
-use Rattle.std.proofs.Common.{◌≡◌, ◌⊎◌, inl, inr, ℕ, ◌+◌, ◌≤◌, List, [], ◌∷◌, ◌++◌, arith}
+use Rattle.std.proofs.Common.{length-append, ◌≡◌, ◌⊎◌, inl, inr, ℕ, ◌+◌, ◌≤◌, List, [], ◌∷◌, ◌++◌, arith}
 use Rattle.std.specs.List.{AllByRecursion}
-use Rattle.std.proofs.lemmas.List.{length-append, take-append-le}
-use Rattle.amqp_fields.specs.declared.node.Node.{Node}
-use Rattle.amqp_fields.specs.Meaning.{HasNoKey}
-use Rattle.amqp_fields.specs.Spans.{AreNested, LieIn, LiesIn, SpansLieIn}
+use Rattle.amqp_fields.proofs.Names.{take-append-le, Node, HasNoKey, AreNested, LieIn, LiesIn, SpansLieIn}
 
 -- where there are no nodes, all lie
 pub none_lie : {from to : ℕ} → LieIn from to []
 none_lie = record { spans = tt; nested = tt }
 
-all_append : (P : Node → Type 0) (xs ys : List Node) → AllByRecursion P xs → AllByRecursion P ys → AllByRecursion P (xs ++ ys)
+-- what holds of each of some things and of others holds of all of them
+pub all_append : {A : Type 0} (P : A → Type 0) (xs ys : List A) → AllByRecursion P xs → AllByRecursion P ys → AllByRecursion P (xs ++ ys)
 all_append P [] ys one two = two
 all_append P (x ∷ xs) ys one two = (one.0, all_append P xs ys one.1 two)
 

@@ -1,33 +1,23 @@
 -- What the fields of whole payloads are listed as.
-use Rattle.std.proofs.Common.{Bor, ◌≡◌, ℕ, ◌+◌, ◌-◌, ◌*◌, ◌<◌, ◌≤◌, Bool, List, [], ◌∷◌, length, drop, Option, Some, None, Result, Ok, Err, refl}
-use Rattle.std.proofs.Common.{sym, ap, subst, ◌∙◌, arith, rules}
-use Rattle.std.proofs.lemmas.List.{length-drop}
-use Rattle.std.specs.Prelude.{option_copied, option_map}
-use Rattle.amqp_types.specs.Answers.{RefusesWhole}
-use Rattle.amqp_types.specs.Judging.{Fault, IsBytes, took, past}
+use Rattle.std.proofs.Common.{drop-drop, length-drop, option_copied, option_map, Bor, ◌≡◌, ℕ, ◌+◌, ◌-◌, ◌<◌, ◌≤◌, Bool, List, length, drop, Option, Some, None}
+use Rattle.std.proofs.Common.{Result, Ok, Err, refl, sym, ap, ap₂, subst, ◌∙◌, arith}
+use Rattle.amqp_fields.proofs.Names.{Fault, IsBytes, took, bytes2, judge_number, slots_at, read_map, ParserError, Slot, count_took, value_took, judge_slots}
+use Rattle.amqp_fields.proofs.Names.{AMQPFrameType, Frame, Meth, slots_of, Node, listed_method, listed_slots, Counts}
 use Rattle.amqp_types.specs.Methods.{Method, judge_payload, payload_bytes}
 use Rattle.amqp_types.specs.Tidiness.{is_tidy_payload}
-use Rattle.amqp_types.specs.Numbers.{bytes2, judge_number}
-use Rattle.amqp_types.specs.Rows.{Row, rows_of, slots_at}
-use Rattle.amqp_types.specs.ValueJudging.{inside_error, read_map}
-use Rattle.amqp_types.specs.declared.errors.ParserError.{ParserError}
 use Rattle.amqp_types.specs.declared.errors.ParserError.TheVariants as errors
 use Rattle.amqp_types.specs.Slots as meant
-use Rattle.amqp_canonical.specs.declared.shapes.Slot.{Slot}
 use Rattle.amqp_canonical.specs.declared.slots.Judgement.{Judgement}
-use Rattle.amqp_canonical.specs.SlotJudgements.{JudgesPayload, JudgesSlots}
-use Rattle.amqp_canonical.proofs.MethodWalk.{payload_fails, payload_no_class, payload_no_id, payload_no_method, payload_took, payload_unread}
-use Rattle.amqp_wire.specs.declared.frame_type.AMQPFrameType.{AMQPFrameType}
+use Rattle.amqp_canonical.specs.SlotJudgements.{JudgesSlots}
+use Rattle.amqp_canonical.proofs.MethodWalk.{payload_took}
+use Rattle.amqp_canonical.proofs.ReadParts.{is_read, unread}
+use Rattle.amqp_wire.proofs.Payloads.{filled_took}
+use Rattle.amqp_fields.proofs.PayloadsFound.{MethodParts, method_parts}
 use Rattle.amqp_wire.specs.declared.frame_type.AMQPFrameType.TheVariants as kinds
-use Rattle.amqp_wire.specs.Frames.{Frame, Meth}
-use Rattle.amqp_wire.specs.Judgements.{IsPayloadFault, JudgesAll}
+use Rattle.amqp_wire.specs.Judgements.{JudgesAll}
 use Rattle.amqp_wire.specs.Verdicts.{all_of, decode_payload}
-use Rattle.amqp_wire.proofs.Judged.{method_all, method_refused, method_trailing}
-use Rattle.amqp_canonical.specs.Shapes.{slots_of}
-use Rattle.amqp_fields.specs.declared.node.Node.{Node}
-use Rattle.amqp_fields.specs.Listed.{listed_method, listed_slots}
+use Rattle.amqp_wire.proofs.Judged.{method_all}
 use Rattle.amqp_fields.specs.Decoding.{IsNoMethod}
-use Rattle.amqp_fields.specs.Finding.{Counts}
 
 -- the payload is a method with these fields, whose bytes stand after both ids
 pub record IsMethodAt (payload : List ℕ) (slots : List meant.Slot) (fields : List ℕ) : Type 0 where
@@ -45,6 +35,24 @@ pub method_listed : (deep : Bool) (end count : ℕ) (payload fields : List ℕ) 
 unfolding listed_method
 method_listed deep end count payload fields slots old new total m h = rw (m.class_is, m.id_is, m.at, ← m.fields_are) h
 
+-- the shapes that were found for ids are in the table
+pub method_is : (class id : ℕ) (found : Option (Bor (List Slot))) (shapes : Bor (List Slot))
+    → option_map slots_of (option_copied found) ≡ slots_at class id → found ≡ Some shapes → slots_at class id ≡ Some (slots_of shapes.now)
+method_is class id found shapes at is = sym at ∙ ap (λ o. option_map slots_of (option_copied o)) is
+
+-- a payload that begins with the ids of a method whose shapes were found is that method
+pub method_at : {payload : List ℕ} (class id : ℕ) (found : Option (Bor (List Slot))) (shapes : Bor (List Slot)) → judge_number bytes2 payload ≡ took class 2
+    → judge_number bytes2 (drop 2 payload) ≡ took id 2 → option_map slots_of (option_copied found) ≡ slots_at class id → found ≡ Some shapes
+    → IsMethodAt payload (slots_of shapes.now) (drop 4 payload)
+method_at {payload} class id found shapes one two at is = record {
+  class = class;
+  id = id;
+  class_is = one;
+  id_is = two;
+  at = method_is class id found shapes at is;
+  fields_are = sym (drop-drop 2 2 payload);
+}
+
 -- ---- methods decoded
 
 rest_size : {payload fields : List ℕ} {slots : List meant.Slot} → IsMethodAt payload slots fields → length fields ≡ length payload - 4
@@ -60,68 +68,49 @@ method_read payload fields slots j fits m some all h =
 
 -- ---- faults of methods
 
-refused_none : (error : ParserError) (read : Result Method Fault) (m : Method) → IsPayloadFault error → RefusesWhole error read → read ≡ Ok m → ⊥
-refused_none errors.Incomplete read m h refuses is = absurd refuses
-refused_none errors.UnknownFrameType read m h refuses is = absurd cc
-refused_none errors.BadProtocolHeader read m h refuses is = absurd cc
-refused_none errors.BadFrameEnd read m h refuses is = absurd cc
-refused_none errors.UnknownClass read m h refuses is = absurd cc
-refused_none errors.UnknownMethod read m h refuses is = absurd cc
-refused_none errors.ShortPayload read m h refuses is = absurd cc
-refused_none errors.TrailingBytes read m h refuses is = absurd cc
-refused_none errors.NotUtf8 read m h refuses is = absurd cc
-refused_none errors.UnknownTag read m h refuses is = absurd cc
-refused_none errors.TooDeep read m h refuses is = absurd cc
-refused_none errors.NoMemory read m h refuses is = absurd (h.1 refl)
-
-fails_none : (payload : List ℕ) (error : ParserError) → JudgesPayload payload (Err error) → IsNoMethod payload
-fails_none payload error h m is =
-    let all = method_refused payload error h in
-    refused_none (inside_error error) (all_of judge_payload payload) m all.0 all.1 is
-
-unclassed : (payload : List ℕ) (class : ℕ) → judge_number bytes2 payload ≡ took class 2 → rows_of class ≡ None → IsNoMethod payload
-unclassed payload class one none = fails_none payload errors.UnknownClass (λ e. cc, payload_no_class payload class 2 one none)
-
-class_alone : (payload : List ℕ) (class : ℕ) (rows : Option (List Row)) → judge_number bytes2 payload ≡ took class 2
-    → judge_number bytes2 (drop 2 payload) ≡ past → rows_of class ≡ rows → IsNoMethod payload
-class_alone payload class None one short at = unclassed payload class one at
-class_alone payload class (Some rows) one short at =
-    fails_none payload errors.Incomplete (payload_no_id {A = ℕ} payload class 2 rows (λ n. n) errors.Incomplete one at short)
+none_of : (payload : List ℕ) → ((m : Method) → MethodParts payload m (length payload) → ⊥) → IsNoMethod payload
+none_of payload none m h = none m (method_parts payload m (length payload) (filled_took (length payload) (judge_payload payload) m h))
 
 -- a payload without both ids is no method
 pub no_ids : (payload : List ℕ) → length payload < 4 → IsNoMethod payload
-no_ids [] h = fails_none [] errors.Incomplete (payload_unread {A = ℕ} [] (λ n. n) errors.Incomplete refl)
-no_ids (a ∷ []) h = fails_none (a ∷ []) errors.Incomplete (payload_unread {A = ℕ} (a ∷ []) (λ n. n) errors.Incomplete refl)
-no_ids (a ∷ b ∷ []) h = class_alone (a ∷ b ∷ []) (256 * a + b) (rows_of (256 * a + b)) (search rules) refl refl
-no_ids (a ∷ b ∷ c ∷ []) h = class_alone (a ∷ b ∷ c ∷ []) (256 * a + b) (rows_of (256 * a + b)) (search rules) refl refl
-no_ids (a ∷ b ∷ c ∷ d ∷ rest) h = absurd (omega arith)
-
-unknown_by : (payload : List ℕ) (class id : ℕ) (rows : Option (List Row)) → judge_number bytes2 payload ≡ took class 2
-    → judge_number bytes2 (drop 2 payload) ≡ took id 2 → slots_at class id ≡ None → rows_of class ≡ rows → IsNoMethod payload
-unknown_by payload class id None one two none at = unclassed payload class one at
-unknown_by payload class id (Some rows) one two none at =
-    fails_none payload errors.UnknownMethod (λ e. cc, payload_no_method payload class 2 id 2 rows one at two none)
+no_ids payload few = none_of payload (λ m p. omega (arith, few, p.some))
 
 -- a payload whose ids are not in the table is none
 pub no_method : (payload : List ℕ) (class id : ℕ) (shapes : Option (Bor (List Slot))) → judge_number bytes2 payload ≡ took class 2
     → judge_number bytes2 (drop 2 payload) ≡ took id 2 → option_map slots_of (option_copied shapes) ≡ slots_at class id → shapes ≡ None → IsNoMethod payload
 no_method payload class id shapes one two at is =
-    unknown_by payload class id (rows_of class) one two (sym at ∙ ap (λ o. option_map slots_of (option_copied o)) is) refl
+    none_of payload (λ m p.
+    let a : p.class ≡ class = value_took p.class class 2 2 (sym p.class_is ∙ one) in
+    let b : p.id ≡ id = value_took p.id id 2 2 (sym p.id_is ∙ two) in
+    let none : option_map slots_of (option_copied shapes) ≡ None = ap (λ o. option_map slots_of (option_copied o)) is in
+    let there : None ≡ Some p.slots = sym none ∙ at ∙ ap₂ slots_at (sym a) (sym b) ∙ p.at in
+    absurd cc)
+
+same_fields : {payload fields : List ℕ} {slots : List meant.Slot} {m : Method} {n : ℕ} → IsMethodAt payload slots fields
+    → (p : MethodParts payload m n) → judge_slots slots fields ≡ took p.items p.used
+same_fields at p =
+    let a : at.class ≡ p.class = value_took at.class p.class 2 2 (sym at.class_is ∙ p.class_is) in
+    let b : at.id ≡ p.id = value_took at.id p.id 2 2 (sym at.id_is ∙ p.id_is) in
+    let same : Some _ ≡ Some p.slots = sym at.at ∙ ap₂ slots_at a b ∙ p.at in
+    ap₂ judge_slots (cc (same)) at.fields_are ∙ p.fields
 
 -- nor one whose fields have a fault
 pub no_fields : (payload fields : List ℕ) (slots : List meant.Slot) (error : ParserError) → IsMethodAt payload slots fields
     → JudgesSlots slots fields (Err error) → IsNoMethod payload
-no_fields payload fields slots error m h =
-    fails_none payload error (payload_fails payload m.class 2 m.id 2 slots error m.class_is m.id_is m.at (rw m.fields_are at h))
+no_fields payload fields slots error at h =
+    none_of payload (λ m p. unread error (judge_slots slots fields) h (is_read (judge_slots slots fields) p.items p.used (same_fields at p)))
 
 -- nor one in which bytes are left after the fields
-pub more_fields : (payload fields : List ℕ) (slots : List meant.Slot) (j : Judgement) → IsBytes payload → IsMethodAt payload slots fields
-    → 4 ≤ length payload → j.used < length fields → JudgesSlots slots fields (Ok j) → IsNoMethod payload
-more_fields payload fields slots j fits m some less h x is_method =
-    let all =
-    method_trailing payload (record { used = 2 + (2 + j.used); canonical = j.canonical; tidy = j.tidy }) (omega (arith, rest_size m))
-    (payload_took payload m.class 2 m.id 2 slots j fits m.class_is m.id_is m.at (rw m.fields_are at h)) in
-    refused_none errors.TrailingBytes (all_of judge_payload payload) x all.0 all.1 is_method
+pub more_fields : (payload fields : List ℕ) (slots : List meant.Slot) (j : Judgement) → IsMethodAt payload slots fields
+    → j.used < length fields → JudgesSlots slots fields (Ok j) → IsNoMethod payload
+more_fields payload fields slots j at less h =
+    none_of payload (λ m p. omega (
+      arith,
+      less,
+      count_took h.thing p.items j.used p.used (sym h.is ∙ same_fields at p),
+      p.size,
+      rest_size at,
+    ))
 
 read_none : (channel : ℕ) (read : Result Method Fault) → ((m : Method) → read ≡ Ok m → ⊥) → (frame : Frame)
     → read_map (λ m. Meth channel m) read ≡ Ok frame → ⊥

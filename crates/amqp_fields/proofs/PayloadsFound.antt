@@ -1,41 +1,28 @@
 -- The nodes of a whole payload mean the fields of its frame.
-use Rattle.std.proofs.Common.{◌≡◌, ℕ, ◌+◌, ◌<◌, ◌≤◌, ◌==◌, ◌&&◌, nat_le, Bool, true, false, cond, List, [], ◌∷◌, ◌++◌, length, drop, Option, Some, None}
-use Rattle.std.proofs.Common.{refl, sym, ap, subst, ◌∙◌, arith}
-use Rattle.std.specs.Option.{option_and_then, unwrap_or}
+use Rattle.std.proofs.Common.{option_and_then, unwrap_or, length-append, length-drop, ◌≡◌, ℕ, ◌+◌, ◌<◌, ◌≤◌, ◌==◌, ◌&&◌, nat_le, Bool, true, false, List, []}
+use Rattle.std.proofs.Common.{◌∷◌, ◌++◌, length, drop, Option, Some, None, refl, sym, ap, ap₂, subst, ◌∙◌, arith}
 use Rattle.std.specs.Map.{lookup}
 use Rattle.std.specs.List.{list_all}
-use Rattle.std.proofs.lemmas.Bool.Decides.{nat_tests}
-use Rattle.std.proofs.lemmas.List.{length-append, length-drop}
-use Rattle.amqp_types.proofs.Took.{bind_took, value_took, count_took}
-use Rattle.amqp_types.specs.Judging.{Fault, took, unknown_class, unknown_method, ◌>>=◌}
-use Rattle.amqp_types.specs.Numbers.{bytes2, bytes8, judge_number}
-use Rattle.amqp_types.specs.Flags.{bit_of, flag_at}
-use Rattle.amqp_types.specs.Slots.{Item, number_item, Form, number_form, flags_form, short_string_form, long_string_form, table_form}
-use Rattle.amqp_types.specs.Slots.{Slot, kept_slot, reserved_slot}
-use Rattle.amqp_types.specs.SlotJudging.{judge_dropped, judge_form, judge_slots}
-use Rattle.amqp_types.specs.Properties.{Property, later_properties, properties}
+use Rattle.amqp_fields.proofs.Names.{nat_tests, bind_took, value_took, count_took, Fault, Judged, took, unknown_class, unknown_method, ◌>>=◌, NumberWidth}
+use Rattle.amqp_fields.proofs.Names.{bytes2, bytes8, byte_count, judge_number, bit_of, flag_at, judge_dropped, judge_form, judge_slots, Property}
+use Rattle.amqp_fields.proofs.Names.{later_properties, properties, Row, classes, rows_of, slots_at, Node, method_count, set_at, set_count, total, kind_of}
+use Rattle.amqp_fields.proofs.Names.{field_count, listed_header, listed_known, listed_method, listed_option, listed_properties, listed_set, next_place, Field}
+use Rattle.amqp_fields.proofs.Names.{fields_from, kinds_in, kinds_of, set_field, set_fields, LieIn}
+use Rattle.amqp_types.specs.Slots.{Item, number_item, Form, number_form, flags_form, Slot, kept_slot, reserved_slot}
 use Rattle.amqp_types.specs.PropertyJudging.{first_item, judge_optional, judge_properties, judge_set}
-use Rattle.amqp_types.specs.Rows.{Row, classes, rows_of, slots_at}
+use Rattle.amqp_types.specs.PropertyLaws.{give_one, gives_one}
+use Rattle.std.proofs.lemmas.List.Sums.{AllPass-from_list_all}
+use Rattle.std.proofs.lemmas.Map.Entries.{All-lookup}
 use Rattle.amqp_types.specs.Methods.{Method, method, known, judge_in_class, judge_method, judge_payload}
 use Rattle.amqp_types.specs.ContentHeaders.{ContentHeader, header_of_parts, header_slots, judge_content_header}
 use Rattle.amqp_laws.proofs.SlotLaws.{both_true}
-use Rattle.amqp_fields.specs.declared.node.Node.{Node}
-use Rattle.amqp_fields.specs.Counting.{method_count, set_at, set_count, total}
-use Rattle.amqp_fields.specs.Kinds.{kind_of}
-use Rattle.amqp_fields.specs.Listed.{field_count, listed_header, listed_known, listed_method, listed_option, listed_properties, listed_set, next_place}
-use Rattle.amqp_fields.specs.Meaning.{AreNodes, Field, MeansField, fields_from, kinds_in, kinds_of, set_field, set_fields}
-use Rattle.amqp_fields.specs.Spans.{LieIn}
 use Rattle.amqp_fields.proofs.Spans.{byte_below, number_took}
 use Rattle.amqp_fields.proofs.Groups.{IsAt, at_drop}
-use Rattle.amqp_fields.proofs.FieldsFound.{AreFields, Found, excess, fields_then, form_found, found_both, found_make, found_none, from_count}
-use Rattle.amqp_fields.proofs.FieldsFound.{kinds_total, slots_found, spare}
+use Rattle.amqp_fields.proofs.FieldsFound.{AreFields, Found, excess, fields_then, form_found, found_both, found_make, found_none, from_count, kinds_total}
+use Rattle.amqp_fields.proofs.FieldsFound.{slots_found, spare}
+use Rattle.amqp_fields.proofs.ValuesFound.{both_took, map_took}
 
 -- ---- properties
-
--- it gives one item
-abbrev pub gives_one : Form → Bool
-gives_one (flags_form count) = false
-gives_one form = true
 
 pub record IsSingle (form : Form) : Type 0 where
   pub count : field_count form ≡ 1
@@ -44,16 +31,18 @@ pub record IsSingle (form : Form) : Type 0 where
 
 -- what is no flags gives one item of its kind
 pub single_form : (form : Form) → gives_one form ≡ true → IsSingle form
-single_form (number_form width) h = record { count = refl; kinds = refl; no_excess = refl }
 single_form (flags_form count) h = absurd cc
-single_form short_string_form h = record { count = refl; kinds = refl; no_excess = refl }
-single_form long_string_form h = record { count = refl; kinds = refl; no_excess = refl }
-single_form table_form h = record { count = refl; kinds = refl; no_excess = refl }
+single_form form h = record { count = refl; kinds = refl; no_excess = refl }
 
 -- properties that are set, by a mask, and their nodes
 pub record AreSet (deep : Bool) (payload : List ℕ) (fields : List Field) (count : ℕ) (nodes : List Node) (n : ℕ) : Type 0 where
   pub number : length fields ≡ count
   pub nodes_are : AreFields deep payload fields n nodes
+
+-- what is listed of a whole payload are the nodes of so many fields
+abbrev pub IsListed : Bool → List ℕ → List ℕ → Judged (List Node) → List Field → ℕ → Type 0
+IsListed deep bytes payload judged fields count =
+    (nodes : List Node) × (used : ℕ) × (judged ≡ took nodes used) × AreSet deep bytes fields count nodes (length payload)
 
 -- a list of length 1 is one item
 pub one_item : (items : List Item) → length items ≡ 1 → (item : Item) × (items ≡ item ∷ [])
@@ -81,13 +70,13 @@ module _ (deep : Bool) (payload : List ℕ) (from to : ℕ) where
             record { means = rw same at are.fields.means; few = omega arith };
       })
 
-  set_found : (mask : ℕ) (ps : List Property) (bytes : List ℕ) (place : ℕ) → place + length ps < 256 → list_all (λ p. gives_one p.form) ps ≡ true
+  set_found : (mask : ℕ) (ps : List Property) (bytes : List ℕ) (place : ℕ) → place + length ps < 256 → give_one ps ≡ true
       → IsAt payload from to bytes → Found (λ options. AreSet deep payload (set_fields place ps options) (set_count mask ps)) from to (length bytes)
       (judge_set mask ps bytes) (listed_set mask deep to place ps bytes)
   unfolding judge_set listed_set
   set_found mask [] bytes place room single at = found_none [] (record { number = refl; nodes_are = record { means = refl; few = omega arith } })
   set_found mask (p ∷ ps) bytes place room single at =
-      let all = both_true (gives_one p.form) (list_all (λ q. gives_one q.form) ps) single in
+      let all = both_true (gives_one p.form) (give_one ps) single in
       let next : next_place place 1 ≡ place + 1 = byte_below (place + 1) (omega arith) in
       let set = flag_at mask p.bit in
       found_both {S = λ options. AreSet deep payload (set_fields (place + 1) ps options) (set_count mask ps)} bytes
@@ -100,7 +89,7 @@ module _ (deep : Bool) (payload : List ℕ) (from to : ℕ) where
       })
 
 -- no property is flags
-pub all_single : list_all (λ p. gives_one p.form) properties ≡ true
+pub all_single : give_one properties ≡ true
 unfolding properties later_properties
 all_single = refl
 
@@ -150,55 +139,49 @@ properties_found deep payload from to bytes at = record {
 
 -- ---- content headers
 
+-- a number gives one item
+number_form_took : (width : NumberWidth) (bytes : List ℕ) (items : List Item) (n : ℕ) → judge_form (number_form width) bytes ≡ took items n
+    → (x : ℕ) × (items ≡ number_item x ∷ []) × (n ≡ byte_count width) × (n ≤ length bytes)
+unfolding judge_form
+number_form_took width bytes items n h =
+    let one = map_took (judge_number width) (λ x. number_item x ∷ []) bytes items n h in
+    let size = number_took width bytes one.0 n one.1 in
+    (one.0, sym one.2, size.0, size.1)
+
+two_items : (a c : ℕ) {x y none z last empty items : List Item} → x ++ y ≡ items → x ≡ number_item a ∷ [] → none ++ z ≡ y → [] ≡ none
+    → last ++ empty ≡ z → last ≡ number_item c ∷ [] → [] ≡ empty → (set : List (Option Item)) → (header_of_parts items set).options ≡ set
+two_items a c all first behind dropped left second nothing set = rw (← all, first, ← behind, ← dropped, ← left, second, ← nothing)
+
 -- what stands in front of the properties of a content header has 12 bytes
 pub front_used : (bytes : List ℕ) (items : List Item) (n : ℕ) → judge_slots header_slots bytes ≡ took items n
     → (n ≡ 12) × (n ≤ length bytes) × ((set : List (Option Item)) → (header_of_parts items set).options ≡ set)
-unfolding header_slots judge_slots judge_dropped judge_form
+unfolding header_slots judge_slots judge_dropped
 front_used bytes items n h =
-    let class = bind_took (judge_form (number_form bytes2) bytes) _ items n h in
-    let class_is = bind_took (judge_number bytes2 bytes) _ class.0 class.1 class.2 in
-    let class_used = count_took (number_item class_is.0 ∷ []) class.0 class_is.1 class.1 class_is.3 in
-    let class_item = value_took (number_item class_is.0 ∷ []) class.0 class_is.1 class.1 class_is.3 in
-    let class_size = number_took bytes2 bytes class_is.0 class_is.1 class_is.2 in
-    let behind = drop class.1 bytes in
-    let others =
-    bind_took (judge_slots (reserved_slot (number_form bytes2) (number_item 0 ∷ []) ∷ kept_slot (number_form bytes8) ∷ []) behind) _ items n class.3 in
-    let weight = bind_took (judge_dropped (number_form bytes2) behind) _ others.0 others.1 others.2 in
-    let weight_form = bind_took (judge_form (number_form bytes2) behind) _ weight.0 weight.1 weight.2 in
-    let weight_used = count_took [] weight.0 weight_form.1 weight.1 weight_form.3 in
-    let weight_none : [] ≡ weight.0 = value_took [] weight.0 weight_form.1 weight.1 weight_form.3 in
-    let weight_is = bind_took (judge_number bytes2 behind) _ weight_form.0 weight_form.1 weight_form.2 in
-    let weight_count = count_took (number_item weight_is.0 ∷ []) weight_form.0 weight_is.1 weight_form.1 weight_is.3 in
-    let weight_size = number_took bytes2 behind weight_is.0 weight_is.1 weight_is.2 in
-    let last = drop weight.1 behind in
-    let end = bind_took (judge_slots (kept_slot (number_form bytes8) ∷ []) last) _ others.0 others.1 weight.3 in
-    let size = bind_took (judge_form (number_form bytes8) last) _ end.0 end.1 end.2 in
-    let size_is = bind_took (judge_number bytes8 last) _ size.0 size.1 size.2 in
-    let size_used = count_took (number_item size_is.0 ∷ []) size.0 size_is.1 size.1 size_is.3 in
-    let size_item = value_took (number_item size_is.0 ∷ []) size.0 size_is.1 size.1 size_is.3 in
-    let size_size = number_took bytes8 last size_is.0 size_is.1 size_is.2 in
-    let end_used = count_took (size.0 ++ []) end.0 (size.1 + 0) end.1 size.3 in
-    let end_item = value_took (size.0 ++ []) end.0 (size.1 + 0) end.1 size.3 in
-    let others_used = count_took (weight.0 ++ end.0) others.0 (weight.1 + end.1) others.1 end.3 in
-    let others_item = value_took (weight.0 ++ end.0) others.0 (weight.1 + end.1) others.1 end.3 in
-    let used = count_took (class.0 ++ others.0) items (class.1 + others.1) n others.3 in
-    let item = value_took (class.0 ++ others.0) items (class.1 + others.1) n others.3 in
-    let two : number_item class_is.0 ∷ number_item size_is.0 ∷ [] ≡ items =
-    ap (λ (xs : List Item). number_item class_is.0 ∷ xs)
-    (ap (λ (xs : List Item). xs ++ []) size_item ∙ end_item ∙ ap (λ (xs : List Item). xs ++ end.0) weight_none ∙ others_item)
-    ∙ ap (λ (xs : List Item). xs ++ others.0) class_item ∙ item in
-    let a = length-drop class.1 bytes in
-    let b = length-drop weight.1 behind in (
-      omega arith,
-      omega arith,
-      λ set. rw (← two),
+    let join : List Item → List Item → List Item = λ xs ys. xs ++ ys in
+    let size : List Slot = kept_slot (number_form bytes8) ∷ [] in
+    let weight : List Slot = reserved_slot (number_form bytes2) (number_item 0 ∷ []) ∷ size in
+    let one = both_took (judge_form (number_form bytes2)) (judge_slots weight) join bytes items n h in
+    let a = number_form_took bytes2 bytes one.0 one.1 one.4 in
+    let behind = drop one.1 bytes in
+    let two = both_took (judge_dropped (number_form bytes2)) (judge_slots size) join behind one.2 one.3 one.5 in
+    let dropped = map_took (judge_form (number_form bytes2)) (λ xs. []) behind two.0 two.1 two.4 in
+    let b = number_form_took bytes2 behind dropped.0 two.1 dropped.1 in
+    let last = drop two.1 behind in
+    let three = both_took (judge_form (number_form bytes8)) (judge_slots []) join last two.2 two.3 two.5 in
+    let c = number_form_took bytes8 last three.0 three.1 three.4 in
+    let zero : 0 ≡ three.3 = count_took [] three.2 0 three.3 three.5 in
+    let front = length-drop one.1 bytes in
+    let left = length-drop two.1 behind in (
+      omega (arith, one.7, two.7, three.7, a.2, b.2, c.2),
+      omega (arith, one.7, two.7, three.7, a.2, b.2, c.2, a.3, b.3, c.3),
+      two_items a.0 c.0 one.6 a.1 two.6 dropped.2 three.6 c.1 (value_took [] three.2 0 three.3 three.5),
     )
 
 -- the nodes that are listed of a content header are those of its properties that are set
 pub header_found : (deep : Bool) (bytes : List ℕ) (from to : ℕ) (payload : List ℕ) (n : ℕ) (header : ContentHeader)
     → IsAt bytes from to payload → judge_content_header payload ≡ took header n
-    → (nodes : List Node) × (k : ℕ) × (listed_header deep to payload ≡ took nodes k)
-    × AreSet deep bytes (set_fields 0 properties header.options) (set_at (judge_number bytes2 (drop 12 payload))) nodes (length payload)
+    → IsListed deep bytes payload (listed_header deep to payload)
+    (set_fields 0 properties header.options) (set_at (judge_number bytes2 (drop 12 payload)))
 unfolding judge_content_header listed_header
 header_found deep bytes from to payload n header at h =
     let front = bind_took (judge_slots header_slots payload) _ header n h in
@@ -206,18 +189,16 @@ header_found deep bytes from to payload n header at h =
     let set = bind_took (judge_properties (drop front.1 payload)) _ header n front.3 in
     let is : header_of_parts front.0 set.0 ≡ header = value_took (header_of_parts front.0 set.0) header (front.1 + set.1) n set.3 in
     let found = (properties_found deep bytes from to (drop front.1 payload) (at_drop payload front.1 at parts.1)).there set.0 set.1 set.2 in
-    let options : set.0 ≡ header.options = sym (parts.2 set.0) ∙ ap (λ (x : ContentHeader). x.options) is in (
+    let options : header.options ≡ set.0 = ap (λ (x : ContentHeader). x.options) (sym is) ∙ parts.2 set.0 in
+    let P : List (Option Item) → Type 0 =
+    λ os. AreSet deep bytes (set_fields 0 properties os) (set_at (judge_number bytes2 (drop 12 payload))) found.0 (length payload) in (
       found.0,
       set.1,
       ap (λ k. listed_properties deep to (drop k payload)) (sym parts.0) ∙ found.1,
-      record {
-        number =
-            ap (λ os. length (set_fields 0 properties os)) (sym options) ∙ found.3.number ∙ ap (λ k. set_at (judge_number bytes2 (drop k payload))) parts.0;
-        nodes_are = record {
-          means = subst (λ os. AreNodes (MeansField deep bytes) (set_fields 0 properties os) found.0) options found.3.nodes_are.means;
-          few = omega (arith, length-drop front.1 payload);
-        };
-      },
+      subst P (sym options) (record {
+        number = found.3.number ∙ ap (λ k. set_at (judge_number bytes2 (drop k payload))) parts.0;
+        nodes_are = record { means = found.3.nodes_are.means; few = omega (arith, length-drop front.1 payload) };
+      }),
     )
 
 -- ---- methods
@@ -235,15 +216,8 @@ table_small = refl
 -- what holds of each thing in a table holds of what is looked up
 looked_up : {X : Type 0} (test : X → Bool) (id : ℕ) (table : List (ℕ × X)) (found : X)
     → list_all (λ row. test row.1) table ≡ true → lookup (λ key. id == key) table ≡ Some found → test found ≡ true
-looked_up test id [] found all h = absurd cc
-looked_up {X = X} test id (row ∷ rows) found all h =
-    let each = both_true (test row.1) (list_all (λ r. test r.1) rows) all in
-    by_key (id == row.0) each.0 (looked_up test id rows found each.1) h
-  where
-    by_key : (here : Bool) → test row.1 ≡ true → (lookup (λ key. id == key) rows ≡ Some found → test found ≡ true)
-        → cond here (Some row.1) (lookup (λ key. id == key) rows) ≡ Some found → test found ≡ true
-    by_key true one more h = let is : row.1 ≡ found = cc in rw is at one
-    by_key false one more h = more h
+looked_up test id table found all h =
+    rw h at (All-lookup (λ x. test x ≡ true) (λ key. id == key) table (AllPass-from_list_all (λ row. test row.1) table all))
 
 small_method : (rows : Option (List Row)) (id : ℕ) (slots : List Slot) → ((some : List Row) → rows ≡ Some some → are_small some ≡ true)
     → option_and_then (λ rs. lookup (λ k. id == k) rs) rows ≡ Some slots → is_small slots ≡ true
@@ -274,47 +248,83 @@ few_fields class id slots h = (small_is slots (slots_small class id slots h)).0
 pub few_spare : (class id : ℕ) (slots : List Slot) → slots_at class id ≡ Some slots → spare slots ≤ 4
 few_spare class id slots h = (small_is slots (slots_small class id slots h)).1
 
--- the nodes that are listed of a method are those of its fields
-pub method_found : (deep : Bool) (bytes : List ℕ) (from to : ℕ) (payload : List ℕ) (n : ℕ) (m : Method)
-    → IsAt bytes from to payload → judge_payload payload ≡ took m n
-    → (nodes : List Node) × (k : ℕ) × (listed_method deep to payload ≡ took nodes k)
-    × AreSet deep bytes (fields_from 0 (kinds_in (unwrap_or (slots_at m.class m.id) [])) m.items) (method_count m.class m.id) nodes (length payload)
-unfolding judge_payload judge_in_class judge_method listed_method
-method_found deep bytes from to payload n m all h =
+-- what a method is made of that was read: both ids, and its fields
+pub record MethodParts (payload : List ℕ) (m : Method) (n : ℕ) : Type 0 where
+  pub class : ℕ
+  pub id : ℕ
+  pub slots : List Slot
+  pub items : List Item
+  pub used : ℕ
+  pub class_is : judge_number bytes2 payload ≡ took class 2
+  pub id_is : judge_number bytes2 (drop 2 payload) ≡ took id 2
+  pub at : slots_at class id ≡ Some slots
+  pub fields : judge_slots slots (drop 2 (drop 2 payload)) ≡ took items used
+  pub is : m ≡ method class id items
+  pub size : n ≡ 4 + used
+  pub some : 4 ≤ length payload
+
+-- a method that was read has its parts
+pub method_parts : (payload : List ℕ) (m : Method) (n : ℕ) → judge_payload payload ≡ took m n → MethodParts payload m n
+unfolding judge_payload judge_in_class judge_method
+method_parts payload m n h =
     let class = bind_took (judge_number bytes2 payload) _ m n h in
     let behind = drop class.1 payload in
     let inner = bind_took (judge_in_class class.0 behind) _ m n class.3 in
     let rows = bind_took (known unknown_class (rows_of class.0)) _ inner.0 inner.1 inner.2 in
     let id = bind_took (judge_number bytes2 behind) _ inner.0 inner.1 rows.3 in
-    let fields = drop id.1 behind in
-    let of_class = bind_took (judge_method class.0 id.0 fields) _ inner.0 inner.1 id.3 in
+    let of_class = bind_took (judge_method class.0 id.0 (drop id.1 behind)) _ inner.0 inner.1 id.3 in
     let slots = bind_took (known unknown_method (slots_at class.0 id.0)) _ of_class.0 of_class.1 of_class.2 in
-    let items = bind_took (judge_slots slots.0 fields) _ of_class.0 of_class.1 slots.3 in
-    let at = (known_took unknown_method (slots_at class.0 id.0) slots.0 slots.1 slots.2).0 in
-    let small = small_is slots.0 (slots_small class.0 id.0 slots.0 at) in
-    let class_size = number_took bytes2 payload class.0 class.1 class.2 in
-    let id_size = number_took bytes2 behind id.0 id.1 id.2 in
-    let found =
-    (slots_found deep bytes from to slots.0 fields 0 (omega arith) (at_drop behind id.1 (at_drop payload class.1 all class_size.1) id_size.1)).there
-    items.0 items.1 items.2 in
-    let is : method class.0 id.0 items.0 ≡ m =
-    value_took (method class.0 id.0 items.0) of_class.0 items.1 of_class.1 items.3
-    ∙ value_took of_class.0 inner.0 (id.1 + of_class.1) inner.1 of_class.3 ∙ value_took inner.0 m (class.1 + inner.1) n inner.3 in (
+    let items = bind_took (judge_slots slots.0 (drop id.1 behind)) _ of_class.0 of_class.1 slots.3 in
+    let one = number_took bytes2 payload class.0 class.1 class.2 in
+    let two = number_took bytes2 behind id.0 id.1 id.2 in
+    record {
+      class = class.0;
+      id = id.0;
+      slots = slots.0;
+      items = items.0;
+      used = items.1;
+      class_is = class.2 ∙ ap (took class.0) one.0;
+      id_is = ap (λ k. judge_number bytes2 (drop k payload)) (sym one.0) ∙ id.2 ∙ ap (took id.0) two.0;
+      at = (known_took unknown_method (slots_at class.0 id.0) slots.0 slots.1 slots.2).0;
+      fields = ap₂ (λ a b. judge_slots slots.0 (drop b (drop a payload))) (sym one.0) (sym two.0) ∙ items.2;
+      is = sym (value_took _ of_class.0 items.1 of_class.1 items.3 ∙ value_took of_class.0 inner.0 (id.1 + of_class.1) inner.1 of_class.3
+          ∙ value_took inner.0 m (class.1 + inner.1) n inner.3);
+      size = omega (
+        arith,
+        count_took _ of_class.0 items.1 of_class.1 items.3,
+        count_took of_class.0 inner.0 (id.1 + of_class.1) inner.1 of_class.3,
+        count_took inner.0 m (class.1 + inner.1) n inner.3,
+        one.0,
+        two.0,
+      );
+      some = omega (arith, one, two, length-drop class.1 payload);
+    }
+
+of_method : {deep : Bool} {bytes : List ℕ} {class id most : ℕ} {slots : List Slot} {items : List Item} {nodes : List Node} (m : Method)
+    → m ≡ method class id items → slots_at class id ≡ Some slots → AreSet deep bytes (fields_from 0 (kinds_in slots) items) (total slots) nodes most
+    → AreSet deep bytes (fields_from 0 (kinds_in (unwrap_or (slots_at m.class m.id) [])) m.items) (method_count m.class m.id) nodes most
+of_method m is at h = rw (is, at) h
+
+-- the nodes that are listed of a method are those of its fields
+pub method_found : (deep : Bool) (bytes : List ℕ) (from to : ℕ) (payload : List ℕ) (n : ℕ) (m : Method)
+    → IsAt bytes from to payload → judge_payload payload ≡ took m n
+    → IsListed deep bytes payload (listed_method deep to payload)
+    (fields_from 0 (kinds_in (unwrap_or (slots_at m.class m.id) [])) m.items) (method_count m.class m.id)
+unfolding listed_method
+method_found deep bytes from to payload n m all h =
+    let p = method_parts payload m n h in
+    let small = small_is p.slots (slots_small p.class p.id p.slots p.at) in
+    let left = length-drop 2 payload in
+    let size = length-drop 2 (drop 2 payload) in
+    let at = at_drop (drop 2 payload) 2 (at_drop payload 2 all (omega (arith, p.some))) (omega (arith, p.some)) in
+    let found = (slots_found deep bytes from to p.slots (drop 2 (drop 2 payload)) 0 (omega (arith, small)) at).there p.items p.used p.fields in (
       found.0,
-      items.1,
-      ap (λ j. j >>= λ c. judge_number bytes2 (drop c.1 payload) >>= λ i. listed_known deep to (slots_at c.0 i.0) (drop i.1 (drop c.1 payload))) class.2
-          ∙ ap (λ j. j >>= λ i. listed_known deep to (slots_at class.0 i.0) (drop i.1 behind)) id.2 ∙ ap (λ o. listed_known deep to o fields) at ∙ found.1,
-      subst
-          (λ (x : Method).
-          AreSet deep bytes (fields_from 0 (kinds_in (unwrap_or (slots_at x.class x.id) [])) x.items) (method_count x.class x.id) found.0 (length payload))
-          is
-          (subst (λ o. AreSet deep bytes (fields_from 0 (kinds_in (unwrap_or o [])) items.0) (total (unwrap_or o [])) found.0 (length payload))
-          (sym at) (record {
-            number = from_count 0 (kinds_in slots.0) items.0 (kinds_total slots.0 ∙ sym found.3.number) ∙ kinds_total slots.0;
-            nodes_are = record {
-              means = found.3.fields.means;
-              few =
-                  omega (arith, length-drop class.1 payload, length-drop id.1 behind);
-            };
-          })),
+      p.used,
+      ap (λ j. j >>= λ c. judge_number bytes2 (drop c.1 payload) >>= λ i. listed_known deep to (slots_at c.0 i.0) (drop i.1 (drop c.1 payload))) p.class_is
+          ∙ ap (λ j. j >>= λ i. listed_known deep to (slots_at p.class i.0) (drop i.1 (drop 2 payload))) p.id_is
+          ∙ ap (λ o. listed_known deep to o (drop 2 (drop 2 payload))) p.at ∙ found.1,
+      of_method m p.is p.at (record {
+        number = from_count 0 (kinds_in p.slots) p.items (kinds_total p.slots ∙ sym found.3.number) ∙ kinds_total p.slots;
+        nodes_are = record { means = found.3.fields.means; few = omega (arith, found.3.fields.few, small, p.some) };
+      }),
     )

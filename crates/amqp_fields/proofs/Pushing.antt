@@ -1,22 +1,13 @@
 -- Nodes that are put one after another.
-use Rattle.std.proofs.Common.{◌≡◌, ℕ, zero, suc, ◌+◌, ◌-◌, ◌<◌, ◌≤◌, List, [], ◌∷◌, ◌++◌, length, get_or, set, refl, sym, ap, ◌∙◌, arith}
-use Rattle.std.proofs.lemmas.List.{get_or-set_other, length-append, set_comm}
-use Rattle.amqp_fields.specs.declared.node.Node.{Node}
-use Rattle.amqp_fields.specs.Nodes.{blank, held}
-use Rattle.amqp_fields.specs.Listing.{Listing, listing, pushed, pushed_all, Grows}
-use Rattle.amqp_fields.specs.Listed.{holding, joined}
+use Rattle.std.proofs.Common.{get_or-set_other, length-append, ◌≡◌, ℕ, zero, suc, ◌+◌, ◌-◌, ◌<◌, ◌≤◌, List, [], ◌∷◌, ◌++◌, length, get_or, set, set-set, refl}
+use Rattle.std.proofs.Common.{sym, ap, ◌∙◌, arith}
+use Rattle.amqp_fields.proofs.Names.{set_comm, Node, blank, held, Listing, listing, pushed, pushed_all, Grows, holding, joined}
 
 -- a place behind the end
 pub set_beyond : (xs : List Node) (k : ℕ) (x : Node) → length xs ≤ k → set xs k x ≡ xs
 set_beyond [] k x h = refl
 set_beyond (y ∷ xs) zero x h = absurd (omega arith)
 set_beyond (y ∷ xs) (suc k) x h = ap (λ (ys : List Node). y ∷ ys) (set_beyond xs k x (omega arith))
-
--- the later of two at one place
-set_twice : (xs : List Node) (k : ℕ) (x y : Node) → set (set xs k x) k y ≡ set xs k y
-set_twice [] k x y = refl
-set_twice (z ∷ xs) zero x y = refl
-set_twice (z ∷ xs) (suc k) x y = ap (λ (ys : List Node). z ∷ ys) (set_twice xs k x y)
 
 -- ---- how many there are, and in which order
 
@@ -91,4 +82,4 @@ grows_held groups count begun total items node a b c d one number all last h =
     put ∙ ap (λ (l : Listing). listing (set l.nodes count y) l.count) third
     ∙ replaced (listing (set a count node) (count + 1)) count y (joined groups) (omega arith)
     ∙ ap (λ (xs : List Node). pushed_all (listing xs (count + 1)) (joined groups))
-    (set_twice a count node y ∙ held_there a count inside (length groups) node)
+    (set-set a count node y ∙ held_there a count inside (length groups) node)

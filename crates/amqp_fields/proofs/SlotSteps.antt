@@ -1,31 +1,16 @@
 -- What fields and properties are listed as, one after another.
-use Rattle.std.proofs.Common.{Bor, ◌≡◌, ℕ, zero, suc, ◌+◌, ◌-◌, ◌/◌, ◌<◌, ◌≤◌, eqb, Bool, List, [], ◌∷◌, ◌++◌, length, get_or, drop, refl}
-use Rattle.std.proofs.Common.{ap, ap₂, ◌∙◌, arith}
-use Rattle.std.proofs.lemmas.Bool.Decides.{nat_tests}
-use Rattle.std.proofs.lemmas.List.{get_or-drop, length-drop}
+use Rattle.std.proofs.Common.{get_or-drop, length-drop, Bor, ◌≡◌, ℕ, zero, suc, ◌+◌, ◌-◌, ◌/◌, ◌<◌, ◌≤◌, eqb, Bool, List, [], ◌∷◌, ◌++◌, length, get_or, drop}
+use Rattle.std.proofs.Common.{refl, ap, ap₂, ◌∙◌, arith}
 use Rattle.std.specs.Int.{bit_at}
 use Rattle.std.proofs.lemmas.Nat.Bits.{bit_at-suc}
-use Rattle.amqp_types.specs.Judging.{Judged, Judge, took, past, fault, ◌>>=◌}
-use Rattle.amqp_types.specs.Flags.{bit_of, flag_at, flags_from, judge_flags}
-use Rattle.amqp_types.specs.Numbers.{bytes2, bytes8, judge_number}
-use Rattle.amqp_types.specs.Properties.{properties}
-use Rattle.amqp_types.specs.Sequences.{judge_map}
+use Rattle.amqp_fields.proofs.Names.{nat_tests, Judged, Judge, took, ◌>>=◌, bit_of, flag_at, flags_from, judge_flags, bytes2, bytes8, judge_number, properties}
+use Rattle.amqp_fields.proofs.Names.{judge_map, judge_form, Form, Slot, form_of, slot_of, slots_of, IsRead, Node, Step, numbered, Grows, listing, kept_count}
+use Rattle.amqp_fields.proofs.Names.{listed_bits, listed_form, listed_number, listed_properties, listed_set, listed_slot, listed_slots, next_place, placed}
+use Rattle.amqp_fields.proofs.Names.{Counts, Lists}
 use Rattle.amqp_types.specs.Slots.{flags_form, number_form}
-use Rattle.amqp_types.specs.SlotJudging.{judge_form}
 use Rattle.amqp_types.specs.Tidiness.{used_by}
-use Rattle.amqp_canonical.specs.declared.shapes.Form.{Form}
 use Rattle.amqp_canonical.specs.declared.shapes.Form.TheVariants as forms
-use Rattle.amqp_canonical.specs.declared.shapes.Slot.{Slot}
 use Rattle.amqp_canonical.specs.declared.shapes.Slot.TheVariants as slots
-use Rattle.amqp_canonical.specs.Shapes.{form_of, slot_of, slots_of}
-use Rattle.amqp_canonical.specs.Writes.{IsRead}
-use Rattle.amqp_fields.specs.declared.node.Node.{Node}
-use Rattle.amqp_fields.specs.declared.listing.Step.{Step}
-use Rattle.amqp_fields.specs.Nodes.{numbered}
-use Rattle.amqp_fields.specs.Listing.{Grows, listing}
-use Rattle.amqp_fields.specs.Listed.{kept_count, listed_bits, listed_form, listed_number, listed_properties, listed_set, listed_slot}
-use Rattle.amqp_fields.specs.Listed.{listed_slots, next_place, placed}
-use Rattle.amqp_fields.specs.Finding.{Counts, Lists}
 use Rattle.amqp_fields.proofs.Pushing.{grows_more, grows_none}
 
 -- ---- flags
@@ -61,8 +46,7 @@ bits_more place next (suc flags) byte half count more total node old mid new som
 dropped : {A : Type 0} (j : Judged A) (old : List Node) (count n : ℕ) → (IsRead j → n ≡ used_by j)
     → Lists (j >>= λ x. took [] x.1) old count old (record { used = n; count = count })
 dropped (took x used) old count n h = (h tt, grows_none (listing old count))
-dropped past old count n h = tt
-dropped (fault bad) old count n h = tt
+dropped j old count n h = tt
 
 -- ---- fields, one after another
 
@@ -70,17 +54,15 @@ second : (j : Judged (List Node)) (added : List Node) (used : ℕ) (old mid new 
     → Grows (listing old count) (listing mid more) added → Counts j mid more new total
     → Counts (j >>= λ y. took (added ++ y.0) (used + y.1)) old count new total
 second (took others n) added used old mid new count more total one h = grows_more (listing old count) (listing mid more) (listing new total) added others one h
-second past added used old mid new count more total one h = tt
-second (fault bad) added used old mid new count more total one h = tt
+second j added used old mid new count more total one h = tt
 
 -- what is listed of the front, and then of the rest, is listed of both
 pub first : (j : Judged (List Node)) (others : Judge (List Node)) (i rest : List ℕ) (old mid new : List Node) (count total : ℕ) (step : Step)
     → Lists j old count mid step → rest ≡ drop step.used i → Counts (others rest) mid step.count new total
     → Counts (j >>= λ x. others (drop x.1 i) >>= λ y. took (x.0 ++ y.0) (x.1 + y.1)) old count new total
-first past others i rest old mid new count total step one e h = tt
-first (fault bad) others i rest old mid new count total step one e h = tt
 first (took added n) others i rest old mid new count total step one e h =
     second (others (drop n i)) added n old mid new count step.count total one.1 (rw (e, one.0) at h)
+first j others i rest old mid new count total step one e h = tt
 
 -- where no fields are left, nothing more is put
 pub no_slots : (deep : Bool) (end place : ℕ) (shapes : List Slot) (i : List ℕ) (old : List Node) (count : ℕ)
@@ -138,8 +120,7 @@ number_and_flags deep end place next flags count shapes other label i rest old m
 counted : (j : Judged (List Node)) (old new : List Node) (n count total : ℕ)
     → Counts j old count new total → Counts (j >>= λ y. took y.0 (n + y.1)) old count new total
 counted (took added k) old new n count total h = h
-counted past old new n count total h = tt
-counted (fault bad) old new n count total h = tt
+counted j old new n count total h = tt
 
 -- the nodes that are listed of the bytes behind a mask are those of the properties
 pub properties_listed : (deep : Bool) (end : ℕ) (bytes rest : List ℕ) (old new : List Node) (mask count total : ℕ)

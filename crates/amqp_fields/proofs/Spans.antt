@@ -1,15 +1,9 @@
 -- Where bytes stand in a payload: those of strings, keys, tables and arrays.
-use Rattle.std.proofs.Common.{◌≡◌, ℕ, zero, suc, ◌+◌, ◌-◌, ◌<◌, ◌≤◌, nat_lt, List, [], ◌∷◌, length, take, drop, refl, sym, ap, ◌∙◌, arith}
-use Rattle.std.proofs.lemmas.Bool.Decides.{nat_tests}
-use Rattle.std.proofs.lemmas.List.{length-drop, length-take-le, drop-drop, drop-take, take-take, take_rest}
-use Rattle.amqp_types.proofs.Took.{bind_took, guard_took, value_took, count_took}
-use Rattle.amqp_types.specs.Judging.{took}
-use Rattle.amqp_types.specs.Numbers.{NumberWidth, bytes4, byte_count, judge_number}
-use Rattle.amqp_types.specs.Strings.{judge_short_string, judge_long_string}
-use Rattle.amqp_canonical.specs.Writes.{key_in}
+use Rattle.std.proofs.Common.{length-drop, length-take-le, drop-drop, take-take, ◌≡◌, ℕ, zero, suc, ◌+◌, ◌-◌, ◌<◌, ◌≤◌, nat_lt, List, [], ◌∷◌, length, take}
+use Rattle.std.proofs.Common.{drop, refl, sym, ap, ◌∙◌, arith}
+use Rattle.amqp_fields.proofs.Names.{nat_tests, drop-take, take_rest, bind_took, guard_took, value_took, count_took, took, NumberWidth, bytes4, byte_count}
+use Rattle.amqp_fields.proofs.Names.{judge_number, judge_short_string, judge_long_string, key_in, cut_byte, IsSpan}
 use Rattle.amqp_canonical.proofs.ReadParts.{text_parts}
-use Rattle.amqp_fields.specs.Nodes.{cut_byte}
-use Rattle.amqp_fields.specs.Meaning.{IsSpan}
 
 -- the bytes stand in the payload, and end at a place
 pub record Stands (payload : List ℕ) (end : ℕ) (bytes : List ℕ) : Type 0 where

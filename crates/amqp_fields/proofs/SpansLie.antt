@@ -1,23 +1,16 @@
 -- The spans of nodes lie in the bytes of their frame, and those of what lies inside a table or an array in its own.
-use Rattle.std.proofs.Common.{◌≡◌, ℕ, ◌+◌, ◌-◌, Bool, List, [], ◌++◌, length, take, drop, Option, Some, None, refl, sym, ap, subst, ◌∙◌, arith}
-use Rattle.std.specs.Prelude.{replicate}
+use Rattle.std.proofs.Common.{replicate, length-append, length-drop, take_all, ◌≡◌, ℕ, ◌+◌, ◌-◌, Bool, List, [], ◌++◌, length, take, drop, Option, Some, None}
+use Rattle.std.proofs.Common.{refl, sym, ap, subst, ◌∙◌, arith}
 use Rattle.std.proofs.Math.Seq.{drop-append_seam}
-use Rattle.std.proofs.lemmas.List.{length-append, length-drop, length-replicate, take_all}
-use Rattle.amqp_types.proofs.Took.{bind_took, value_took}
-use Rattle.amqp_types.specs.Judging.{Judged, fault, past, took}
-use Rattle.amqp_types.specs.Numbers.{bytes2, judge_number}
-use Rattle.amqp_types.specs.Rows.{slots_at}
+use Rattle.amqp_fields.proofs.Names.{length-replicate, bind_took, value_took, Judged, fault, past, took, bytes2, judge_number, slots_at, AMQPFrameType, Node}
+use Rattle.amqp_fields.proofs.Names.{entries_nodes, listed_header, listed_known, listed_method, listed_payload, nodes_of, payload_nodes, values_nodes}
+use Rattle.amqp_fields.proofs.Names.{listed_properties, version_slots, LieIn}
 use Rattle.amqp_types.specs.Slots.{Slot}
-use Rattle.amqp_wire.specs.declared.frame_type.AMQPFrameType.{AMQPFrameType}
 use Rattle.amqp_wire.specs.declared.frame_type.AMQPFrameType.TheVariants as kinds
 use Rattle.amqp_wire.specs.Looks.{payload_place}
-use Rattle.amqp_fields.specs.declared.node.Node.{Node}
 use Rattle.amqp_fields.specs.declared.head.Head.{Head}
 use Rattle.amqp_fields.specs.Heads.{SaysFrame}
-use Rattle.amqp_fields.specs.Listed.{entries_nodes, listed_header, listed_known, listed_method, listed_payload, nodes_of, payload_nodes, values_nodes}
-use Rattle.amqp_fields.specs.Listed.{listed_properties, version_slots}
 use Rattle.amqp_fields.specs.Reading.{fields_nodes}
-use Rattle.amqp_fields.specs.Spans.{LieIn}
 use Rattle.amqp_fields.proofs.Answering.{span_stands}
 use Rattle.amqp_fields.proofs.ContentsFound.{content_lies, entries_all, values_all}
 use Rattle.amqp_fields.proofs.FieldsFound.{slots_found}

@@ -1,30 +1,12 @@
 -- What values are listed as, step by step.
-use Rattle.std.proofs.Common.{◌≡◌, ℕ, zero, suc, ◌+◌, ◌-◌, ◌<◌, ◌≤◌, List, [], ◌∷◌, length, get_or, drop, take, set, Some, None, Result, Ok}
-use Rattle.std.proofs.Common.{Err, refl, sym, ap, subst, ◌∙◌, arith}
-use Rattle.std.proofs.lemmas.List.{drop-drop, get_or-drop, length-drop, length-take-le, nil_from_length}
-use Rattle.amqp_types.specs.Judging.{Judged, Judge, Fault, took, past, fault, ◌>>=◌}
-use Rattle.amqp_types.specs.Strings.{judge_short_string, judge_long_string}
-use Rattle.amqp_types.specs.ValueJudging.{filled, next_item, read_map, took_all}
-use Rattle.amqp_types.specs.Tags.{tag_at, tag_byte}
-use Rattle.amqp_types.specs.declared.tag.FieldTag.{FieldTag}
-use Rattle.amqp_canonical.specs.Writes.{IsRead, after_key}
-use Rattle.amqp_fields.specs.declared.node.Node.{Node}
-use Rattle.amqp_fields.specs.declared.listing.Step.{Step}
-use Rattle.amqp_fields.specs.declared.listing.Filled.{Filled}
-use Rattle.amqp_fields.specs.Nodes.{blank, held, keyed, spanned}
-use Rattle.amqp_fields.specs.Listing.{Grows, listing}
-use Rattle.amqp_fields.specs.Listed.{end_before, holding, joined, listed_behind, listed_entry, listed_items, listed_nested}
-use Rattle.amqp_fields.specs.Listed.{listed_tagged, listed_value, of_kind}
-use Rattle.amqp_fields.specs.Finding.{Lists, ListsAll, key_label}
+use Rattle.std.proofs.Common.{drop-drop, get_or-drop, length-drop, length-take-le, ◌≡◌, ℕ, zero, suc, ◌+◌, ◌-◌, ◌<◌, ◌≤◌, List, [], ◌∷◌, length, get_or, drop}
+use Rattle.std.proofs.Common.{take, set, Some, None, Result, Ok, Err, refl, sym, ap, subst, ◌∙◌, arith}
+use Rattle.amqp_fields.proofs.Names.{nil_from_length, Judged, Judge, Fault, took, ◌>>=◌, judge_short_string, judge_long_string, filled, next_item, read_map}
+use Rattle.amqp_fields.proofs.Names.{took_all, tag_at, tag_byte, FieldTag, IsRead, after_key, Node, Step, Filled, blank, held, keyed, spanned, Grows, listing}
+use Rattle.amqp_fields.proofs.Names.{end_before, holding, joined, listed_behind, listed_entry, listed_items, listed_nested, listed_tagged, listed_value}
+use Rattle.amqp_fields.proofs.Names.{of_kind, Lists, ListsAll, key_label}
 use Rattle.amqp_fields.proofs.Pushing.{grows_held, grows_more, grows_none}
 use Rattle.amqp_fields.proofs.Strings.{IsKey, is_key, long_size}
-
--- where nothing was read, nothing needs to be listed
-pub not_listed : {A : Type 0} (j : Judged A) (f : A × ℕ → Judged (List Node)) (old new : List Node) (count : ℕ) (step : Step)
-    → (IsRead j → ⊥) → Lists (j >>= f) old count new step
-not_listed (took x n) f old new count step h = absurd (h tt)
-not_listed past f old new count step h = tt
-not_listed (fault bad) f old new count step h = tt
 
 -- where something is read, what comes next decides what is listed
 pub listed_next : {A : Type 0} (j : Judged A) (f : A × ℕ → Judged (List Node)) (old new : List Node) (count : ℕ) (step : Step) (x : A) (n : ℕ)
@@ -49,10 +31,10 @@ nested_more (suc depth_left) h = ap (λ n. Some (listed_tagged (listed_nested n)
 more_used : (j : Judged (List Node)) (n used total : ℕ) (old new : List Node) (count : ℕ) → Lists j old count new (record { used = used; count = total })
     → Lists (j >>= λ x. took x.0 (n + x.1)) old count new (record { used = n + used; count = total })
 more_used (took added k) n used total old new count h = (ap (λ u. n + u) h.0, h.1)
-more_used past n used total old new count h = tt
-more_used (fault bad) n used total old new count h = tt
+more_used j n used total old new count h = tt
 
-value_listed : (depth_left end : ℕ) (label mark : Node) (i : List ℕ) (t : FieldTag) (old new : List Node) (count : ℕ) (step : Step)
+-- a value is listed as what stands after its tag
+pub value_listed : (depth_left end : ℕ) (label mark : Node) (i : List ℕ) (t : FieldTag) (old new : List Node) (count : ℕ) (step : Step)
     → 1 ≤ length i → tag_at (get_or i 0 0) ≡ Some t → mark ≡ of_kind label (tag_byte t)
     → Lists (listed_behind (listed_nested depth_left) end mark t (drop 1 i)) old count new step
     → Lists (listed_value depth_left end label i) old count new (record { used = 1 + step.used; count = step.count })
@@ -88,12 +70,6 @@ items_listed item end label node i content rest used inner count begun filling a
     listed_next (judge_long_string i) _ a d count (record { used = used; count = filling.count }) content used is
     (rw (← at, ← it) (closed (filled (item inner) 0 content) used count begun node filling a b c d one all last))
 
--- where there is no length, nothing is listed
-pub items_unlisted : (item : ℕ → Judge (List Node)) (end : ℕ) (label : Node) (i : List ℕ) (old new : List Node) (count : ℕ) (step : Step)
-    → (IsRead (judge_long_string i) → ⊥) → Lists (listed_items item end label i) old count new step
-unfolding listed_items
-items_unlisted item end label i old new count step h = not_listed (judge_long_string i) _ old new count step h
-
 -- ---- things that fill some bytes, one after another
 
 -- Where what is left is listed after the nodes so far, all of the content is. So many things came before.
@@ -125,24 +101,29 @@ next_listed item (byte ∷ bytes) next now mid new k more total step some one up
 
     by_item : (j : Judged (List Node)) → Lists j now k mid step
         → ListsAll (next_item j (λ n. filled item (n - 1) bytes)) now k new (record { items = 1 + more; count = total })
-    by_item past h = tt
-    by_item (fault bad) h = tt
     by_item (took group n) h =
         let dropped : drop (n - 1) bytes ≡ next =
         ap (λ u. drop u (byte ∷ bytes)) {x = suc (n - 1)} {y = step.used} (omega arith) ∙ sym e in
-        let same = filled_drop item (n - 1) bytes ∙ ap (filled item 0) dropped in
-        by_others group h.1 (filled item (n - 1) bytes)
-        (rw same all)
+        by_others group h.1 (filled item (n - 1) bytes) (rw (filled_drop item (n - 1) bytes, dropped) all)
+    by_item j h = tt
 
-goes_on : {item : Judge (List Node)} {content rest : List ℕ} {old now : List Node} {count k items : ℕ} (next : List ℕ) (new : List Node) (step : Step)
-    → GoesOn item content old count rest now k items → 0 < length rest → Lists (item rest) now k new step → 0 < step.used → next ≡ drop step.used rest
-    → GoesOn item content old count next new step.count (items + 1)
-goes_on {item = item} {content = content} {rest = rest} {old = old} {now = now} {count = count} {k = k} {items = items} next new step h some listed up e =
-    record {
-      left = λ final more total all.
-          subst (λ n. ListsAll (filled item 0 content) old count final (record { items = n; count = total })) {x = items + (1 + more)} {y = items + 1 + more}
-          (omega arith) (h.left final (1 + more) total (next_listed item rest next now new final k more total step some listed up e all));
-    }
+-- what is listed next leaves what comes after it
+pub goes_on : {item : Judge (List Node)} {content rest : List ℕ} {old now : List Node} {count k items : ℕ} (front : ℕ) (behind next : List ℕ)
+    (new : List Node) (step : Step) → GoesOn item content old count rest now k items → 0 < front → front ≤ length rest
+    → Lists (item rest) now k new (record { used = front + step.used; count = step.count }) → behind ≡ drop front rest → next ≡ drop step.used behind
+    → items + length rest ≤ length content
+    → GoesOn item content old count next new step.count (items + 1) × (items + 1 + length next ≤ length content)
+goes_on {item = item} {content = content} {rest = rest} {old = old} {now = now} {count = count} {k = k} {items = items}
+    front behind next new step h up some listed after e room =
+    let is_next : next ≡ drop (front + step.used) rest = e ∙ ap (drop step.used) after ∙ drop-drop step.used front rest in (
+      record {
+        left = λ final more total all.
+            subst (λ n. ListsAll (filled item 0 content) old count final (record { items = n; count = total })) {x = items + (1 + more)} {y = items + 1 + more}
+            (omega arith) (h.left final (1 + more) total (next_listed item rest next now new final k more total
+            (record { used = front + step.used; count = step.count }) (omega arith) listed (omega arith) is_next all));
+      },
+      omega (arith, ap length is_next, length-drop (front + step.used) rest),
+    )
 
 -- where nothing more is listed
 ends : {item : Judge (List Node)} {content rest : List ℕ} {old now : List Node} {count k items : ℕ} → GoesOn item content old count rest now k items
@@ -171,9 +152,8 @@ stops {item = item} {rest = rest} {now = now} {k = k} h some none = ends h (by_r
       where
         by_item : (j : Judged (List Node)) → (IsRead j → ⊥)
             → ListsAll (next_item j (λ n. filled item (n - 1) bytes)) now k now (record { items = 0; count = k })
-        by_item past none = tt
-        by_item (fault bad) none = tt
         by_item (took group n) none = absurd (none tt)
+        by_item j none = tt
 
 -- ---- one value of an array, one entry of a table
 
@@ -201,7 +181,7 @@ label_is end n bytes few within =
     ∙ ap (λ s. record blank { key_start = s; key_length = n }) start)
 
 -- an entry whose key and tag are there is listed as its value is
-entry_goes : (depth_left end : ℕ) (mark : Node) (t : FieldTag) (i behind : List ℕ) (old new : List Node) (count : ℕ) (step : Step)
+pub entry_goes : (depth_left end : ℕ) (mark : Node) (t : FieldTag) (i behind : List ℕ) (old new : List Node) (count : ℕ) (step : Step)
     → 2 + get_or i 0 0 ≤ length i → length i ≤ end → tag_at (get_or i (get_or i 0 0 + 1) 0) ≡ Some t → mark ≡ of_kind (key_label end i) (tag_byte t)
     → behind ≡ drop (2 + get_or i 0 0) i → Lists (listed_behind (listed_nested depth_left) end mark t behind) old count new step
     → Lists (listed_entry (listed_value depth_left) end i) old count new (record { used = 2 + get_or i 0 0 + step.used; count = step.count })
@@ -225,13 +205,12 @@ entry_goes depth_left end mark t (n ∷ bytes) behind old new count step some wi
     by_key : (j : Judged (List ℕ)) → ((key : List ℕ) (m : ℕ) → j ≡ took key m → IsKey (n ∷ bytes) key m)
         → Lists (j >>= λ key. listed_value depth_left end (keyed (end_before end (drop key.1 (n ∷ bytes))) key.0) (drop key.1 (n ∷ bytes))
         >>= λ v. took v.0 (key.1 + v.1)) old count new (record { used = 2 + n + step.used; count = step.count })
-    by_key past each = tt
-    by_key (fault bad) each = tt
     by_key (took key m) each =
         let one = each key m refl in
         let size : 2 + n + step.used ≡ m + (1 + step.used) = omega (arith, one.used_is, ap length one.key_is, length-take-le n bytes few) in
         rw (one.rest_is, one.key_is, size)
         (more_used (listed_value depth_left end label (drop n bytes)) m (1 + step.used) step.count old new count value)
+    by_key j each = tt
 
 -- an entry without a known tag is not read
 pub entry_stops : (depth_left end : ℕ) (i : List ℕ) → (2 + get_or i 0 0 ≤ length i → tag_at (get_or i (get_or i 0 0 + 1) 0) ≡ None)
@@ -245,51 +224,14 @@ entry_stops depth_left end i none read = by_key (judge_short_string i) (is_key i
     after_none (n ∷ bytes) none some = ap tag_at (sym (tag_is n bytes)) ∙ none (omega (arith, length-drop n bytes))
 
     first_read : (n : ℕ) (j : Judged (List Node)) → IsRead (j >>= λ v. took v.0 (n + v.1)) → IsRead j
-    first_read n past read = read
-    first_read n (fault bad) read = read
     first_read n (took added k) read = tt
+    first_read n j read = read
 
     by_key : (j : Judged (List ℕ)) → ((k : List ℕ) (n : ℕ) → j ≡ took k n → IsKey i k n)
         → IsRead (j >>= λ key. listed_value depth_left end (keyed (end_before end (drop key.1 i)) key.0) (drop key.1 i) >>= λ v. took v.0 (key.1 + v.1)) → ⊥
-    by_key past each read = read
-    by_key (fault bad) each read = read
     by_key (took k n) each read =
         let label = keyed (end_before end (drop n i)) k in
         let value = first_read n (listed_value depth_left end label (drop n i)) read in
         value_stops depth_left end label (after_key i) (after_none i none)
         (subst (λ xs. IsRead (listed_value depth_left end label xs)) ((each k n refl).rest_is) value)
-
--- ---- and then those that are left
-
--- a value that is listed leaves what comes after it
-pub value_goes_on : (depth_left end : ℕ) {content rest : List ℕ} {old now : List Node} {count k items : ℕ}
-    (label mark : Node) (t : FieldTag) (behind next : List ℕ) (new : List Node) (step : Step)
-    → GoesOn (listed_value depth_left end blank) content old count rest now k items → label ≡ blank → 1 ≤ length rest → tag_at (get_or rest 0 0) ≡ Some t
-    → mark ≡ of_kind label (tag_byte t) → behind ≡ drop 1 rest
-    → Lists (listed_behind (listed_nested depth_left) end mark t behind) now k new step → next ≡ drop step.used behind
-    → items + length rest ≤ length content
-    → GoesOn (listed_value depth_left end blank) content old count next new step.count (items + 1) × (items + 1 + length next ≤ length content)
-value_goes_on depth_left end {rest = rest} {now = now} {k = k} {items = items} label mark t behind next new step h none some is it after listed e room =
-    let marked : mark ≡ of_kind blank (tag_byte t) = it ∙ ap (λ x. of_kind x (tag_byte t)) none in
-    let value = value_listed depth_left end blank mark rest t now new k step some is marked (rw after at listed) in
-    let is_next : next ≡ drop (1 + step.used) rest = e ∙ ap (drop step.used) after ∙ drop-drop step.used 1 rest in (
-      goes_on next new (record { used = 1 + step.used; count = step.count }) h (omega arith) value (omega arith) is_next,
-      omega (arith, ap length is_next, length-drop (1 + step.used) rest),
-    )
-
--- an entry that is listed leaves what comes after it
-pub entry_goes_on : (depth_left end : ℕ) {content rest : List ℕ} {old now : List Node} {count k items : ℕ}
-    (mark : Node) (t : FieldTag) (behind next : List ℕ) (new : List Node) (step : Step)
-    → GoesOn (listed_entry (listed_value depth_left) end) content old count rest now k items → 2 + get_or rest 0 0 ≤ length rest
-    → length rest ≤ end → tag_at (get_or rest (get_or rest 0 0 + 1) 0) ≡ Some t
-    → mark ≡ of_kind (key_label end rest) (tag_byte t) → behind ≡ drop (2 + get_or rest 0 0) rest
-    → Lists (listed_behind (listed_nested depth_left) end mark t behind) now k new step → next ≡ drop step.used behind
-    → items + length rest ≤ length content
-    → GoesOn (listed_entry (listed_value depth_left) end) content old count next new step.count (items + 1) × (items + 1 + length next ≤ length content)
-entry_goes_on depth_left end {rest = rest} {now = now} {k = k} {items = items} mark t behind next new step h some within is it after listed e room =
-    let n = get_or rest 0 0 in
-    let entry = entry_goes depth_left end mark t rest behind now new k step some within is it after listed in
-    let is_next : next ≡ drop (2 + n + step.used) rest = e ∙ ap (drop step.used) after ∙ drop-drop step.used (2 + n) rest in (
-      goes_on next new (record { used = 2 + n + step.used; count = step.count }) h (omega arith) entry (omega arith) is_next,
-      omega (arith, ap length is_next, length-drop (2 + n + step.used) rest),
-    )
+    by_key j each read = read

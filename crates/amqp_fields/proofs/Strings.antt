@@ -1,20 +1,10 @@
 -- What strings are listed as: by what stands at the front of the bytes.
-use Rattle.std.proofs.Common.{◌≡◌, ℕ, ◌+◌, ◌-◌, ◌≤◌, ◌<◌, Bool, true, false, cond, List, [], ◌∷◌, length, get_or, take, drop, refl, sym}
-use Rattle.std.proofs.Common.{ap, ◌∙◌, one-add, arith}
-use Rattle.std.specs.Prelude.{nat_lt}
+use Rattle.std.proofs.Common.{nat_lt, length-drop, length-take-le, ◌≡◌, ℕ, ◌+◌, ◌-◌, ◌≤◌, ◌<◌, Bool, true, false, cond, List, [], ◌∷◌, length, get_or, take}
+use Rattle.std.proofs.Common.{drop, refl, sym, ap, ◌∙◌, one-add, arith}
 use Rattle.std.specs.Str.{is_utf8}
-use Rattle.std.proofs.lemmas.Bool.Decides.{nat_tests}
-use Rattle.std.proofs.lemmas.List.{length-drop, length-take-le}
-use Rattle.amqp_types.proofs.Took.{guard_took, test_took, value_took, count_took}
-use Rattle.amqp_types.specs.Judging.{Judge, Judged, took, past, fault, not_utf8, ◌>>=◌}
-use Rattle.amqp_types.specs.Strings.{judge_short_string, judge_long_string}
-use Rattle.amqp_canonical.specs.Writes.{IsRead, key_in, after_key}
-use Rattle.amqp_fields.specs.declared.node.Node.{Node}
-use Rattle.amqp_fields.specs.declared.listing.Step.{Step}
-use Rattle.amqp_fields.specs.Nodes.{spanned}
-use Rattle.amqp_fields.specs.Listing.{Grows, listing}
-use Rattle.amqp_fields.specs.Listed.{listed_span, end_before}
-use Rattle.amqp_fields.specs.Finding.{Lists}
+use Rattle.amqp_fields.proofs.Names.{nat_tests, guard_took, test_took, value_took, count_took, Judge, Judged, took, past, fault, not_utf8, ◌>>=◌}
+use Rattle.amqp_fields.proofs.Names.{judge_short_string, judge_long_string, IsRead, key_in, after_key, Node, Step, spanned, Grows, listing, listed_span}
+use Rattle.amqp_fields.proofs.Names.{end_before, Lists}
 use Rattle.amqp_fields.proofs.Spans.{long_part}
 
 -- what a short string is that was read
@@ -73,15 +63,13 @@ short_listed end label node i text rest at count more old new is after place one
   where
     by_key : (j : Judged (List ℕ)) → ((key : List ℕ) (n : ℕ) → j ≡ took key n → IsKey i key n)
         → Lists (j >>= λ x. took (spanned label (end_before end (drop x.1 i)) x.0 ∷ []) x.1) old count new (record { used = 1 + length text; count = more })
-    by_key past each = tt
-    by_key (fault bad) each = tt
     by_key (took key n) each =
         let k = each key n refl in
         let same : text ≡ key = is ∙ sym k.key_is in
-        let behind : rest ≡ drop n i = after ∙ sym k.rest_is in
         let it : node ≡ spanned label (end_before end (drop n i)) key =
-        one ∙ ap (λ e. spanned label e text) (place ∙ ap (λ (xs : List ℕ). end - length xs) behind) ∙ ap (spanned label (end_before end (drop n i))) same in
+        one ∙ rw (place, after, ← k.rest_is, same) refl in
         (omega (arith, ap length same), rw it at h)
+    by_key j each = tt
 
 -- a long string takes 4 bytes more than it has
 pub long_size : (i content : List ℕ) (used : ℕ) → judge_long_string i ≡ took content used → used ≡ 4 + length content
@@ -99,12 +87,14 @@ long_listed end label node i content used count more old new is one h =
     rw is (refl, rw it at h)
 
 -- where nothing was read, nothing needs to be listed
+pub not_listed : {A : Type 0} (j : Judged A) (f : A × ℕ → Judged (List Node)) (old new : List Node) (count : ℕ) (step : Step)
+    → (IsRead j → ⊥) → Lists (j >>= f) old count new step
+not_listed (took x n) f old new count step h = absurd (h tt)
+not_listed past f old new count step h = tt
+not_listed (fault bad) f old new count step h = tt
+
+-- the same of a span
 pub unlisted : (judge : Judge (List ℕ)) (end : ℕ) (label : Node) (i : List ℕ) (old new : List Node) (count : ℕ) (step : Step)
     → (IsRead (judge i) → ⊥) → Lists (listed_span judge end label i) old count new step
 unfolding listed_span
-unlisted judge end label i old new count step h = by_cases (judge i) h
-  where
-    by_cases : (j : Judged (List ℕ)) → (IsRead j → ⊥) → Lists (j >>= λ x. took (spanned label (end_before end (drop x.1 i)) x.0 ∷ []) x.1) old count new step
-    by_cases past h = tt
-    by_cases (fault bad) h = tt
-    by_cases (took x n) h = absurd (h tt)
+unlisted judge end label i old new count step h = not_listed (judge i) _ old new count step h

@@ -14,13 +14,3 @@ pub mod Contents
 pub mod Heads
 pub mod Frames
 pub mod Framing
-pub mod Made
-pub mod MadeFields
-pub mod MadeFrames
-pub mod Makes
-pub mod Quick
-pub mod Making
-pub mod Meant
-pub mod Canonical
-pub mod SameNodes
-pub mod WritingLaws

@@ -1,7 +1,6 @@
 //! Reading what fills a table or an array as nodes, where it stands alone.
 
 ghost use Rattle.std.specs.Prelude.{◌≡◌, ◌≤◌, ◌<◌, ◌^◌, length, IfErr, IfOk};
-ghost use Rattle.std.specs.Str.{is_utf8};
 ghost use Rattle.amqp_types.specs.ValueJudging.{filled, judge_entry, judge_value};
 ghost use Rattle.amqp_canonical.specs.Writes.{IsFilled};
 ghost use Rattle.amqp_fields.specs.Contents.{FillsOrFails, RefusesContent, UsesOrFails};
@@ -14,29 +13,6 @@ use crate::reading::FieldsError;
 use crate::values::{list_entries, list_values};
 use amqp_canonical::{bytes_from, judge_value};
 use amqp_types::{INNER_DEPTH, ParserError, parse_short_str};
-use std::str;
-
-/// Whether bytes that are not all ASCII are UTF-8.
-#[inline(never)]
-fn is_utf8_text(bytes: &[u8]) -> bool
-    ensures { result ≡ is_utf8 bytes.now }
-{
-    match str::from_utf8(bytes) {
-        Ok(_) => true,
-        Err(_) => false,
-    }
-}
-
-/// Whether bytes are UTF-8, which ASCII is.
-#[inline(always)]
-pub(crate) fn is_text(bytes: &[u8]) -> bool
-    ensures { result ≡ is_utf8 bytes.now }
-{
-    if bytes.is_ascii() {
-        return true;
-    }
-    is_utf8_text(bytes)
-}
 
 /// Decodes an entry at the front, in whose value tables and arrays may nest `depth_left` deep, and returns how many bytes it
 /// takes.
@@ -56,7 +32,7 @@ fn judge_entry(i: &[u8], depth_left: usize) -> Result<usize, ParserError>
 }
 
 /// Decodes the entries that fill a table, in whose values tables and arrays may nest `depth_left` deep.
-pub(crate) fn judge_entries(content: &[u8], depth_left: usize) -> Result<(), ParserError>
+pub fn judge_entries(content: &[u8], depth_left: usize) -> Result<(), ParserError>
     ensures { FillsOrFails result (filled (judge_entry (judge_value depth_left)) 0 content.now) }
 {
     let mut rest = content;
@@ -71,7 +47,7 @@ pub(crate) fn judge_entries(content: &[u8], depth_left: usize) -> Result<(), Par
 }
 
 /// Decodes the values that fill an array, in which tables and arrays may nest `depth_left` deep.
-pub(crate) fn judge_values(content: &[u8], depth_left: usize) -> Result<(), ParserError>
+pub fn judge_values(content: &[u8], depth_left: usize) -> Result<(), ParserError>
     ensures { FillsOrFails result (filled (judge_value depth_left) 0 content.now) }
 {
     let mut rest = content;

@@ -1,4 +1,4 @@
-//! When nodes, heads, what is read and errors are equal.
+//! When nodes, heads, what is read and its errors are equal.
 
 ghost use Rattle.std.specs.Prelude.{◌≡◌, ◌↔◌, IsTrue};
 
@@ -6,21 +6,6 @@ use crate::frames::{FramesEnd, FramesRead};
 use crate::head::Head;
 use crate::node::Node;
 use crate::reading::{FieldsError, FieldsRead};
-use crate::refusals::{WriteError, WriteRefusal};
-
-/// Two refusals are equal exactly where they are the same.
-pub fn equal_write_refusals(a: &WriteRefusal, b: &WriteRefusal) -> bool
-    ensures { IsTrue result ↔ (a.now ≡ b.now) }
-{
-    a == b
-}
-
-/// Two errors of writing are equal exactly where they are the same.
-pub fn equal_write_errors(a: &WriteError, b: &WriteError) -> bool
-    ensures { IsTrue result ↔ (a.now ≡ b.now) }
-{
-    a == b
-}
 
 /// Two nodes are equal exactly where all members are.
 #[tactic(auto, using(crate::proofs::EqualNodes::same_node))]

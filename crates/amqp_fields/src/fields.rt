@@ -25,7 +25,7 @@ use amqp_types::INNER_DEPTH;
 
 /// The kind of what is encoded so.
 #[inline(always)]
-pub(crate) fn kind_of(form: Form) -> u8
+pub fn kind_of(form: Form) -> u8
     ensures { result ≡ kind_of (form_of form) }
 {
     match form {
@@ -42,7 +42,7 @@ pub(crate) fn kind_of(form: Form) -> u8
 
 /// A place that is so many further.
 #[inline(always)]
-pub(crate) fn further(place: u8, n: u8) -> u8
+pub fn further(place: u8, n: u8) -> u8
     ensures { result ≡ next_place place n }
 {
     place.saturating_add(n)
@@ -151,7 +151,7 @@ fn field_count(form: Form) -> u8
 }
 
 /// How many fields stand in what is encoded so, reserved ones not counted.
-pub(crate) fn kept_count(slot: Slot) -> u8
+pub fn kept_count(slot: Slot) -> u8
     ensures { result ≡ kept_count (slot_of slot) }
 {
     match slot {

@@ -20,7 +20,7 @@ const VERSION: [Slot; 3] = [
 
 /// The shapes of the three numbers of a protocol header.
 #[inline(always)]
-pub(crate) fn version_shapes() -> &'static [Slot]
+pub fn version_shapes() -> &'static [Slot]
     ensures slots { slots_of result.now ≡ version_slots }
     ensures constants { have_constants result.now ≡ true }
 {

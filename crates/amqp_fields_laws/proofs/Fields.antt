@@ -24,11 +24,11 @@ use Rattle.amqp_laws.proofs.SlotLaws.{both_true, constant_strict, form_is_plain,
 use Rattle.amqp_fields.specs.declared.node.Node.{Node}
 use Rattle.amqp_fields.specs.Nodes.{numbered}
 use Rattle.amqp_fields.specs.Listed.{kept_count, listed_bits, listed_entry, listed_form, listed_slot, listed_slots, listed_value, next_place, placed}
-use Rattle.amqp_fields.specs.Made.{made_given, made_items, made_long, own_index}
-use Rattle.amqp_fields.specs.MadeFields.{flags_in, is_next, flags_made, group_size, is_field, is_flag, made_field, made_form, made_kept}
-use Rattle.amqp_fields.specs.MadeFields.{made_plain, made_slot, made_slots, node_count}
+use Rattle.amqp_fields_write.specs.Made.{made_given, made_items, made_long, own_index}
+use Rattle.amqp_fields_write.specs.MadeFields.{flags_in, is_next, flags_made, group_size, is_field, is_flag, made_field, made_form, made_kept}
+use Rattle.amqp_fields_write.specs.MadeFields.{made_plain, made_slot, made_slots, node_count}
 use Rattle.amqp_fields.proofs.FieldsFound.{flags_length, spare}
-use Rattle.amqp_fields.proofs.MeantFieldsMade.{IsOne}
+use Rattle.amqp_fields_write.proofs.MeantFieldsMade.{IsOne}
 use Rattle.amqp_fields.proofs.Spans.{Stands, stands_drop}
 use Rattle.amqp_fields.proofs.ValuesFound.{IsFresh, Keeps, map_took}
 use Rattle.amqp_fields_laws.proofs.Values.{items_round}

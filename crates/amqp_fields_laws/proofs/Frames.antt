@@ -17,25 +17,25 @@ use Rattle.amqp_wire.proofs.Sizes.{framed_length}
 use Rattle.amqp_wire.proofs.Spelled.{scan-beat, scan-body, scan-header, scan-method}
 use Rattle.amqp_fields.specs.declared.head.Head as given
 use Rattle.amqp_fields.specs.declared.node.Node.{Node}
-use Rattle.amqp_fields.specs.declared.refusals.Refusal.{Refusal}
-use Rattle.amqp_fields.specs.Made.{Made, after, misfit_head, refuse_head}
-use Rattle.amqp_fields.specs.Meant.{TellsTyped}
-use Rattle.amqp_fields.proofs.HeadsTold.{scan_version}
-use Rattle.amqp_fields.proofs.MeantValuesMade.{Fits}
+use Rattle.amqp_fields_write.specs.declared.refusals.Refusal.{Refusal}
+use Rattle.amqp_fields_write.specs.Made.{Made, after, misfit_head, refuse_head}
+use Rattle.amqp_fields_write.specs.Meant.{TellsTyped}
+use Rattle.amqp_fields_write.proofs.HeadsTold.{scan_version}
+use Rattle.amqp_fields_write.proofs.MeantValuesMade.{Fits}
 use Rattle.std.proofs.lemmas.Bool.Decides.{nat_tests}
 use Rattle.amqp_types.specs.Numbers.{bytes2, number_bytes}
 use Rattle.amqp_types.specs.Methods.{Method, judge_payload}
 use Rattle.amqp_types.specs.ContentHeaders.{ContentHeader, judge_content_header}
 use Rattle.amqp_wire.specs.Outlines.{outline_of}
-use Rattle.amqp_fields.specs.declared.refusals.WriteRefusal.TheVariants as whys
+use Rattle.amqp_fields_write.specs.declared.refusals.WriteRefusal.TheVariants as whys
 use Rattle.amqp_fields.specs.Heads.{head_of}
 use Rattle.amqp_fields.specs.Listed.{listed_payload, nodes_of, payload_nodes, version_slots}
-use Rattle.amqp_fields.specs.MadeFields.{made_properties, made_slots}
-use Rattle.amqp_fields.specs.MadeFrames.{has_no_ids, header_front, made_around, made_beat, made_body, made_bytes, made_payload, made_typed, nodes_in}
+use Rattle.amqp_fields_write.specs.MadeFields.{made_properties, made_slots}
+use Rattle.amqp_fields_write.specs.MadeFrames.{has_no_ids, header_front, made_around, made_beat, made_body, made_bytes, made_payload, made_typed, nodes_in}
 use Rattle.amqp_fields.specs.Meaning.{IsSpan}
 use Rattle.amqp_fields.proofs.Answering.{filled_took, span_stands}
-use Rattle.amqp_fields.proofs.FramesMade.{header_parts, method_parts, version_parts}
-use Rattle.amqp_fields.proofs.GivenLengths.{given_within, typed_around}
+use Rattle.amqp_fields_write.proofs.FramesMade.{header_parts, method_parts, version_parts}
+use Rattle.amqp_fields_write.proofs.GivenLengths.{given_within, typed_around}
 use Rattle.amqp_fields.proofs.Spans.{Stands}
 use Rattle.amqp_fields_laws.proofs.Twins.{AreSame, none_same}
 use Rattle.amqp_fields_laws.proofs.Payloads.{header_round, method_round, version_round}

@@ -19,18 +19,18 @@ use Rattle.amqp_wire.proofs.HeaderScan.{scan-exact, scan-in_bounds}
 use Rattle.amqp_wire.proofs.Spelled.{verdict-spelled}
 use Rattle.amqp_fields.specs.declared.head.Head as given
 use Rattle.amqp_fields.specs.declared.node.Node.{Node}
-use Rattle.amqp_fields.specs.declared.refusals.WriteError.{WriteError}
+use Rattle.amqp_fields_write.specs.declared.refusals.WriteError.{WriteError}
 use Rattle.amqp_fields.specs.Heads.{SayFrames, SaysFrame, head_of, nodes_at}
 use Rattle.amqp_fields.specs.Listed.{payload_nodes}
-use Rattle.amqp_fields.specs.Made.{after, misfit_head}
-use Rattle.amqp_fields.specs.MadeFrames.{at_head, made_frame, made_frames, made_typed, nodes_in}
+use Rattle.amqp_fields_write.specs.Made.{after, misfit_head}
+use Rattle.amqp_fields_write.specs.MadeFrames.{at_head, made_frame, made_frames, made_typed, nodes_in}
 use Rattle.amqp_fields.specs.Meaning.{IsSpan}
-use Rattle.amqp_fields.specs.Meant.{TellsFrame}
+use Rattle.amqp_fields_write.specs.Meant.{TellsFrame}
 use Rattle.amqp_fields.proofs.FramesGiven.{verdict_whole}
-use Rattle.amqp_fields.proofs.HeadsTold.{frame_told}
-use Rattle.amqp_fields.proofs.SameNodes.{same_length}
-use Rattle.amqp_fields.proofs.MeantFramesMade.{frame_fits}
-use Rattle.amqp_fields.proofs.Ordered.{plain_order}
+use Rattle.amqp_fields_write.proofs.HeadsTold.{frame_told}
+use Rattle.amqp_fields_write.proofs.SameNodes.{same_length}
+use Rattle.amqp_fields_write.proofs.MeantFramesMade.{frame_fits}
+use Rattle.amqp_fields_write.proofs.Ordered.{plain_order}
 use Rattle.amqp_fields.proofs.Spans.{Stands}
 use Rattle.amqp_fields.proofs.Answering.{span_stands}
 use Rattle.amqp_fields_laws.specs.RoundTrips.{IsReadAgain, IsSameHead, SameHeads, ReadAgainHasSameNodes, ReadIsAccepted}

@@ -20,10 +20,10 @@ use Rattle.amqp_laws.proofs.Masks.{IsMaskOf, flags_mask, flags_mask_is, mask_of-
 use Rattle.amqp_fields.specs.declared.node.Node.{Node}
 use Rattle.amqp_fields.specs.Listed.{listed_option, listed_properties, listed_set, next_place, listed_header, listed_known, listed_method, listed_payload}
 use Rattle.amqp_fields.specs.Listed.{listed_slots, nodes_of, payload_nodes, version_slots}
-use Rattle.amqp_fields.specs.Made.{after, Made}
-use Rattle.amqp_fields.specs.MadeFields.{is_next, made_properties, made_set, set_at, made_slots}
-use Rattle.amqp_fields.proofs.MeantFieldsMade.{IsOne}
-use Rattle.amqp_fields.proofs.MeantFramesMade.{AreOne, all_one}
+use Rattle.amqp_fields_write.specs.Made.{after, Made}
+use Rattle.amqp_fields_write.specs.MadeFields.{is_next, made_properties, made_set, set_at, made_slots}
+use Rattle.amqp_fields_write.proofs.MeantFieldsMade.{IsOne}
+use Rattle.amqp_fields_write.proofs.MeantFramesMade.{AreOne, all_one}
 use Rattle.amqp_fields.proofs.PayloadsFound.{fourteen, few_spare, front_used, known_took}
 use Rattle.amqp_fields.proofs.Spans.{Stands, byte_below, number_took, stands_drop}
 use Rattle.amqp_fields_laws.proofs.Fields.{MakesField, form_round, AreSlots, slots_round}

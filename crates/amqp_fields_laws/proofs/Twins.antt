@@ -7,14 +7,14 @@ use Rattle.amqp_types.specs.Judging.{Judged, Judge, IsBytes, IsExact, took, ◌>
 use Rattle.amqp_types.specs.Sequences.{judge_both, judge_map}
 use Rattle.amqp_fields.specs.declared.node.Node.{Node}
 use Rattle.amqp_fields.specs.Listed.{end_before, listed_span, listed_boolean, listed_decimal, listed_number, listed_signed, scaled}
-use Rattle.amqp_fields.specs.Made.{Maker, Made, after, made_long, made_number, made_signed, made_span, made_text, made_truth, own_index, span_in}
+use Rattle.amqp_fields_write.specs.Made.{Maker, Made, after, made_long, made_number, made_signed, made_span, made_text, made_truth, own_index, span_in}
 use Rattle.amqp_fields.specs.Meaning.{IsSpan}
 use Rattle.amqp_fields.specs.Nodes.{spanned, numbered}
-use Rattle.amqp_fields.specs.SameNodes.{IsSameNode, IsSameSpan, SameNodes}
-use Rattle.amqp_fields.proofs.SameNodes.{same_append}
+use Rattle.amqp_fields_write.specs.SameNodes.{IsSameNode, IsSameSpan, SameNodes}
+use Rattle.amqp_fields_write.proofs.SameNodes.{same_append}
 use Rattle.amqp_fields.proofs.Spans.{IsPart, Stands, part_stands, span_of, stands_drop, long_part, short_part}
 use Rattle.amqp_fields.proofs.ValuesFound.{IsFresh, Keeps}
-use Rattle.amqp_fields.proofs.Ordered.{span_fits}
+use Rattle.amqp_fields_write.proofs.Ordered.{span_fits}
 use Rattle.amqp_fields_laws.specs.RoundTrips.{SameSpans}
 use Rattle.std.proofs.lemmas.Bool.Decides.{nat_tests}
 use Rattle.std.proofs.lemmas.Int.{of_z-to_z}
@@ -33,9 +33,9 @@ use Rattle.amqp_types.proofs.Booleans.{boolean_laws}
 use Rattle.amqp_types.proofs.Numbers.{number_exact}
 use Rattle.amqp_types.proofs.Texts.{long_string_exact, short_string_exact, signed_exact}
 use Rattle.amqp_laws.proofs.Exactly.{decimal_exact}
-use Rattle.amqp_fields.proofs.Ordered.{truth_at}
-use Rattle.amqp_fields.proofs.SignedNumbers.{signed_bits}
-use Rattle.amqp_fields.proofs.MadeOfParts.{mod_small}
+use Rattle.amqp_fields_write.proofs.Ordered.{truth_at}
+use Rattle.amqp_fields_write.proofs.SignedNumbers.{signed_bits}
+use Rattle.amqp_fields_write.proofs.MadeOfParts.{mod_small}
 
 -- bytes that stand in a pool of bytes are bytes
 pub stands_fit : (pool : List ℕ) → IsBytes pool → (end : ℕ) (bytes : List ℕ) → Stands pool end bytes → IsBytes bytes

@@ -12,13 +12,13 @@ use Rattle.amqp_laws.proofs.Filling.{filled_next}
 use Rattle.amqp_fields.specs.declared.node.Node.{Node}
 use Rattle.amqp_fields.specs.Listed.{holding, joined, listed_items, listed_after, listed_behind, listed_entry, listed_nested, listed_value, listed_tagged}
 use Rattle.amqp_fields.specs.Listed.{of_kind}
-use Rattle.amqp_fields.specs.Made.{Maker, after, closed, made_each, made_given, made_items, own_index, made_behind, made_entry, made_leaf, made_long}
-use Rattle.amqp_fields.specs.Made.{made_nested, made_text, made_value}
+use Rattle.amqp_fields_write.specs.Made.{Maker, after, closed, made_each, made_given, made_items, own_index, made_behind, made_entry, made_leaf, made_long}
+use Rattle.amqp_fields_write.specs.Made.{made_nested, made_text, made_value}
 use Rattle.amqp_fields.specs.Meaning.{IsSpan}
 use Rattle.amqp_fields.specs.Nodes.{StandsFirst, held, spanned, blank, keyed}
-use Rattle.amqp_fields.specs.SameNodes.{HasInside, SameNodes}
-use Rattle.amqp_fields.proofs.EachMade.{each_next, each_none}
-use Rattle.amqp_fields.proofs.SameNodes.{same_append, same_length}
+use Rattle.amqp_fields_write.specs.SameNodes.{HasInside, SameNodes}
+use Rattle.amqp_fields_write.proofs.EachMade.{each_next, each_none}
+use Rattle.amqp_fields_write.proofs.SameNodes.{same_append, same_length}
 use Rattle.amqp_fields.proofs.Spans.{Stands, long_part, part_stands, span_of, stands_drop, short_part}
 use Rattle.amqp_fields.proofs.ValuesFound.{IsFresh, Keeps, map_read, all_took, keeps_itself, map_took}
 use Rattle.amqp_fields_laws.proofs.Twins.{long_made, span_made, IsMade, IsRound, stands_fit, decimal_round, eight_round, long_round, number_round}
@@ -35,7 +35,7 @@ use Rattle.amqp_types.specs.declared.tag.FieldTag.{FieldTag}
 use Rattle.amqp_types.specs.declared.tag.FieldTag.TheVariants as tag
 use Rattle.amqp_types.proofs.Took.{bind_took, count_took}
 use Rattle.amqp_laws.proofs.Tags.{tag_read}
-use Rattle.amqp_fields.proofs.ValuesMade.{value_parts}
+use Rattle.amqp_fields_write.proofs.ValuesMade.{value_parts}
 
 -- groups that were listed again, as many and with the same nodes
 pub record AreTwins (pool other : List ℕ) (groups : List (List Node)) (listed : Result (List (List Node)) Fault) : Type 0 where

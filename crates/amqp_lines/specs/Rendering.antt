@@ -1,9 +1,8 @@
 -- What calls write of canonical bytes. Where the bytes of a thing stand at the front, its text is
 -- appended; where other bytes stand there, or memory runs out, nothing is said.
-use Rattle.std.specs.Prelude.{◌≡◌, ℕ, ◌-◌, ◌<◌, Option, Some, None, List, [], ◌∷◌, ◌++◌, length}
+use Rattle.std.specs.Prelude.{◌≡◌, ℕ, ◌-◌, ◌<◌, Option, List, [], ◌∷◌, ◌++◌, length}
 use Rattle.std.specs.Prelude.{map, codes, true, Result, Ok, Err}
 use Rattle.std.specs.Fmt.{decimal, signed_decimal}
-use Rattle.amqp_canonical.specs.Writes.{IsRead}
 use Rattle.amqp_types.specs.Levels.{strict}
 use Rattle.amqp_types.specs.Judging.{Judged, Judge, took}
 use Rattle.amqp_types.specs.Sequences.{judge_map}
@@ -61,11 +60,6 @@ abbrev pub WritesEach : {A : Type 0} → (List ℕ → A → Type 0) → (A → 
 WritesEach {A} Spells text i old new (Ok done) =
     (xs : List A) → SpellsEach Spells i xs → new ≡ old ++ parted (map text xs)
 WritesEach Spells text i old new (Err error) = Unit {0}
-
--- what a length covers at the front, and how many bytes both are
-abbrev pub FindsContent : {K : Type 0} → (K → List ℕ) → Option (ℕ × K) → Judged (List ℕ) → Type 0
-FindsContent view (Some found) judged = judged ≡ took (view found.1) found.0
-FindsContent view None judged = IsRead judged → ⊥
 
 -- ---- values
 

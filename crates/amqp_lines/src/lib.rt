@@ -21,8 +21,9 @@ pub use equality::{equal_text_errors, equal_undump_errors};
 pub use errors::{TextError, UndumpError};
 pub use laws::{
     bytes_and_texts_correspond, dump_writes_lines, dumped_text_is_read_back,
-    equal_lines_are_equal_frames, equal_texts_are_equal_sequences, lines_fit_the_limit,
-    lines_have_one_newline, one_longest_text, strict_frames_are_usual, undump_undoes_dump,
+    equal_lines_are_equal_frames, equal_texts_are_equal_sequences, lines_are_bounded,
+    lines_fit_the_limit, lines_have_one_newline, one_longest_text, strict_frames_are_usual,
+    undump_undoes_dump,
 };
 pub use line_text::payload_in;
 pub use lines::write_line;

@@ -14,13 +14,10 @@ ghost use Rattle.amqp_lines.specs.Slots.{property_name, set_text, slots_text};
 ghost use Rattle.amqp_lines.specs.Rendering.{AppendsText, Renders, Says, SpellsOnes};
 ghost use Rattle.amqp_lines.specs.Rendering.{WritesForm, WritesText, slot_text};
 
-use crate::values::{
-    write_long_long_uint, write_long_string, write_long_uint, write_short_short_uint,
-    write_short_uint, write_table,
-};
+use crate::values::{write_leaf, write_table};
 use crate::words::{write_bytes, write_quoted, write_signs};
 use amqp_canonical::{Form, Slot, bytes_from, form_size, has_bit, property_shapes, split_key};
-use amqp_types::{INNER_DEPTH, Identifier, NoMemory};
+use amqp_types::{FieldTag, INNER_DEPTH, Identifier, NoMemory};
 
 /// So many flags of a byte.
 #[tactic(auto, unfolding(amqp_types::specs::Flags::judge_flags))]
@@ -48,18 +45,18 @@ fn write_short_string(out: &mut Vec<u8>, i: &[u8]) -> Result<usize, NoMemory>
 }
 
 /// What stands at the front, encoded so.
-#[tactic(auto, unfolding(crate::specs::Rendering::WritesForm))]
+#[tactic(auto, unfolding(crate::specs::Rendering::WritesForm, crate::specs::Rendering::WritesAfter))]
 fn write_form(out: &mut Vec<u8>, form: Form, i: &[u8]) -> Result<usize, NoMemory>
     ensures { WritesForm (form_of form) i.now out.old.items out.new.items result }
 {
     match form {
-        Form::Octet => write_short_short_uint(out, i),
-        Form::Short => write_short_uint(out, i),
-        Form::Long => write_long_uint(out, i),
-        Form::LongLong => write_long_long_uint(out, i),
+        Form::Octet => write_leaf(out, FieldTag::ShortShortUInt, i),
+        Form::Short => write_leaf(out, FieldTag::ShortUInt, i),
+        Form::Long => write_leaf(out, FieldTag::LongUInt, i),
+        Form::LongLong => write_leaf(out, FieldTag::Timestamp, i),
         Form::Flags(count) => write_flags(out, count, i),
         Form::ShortString => write_short_string(out, i),
-        Form::LongString => write_long_string(out, i),
+        Form::LongString => write_leaf(out, FieldTag::LongString, i),
         Form::Table => write_table(out, i, INNER_DEPTH),
     }
 }

@@ -1,213 +1,75 @@
 //! Values, arrays and tables as text, out of their canonical bytes.
-#![tactic(auto, using(crate::proofs::Rendered::unrendered, crate::proofs::Rendered::rendered_next), unfolding(crate::specs::Rendering::WritesAfter, amqp_types::specs::ValueJudging::judge_decimal))]
+#![tactic(auto, using(crate::proofs::Rendered::unrendered, crate::proofs::Rendered::rendered_next), unfolding(crate::specs::Rendering::WritesAfter))]
 
-ghost use Rattle.std.specs.Prelude.{◌≤◌, ◌<◌, ◌+◌, length, IfOk, IfSome};
+ghost use Rattle.std.specs.Prelude.{◌≡◌, ◌≤◌, ◌<◌, ◌+◌, length, IfOk};
 ghost use Rattle.amqp_types.specs.Levels.{strict};
-ghost use Rattle.amqp_types.specs.Numbers.{bytes1, bytes2, bytes4, bytes8};
-ghost use Rattle.amqp_types.specs.Booleans.{judge_boolean};
-ghost use Rattle.amqp_types.specs.Sequences.{judge_map};
-ghost use Rattle.amqp_types.specs.Strings.{judge_long_string};
-ghost use Rattle.amqp_types.specs.ValueJudging.{judge_decimal};
 ghost use Rattle.amqp_types.specs.ValueSpelling.{SpellsArray, SpellsEntry};
 ghost use Rattle.amqp_types.specs.ValueSpelling.{SpellsTable, SpellsValue};
-ghost use Rattle.amqp_lines.specs.Words.{hex, quoted};
 ghost use Rattle.amqp_lines.specs.Values.{tag_text, table_text, truth_text, value_text};
-ghost use Rattle.amqp_lines.specs.Rendering.{AppendsText, FindsContent, Renders, WritesAfter};
-ghost use Rattle.amqp_lines.specs.Rendering.{WritesEach, WritesText, array_text};
-ghost use Rattle.amqp_lines.specs.Rendering.{comma_before, decimal_text, entry_text};
-ghost use Rattle.amqp_lines.specs.Rendering.{rendered_number, rendered_signed};
+ghost use Rattle.amqp_lines.specs.Rendering.{AppendsText, WritesAfter, WritesEach, WritesText};
+ghost use Rattle.amqp_lines.specs.Rendering.{array_text, comma_before, entry_text};
 
 use crate::words::{write_bytes, write_decimal, write_hex, write_quoted, write_signed};
 use amqp_canonical::{bytes_from, split_key};
-use amqp_types::{FieldTag, NoMemory, parse_long_bytes};
+use amqp_types::{
+    FieldTag, NoMemory, parse_boolean, parse_decimal_value, parse_long_bytes, parse_long_int,
+    parse_long_long_int, parse_long_long_uint, parse_long_uint, parse_short_int,
+    parse_short_short_int, parse_short_short_uint, parse_short_uint,
+};
 
-/// What a length of 4 bytes covers at the front, and how many bytes both take.
+/// Writes what a parse call found, and gives the bytes that this takes: none where nothing was found.
+macro_rules! write_found {
+    ($found:expr, $it:ident => $written:expr) => {
+        match $found {
+            Ok((n, $it)) => {
+                $written?;
+                Ok(n)
+            }
+            Err(_) => Ok(0),
+        }
+    };
+}
+
+/// A truth value in one digit.
 #[inline(always)]
-pub(crate) fn split_long(i: &[u8]) -> Option<(usize, &[u8])>
-    ensures found { FindsContent (λ content. content.now) result (judge_long_string i.now) }
-    ensures bound { IfSome result (λ found. found.0 ≤ length i.now) }
+fn truth_text(truth: bool) -> &'static [u8]
+    ensures { result.now ≡ truth_text truth }
 {
-    match parse_long_bytes(i) {
-        Ok(found) => Some(found),
-        Err(_) => None,
-    }
+    if truth { b"1" } else { b"0" }
 }
 
-/// An unsigned number of 1 byte.
-pub(crate) fn write_short_short_uint(out: &mut Vec<u8>, i: &[u8]) -> Result<usize, NoMemory>
-    ensures rendered { Renders (rendered_number bytes1 i.now) out.old.items out.new.items result }
+/// The value after a tag; nothing is written of an array or a table.
+#[inline(always)]
+pub(crate) fn write_leaf(out: &mut Vec<u8>, tag: FieldTag, i: &[u8]) -> Result<usize, NoMemory>
+    ensures written { WritesAfter 0 tag i.now out.old.items out.new.items result }
     ensures used { IfOk result (λ n. n ≤ length i.now) }
 {
-    match i {
-        [byte, ..] => {
-            write_decimal(out, *byte as u64)?;
-            Ok(1)
+    match tag {
+        FieldTag::Boolean => write_found!(parse_boolean(i), b => write_bytes(out, truth_text(b))),
+        FieldTag::ShortShortInt => {
+            write_found!(parse_short_short_int(i), k => write_signed(out, k as i64))
         }
-        [] => Ok(0),
-    }
-}
-
-/// An unsigned number of 2 bytes.
-pub(crate) fn write_short_uint(out: &mut Vec<u8>, i: &[u8]) -> Result<usize, NoMemory>
-    ensures rendered { Renders (rendered_number bytes2 i.now) out.old.items out.new.items result }
-    ensures used { IfOk result (λ n. n ≤ length i.now) }
-{
-    match i {
-        [a, b, ..] => {
-            write_decimal(out, u16::from_be_bytes([*a, *b]) as u64)?;
-            Ok(2)
+        FieldTag::ShortInt => write_found!(parse_short_int(i), k => write_signed(out, k as i64)),
+        FieldTag::LongInt => write_found!(parse_long_int(i), k => write_signed(out, k as i64)),
+        FieldTag::LongLongInt => write_found!(parse_long_long_int(i), k => write_signed(out, k)),
+        FieldTag::ShortShortUInt => {
+            write_found!(parse_short_short_uint(i), k => write_decimal(out, k as u64))
         }
-        _ => Ok(0),
-    }
-}
-
-/// An unsigned number of 4 bytes.
-pub(crate) fn write_long_uint(out: &mut Vec<u8>, i: &[u8]) -> Result<usize, NoMemory>
-    ensures rendered { Renders (rendered_number bytes4 i.now) out.old.items out.new.items result }
-    ensures used { IfOk result (λ n. n ≤ length i.now) }
-{
-    match i {
-        [a, b, c, d, ..] => {
-            write_decimal(out, u32::from_be_bytes([*a, *b, *c, *d]) as u64)?;
-            Ok(4)
+        FieldTag::ShortUInt => write_found!(parse_short_uint(i), k => write_decimal(out, k as u64)),
+        FieldTag::LongUInt | FieldTag::Float => {
+            write_found!(parse_long_uint(i), k => write_decimal(out, k as u64))
         }
-        _ => Ok(0),
-    }
-}
-
-/// An unsigned number of 8 bytes.
-pub(crate) fn write_long_long_uint(out: &mut Vec<u8>, i: &[u8]) -> Result<usize, NoMemory>
-    ensures rendered { Renders (rendered_number bytes8 i.now) out.old.items out.new.items result }
-    ensures used { IfOk result (λ n. n ≤ length i.now) }
-{
-    match i {
-        [a, b, c, d, e, f, g, h, ..] => {
-            write_decimal(out, u64::from_be_bytes([*a, *b, *c, *d, *e, *f, *g, *h]))?;
-            Ok(8)
+        FieldTag::Double | FieldTag::Timestamp => {
+            write_found!(parse_long_long_uint(i), k => write_decimal(out, k))
         }
-        _ => Ok(0),
-    }
-}
-
-/// A signed number of 1 byte.
-fn write_short_short_int(out: &mut Vec<u8>, i: &[u8]) -> Result<usize, NoMemory>
-    ensures rendered { Renders (rendered_signed bytes1 i.now) out.old.items out.new.items result }
-    ensures used { IfOk result (λ n. n ≤ length i.now) }
-{
-    match i {
-        [byte, ..] => {
-            write_signed(out, i8::from_be_bytes([*byte]) as i64)?;
-            Ok(1)
-        }
-        [] => Ok(0),
-    }
-}
-
-/// A signed number of 2 bytes.
-fn write_short_int(out: &mut Vec<u8>, i: &[u8]) -> Result<usize, NoMemory>
-    ensures rendered { Renders (rendered_signed bytes2 i.now) out.old.items out.new.items result }
-    ensures used { IfOk result (λ n. n ≤ length i.now) }
-{
-    match i {
-        [a, b, ..] => {
-            write_signed(out, i16::from_be_bytes([*a, *b]) as i64)?;
-            Ok(2)
-        }
-        _ => Ok(0),
-    }
-}
-
-/// A signed number of 4 bytes.
-fn write_long_int(out: &mut Vec<u8>, i: &[u8]) -> Result<usize, NoMemory>
-    ensures rendered { Renders (rendered_signed bytes4 i.now) out.old.items out.new.items result }
-    ensures used { IfOk result (λ n. n ≤ length i.now) }
-{
-    match i {
-        [a, b, c, d, ..] => {
-            write_signed(out, i32::from_be_bytes([*a, *b, *c, *d]) as i64)?;
-            Ok(4)
-        }
-        _ => Ok(0),
-    }
-}
-
-/// A signed number of 8 bytes.
-fn write_long_long_int(out: &mut Vec<u8>, i: &[u8]) -> Result<usize, NoMemory>
-    ensures rendered { Renders (rendered_signed bytes8 i.now) out.old.items out.new.items result }
-    ensures used { IfOk result (λ n. n ≤ length i.now) }
-{
-    match i {
-        [a, b, c, d, e, f, g, h, ..] => {
-            write_signed(out, i64::from_be_bytes([*a, *b, *c, *d, *e, *f, *g, *h]))?;
-            Ok(8)
-        }
-        _ => Ok(0),
-    }
-}
-
-/// A truth value.
-fn write_boolean(out: &mut Vec<u8>, i: &[u8]) -> Result<usize, NoMemory>
-    ensures rendered { Renders (judge_map truth_text judge_boolean i.now)
-        out.old.items out.new.items result }
-    ensures used { IfOk result (λ n. n ≤ length i.now) }
-{
-    match i {
-        [] => Ok(0),
-        [0, ..] => {
-            write_bytes(out, b"0")?;
-            Ok(1)
-        }
-        [_, ..] => {
-            write_bytes(out, b"1")?;
-            Ok(1)
-        }
-    }
-}
-
-/// A scale and an unsigned number.
-fn write_decimal_value(out: &mut Vec<u8>, i: &[u8]) -> Result<usize, NoMemory>
-    ensures rendered { Renders (judge_map decimal_text judge_decimal i.now)
-        out.old.items out.new.items result }
-    ensures used { IfOk result (λ n. n ≤ length i.now) }
-{
-    match i {
-        [scale, a, b, c, d, ..] => {
-            write_decimal(out, *scale as u64)?;
+        FieldTag::DecimalValue => write_found!(parse_decimal_value(i), decimal => {
+            write_decimal(out, decimal.scale as u64)?;
             out.push(b'/')?;
-            write_decimal(out, u32::from_be_bytes([*a, *b, *c, *d]) as u64)?;
-            Ok(5)
-        }
-        _ => Ok(0),
-    }
-}
-
-/// A long string.
-pub(crate) fn write_long_string(out: &mut Vec<u8>, i: &[u8]) -> Result<usize, NoMemory>
-    ensures rendered { Renders (judge_map quoted judge_long_string i.now)
-        out.old.items out.new.items result }
-    ensures used { IfOk result (λ n. n ≤ length i.now) }
-{
-    match split_long(i) {
-        Some((used, content)) => {
-            write_quoted(out, content)?;
-            Ok(used)
-        }
-        None => Ok(0),
-    }
-}
-
-/// A byte array.
-fn write_byte_array(out: &mut Vec<u8>, i: &[u8]) -> Result<usize, NoMemory>
-    ensures rendered { Renders (judge_map hex judge_long_string i.now)
-        out.old.items out.new.items result }
-    ensures used { IfOk result (λ n. n ≤ length i.now) }
-{
-    match split_long(i) {
-        Some((used, content)) => {
-            write_hex(out, content)?;
-            Ok(used)
-        }
-        None => Ok(0),
+            write_decimal(out, decimal.value as u64)
+        }),
+        FieldTag::LongString => write_found!(parse_long_bytes(i), text => write_quoted(out, text)),
+        FieldTag::ByteArray => write_found!(parse_long_bytes(i), bytes => write_hex(out, bytes)),
+        FieldTag::FieldArray | FieldTag::FieldTable | FieldTag::Void => Ok(0),
     }
 }
 
@@ -240,7 +102,7 @@ fn write_tag(out: &mut Vec<u8>, tag: FieldTag) -> Result<(), NoMemory>
 /// Appends the text of a value at the front, and returns how many bytes it takes. Tables and arrays may nest `depth_left`
 /// deep in it.
 #[cycle(render)]
-pub(crate) fn write_value(out: &mut Vec<u8>, i: &[u8], depth_left: usize) -> Result<usize, NoMemory>
+fn write_value(out: &mut Vec<u8>, i: &[u8], depth_left: usize) -> Result<usize, NoMemory>
     ensures written { WritesText (SpellsValue strict depth_left)
         value_text i.now out.old.items out.new.items result }
     ensures used { IfOk result (λ n. (0 < n) × (n ≤ length i.now + 1)) }
@@ -259,6 +121,7 @@ pub(crate) fn write_value(out: &mut Vec<u8>, i: &[u8], depth_left: usize) -> Res
 }
 
 /// The value after a tag.
+#[inline(always)]
 #[cycle(render)]
 fn write_after_tag(
     out: &mut Vec<u8>,
@@ -270,61 +133,42 @@ fn write_after_tag(
     ensures used { IfOk result (λ n. n ≤ length i.now) }
 {
     match tag {
-        FieldTag::Boolean => write_boolean(out, i),
-        FieldTag::ShortShortInt => write_short_short_int(out, i),
-        FieldTag::ShortShortUInt => write_short_short_uint(out, i),
-        FieldTag::ShortInt => write_short_int(out, i),
-        FieldTag::ShortUInt => write_short_uint(out, i),
-        FieldTag::LongInt => write_long_int(out, i),
-        FieldTag::LongUInt | FieldTag::Float => write_long_uint(out, i),
-        FieldTag::LongLongInt => write_long_long_int(out, i),
-        FieldTag::Double | FieldTag::Timestamp => write_long_long_uint(out, i),
-        FieldTag::DecimalValue => write_decimal_value(out, i),
-        FieldTag::LongString => write_long_string(out, i),
-        FieldTag::ByteArray => write_byte_array(out, i),
-        FieldTag::FieldArray if depth_left == 0 => Ok(0),
+        FieldTag::FieldArray | FieldTag::FieldTable if depth_left == 0 => Ok(0),
         FieldTag::FieldArray => write_array(out, i, depth_left - 1),
-        FieldTag::FieldTable if depth_left == 0 => Ok(0),
         FieldTag::FieldTable => write_table(out, i, depth_left - 1),
-        FieldTag::Void => Ok(0),
+        _ => write_leaf(out, tag, i),
     }
 }
 
 /// An array.
+#[inline(always)]
 #[cycle(render)]
 fn write_array(out: &mut Vec<u8>, i: &[u8], depth_left: usize) -> Result<usize, NoMemory>
     ensures written { WritesText (SpellsArray (SpellsValue strict depth_left))
         array_text i.now out.old.items out.new.items result }
     ensures used { IfOk result (λ n. n ≤ length i.now) }
 {
-    match split_long(i) {
-        Some((used, content)) => {
-            out.push(b'[')?;
-            write_values(out, content, depth_left)?;
-            out.push(b']')?;
-            Ok(used)
-        }
-        None => Ok(0),
-    }
+    write_found!(parse_long_bytes(i), content => {
+        out.push(b'[')?;
+        write_values(out, content, depth_left)?;
+        out.push(b']')
+    })
 }
 
 /// Appends the text of a table at the front, and returns how many bytes it takes. Tables and arrays may nest `depth_left`
 /// deep in its values.
+#[inline(always)]
 #[cycle(render)]
 pub(crate) fn write_table(out: &mut Vec<u8>, i: &[u8], depth_left: usize) -> Result<usize, NoMemory>
     ensures written { WritesText (SpellsTable strict (SpellsValue strict depth_left))
         table_text i.now out.old.items out.new.items result }
     ensures used { IfOk result (λ n. n ≤ length i.now) }
 {
-    match split_long(i) {
-        Some((used, content)) => {
-            out.push(b'{')?;
-            write_entries(out, content, depth_left)?;
-            out.push(b'}')?;
-            Ok(used)
-        }
-        None => Ok(0),
-    }
+    write_found!(parse_long_bytes(i), content => {
+        out.push(b'{')?;
+        write_entries(out, content, depth_left)?;
+        out.push(b'}')
+    })
 }
 
 /// The values that fill an array.
@@ -358,6 +202,7 @@ fn write_entries(out: &mut Vec<u8>, content: &[u8], depth_left: usize) -> Result
 }
 
 /// An entry: its key, `=` and its value.
+#[inline(always)]
 #[cycle(render)]
 fn write_entry(out: &mut Vec<u8>, i: &[u8], depth_left: usize) -> Result<usize, NoMemory>
     ensures written { WritesText (SpellsEntry (SpellsValue strict depth_left))

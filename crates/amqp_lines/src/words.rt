@@ -1,6 +1,6 @@
 //! The words that lines are made of, appended to a vector: numbers, bytes in hex, quoted strings and flags.
 
-ghost use Rattle.std.specs.Prelude.{◌≡◌, ◌+◌, ◌<◌, ◌≤◌, [], ◌∷◌, drop, length};
+ghost use Rattle.std.specs.Prelude.{◌≡◌, ◌<◌, drop};
 ghost use Rattle.std.specs.Fmt.{decimal, signed_decimal};
 ghost use Rattle.amqp_types.specs.Flags.{flags_from};
 ghost use Rattle.amqp_lines.specs.Words.{escaped, hex, hex_byte, hex_digit};

@@ -1,7 +1,7 @@
 -- What is kept of channels, by their entries.
-use Rattle.std.proofs.Common.{◌≡◌, ◌≢◌, ℕ, Bool, true, false, cond, eqb, List, [], ◌∷◌, length, map, refl, sym, ap, ◌∙◌, arith, Option, Some, None}
+use Rattle.std.proofs.Common.{◌≡◌, ◌≢◌, ℕ, true, false, cond, eqb, List, [], ◌∷◌, length, map, refl, sym, ap, ◌∙◌, arith, Option, Some, None, inl, inr}
 use Rattle.std.specs.Prelude.{option_map}
-use Rattle.std.proofs.lemmas.Bool.{eq-eqb, ne_eqb}
+use Rattle.std.proofs.lemmas.Bool.{cases_Bool, eq-eqb, ne_eqb}
 use Rattle.std.proofs.lemmas.List.{length-map}
 use Rattle.std.specs.FinMap as finite
 use Rattle.std.specs.FinMap.{get-insert, get-remove, get-from_entries, get-entries, get-empty, len-entries, len-empty, empty_of_len, same_map}
@@ -23,6 +23,9 @@ at_itself k = grind (arith, common_steps)
 pub at_other : (q k : ℕ) → q ≢ k → eq_by_cmp nat_cmp q k ≡ false
 at_other q k ne = grind (arith, common_steps)
 
+same_at : (q k : ℕ) → eq_by_cmp nat_cmp q k ≡ true → q ≡ k
+same_at q k e = grind (arith, common_steps)
+
 module _ {K : Type 0} where
   -- After a channel is set, what was set is kept of it, and of others what was.
   pub get-set_at : (holding : ByChannel K) (channel : ℕ) (held : Option K) (q : ℕ)
@@ -35,22 +38,18 @@ module _ {K : Type 0} where
 
   -- what is kept of a channel is set again
   pub set_at-same : (holding : ByChannel K) (channel : ℕ) → holding ≡ set_at holding channel (finite.get holding channel)
-  set_at-same holding channel =
-      same_holding holding _ (λ q. sym (get-set_at holding channel (finite.get holding channel) q ∙ stays q (eq_by_cmp nat_cmp q channel) refl))
-    where
-      stays : (q : ℕ) (b : Bool) → eq_by_cmp nat_cmp q channel ≡ b → cond b (finite.get holding channel) (finite.get holding q) ≡ finite.get holding q
-      stays q true e = let same : channel ≡ q = grind (arith, common_steps) in ap (finite.get holding) same
-      stays q false e = refl
+  set_at-same holding channel = same_holding holding _ (λ q. elim (cases_Bool (eq_by_cmp nat_cmp q channel)) [
+    | inl e ↦ rw (get-set_at holding channel (finite.get holding channel) q, e) (ap (finite.get holding) (same_at q channel e))
+    | inr e ↦ rw (get-set_at holding channel (finite.get holding channel) q, e) refl
+  ])
 
   -- what was set for the first time is taken back
   pub set_back : (holding : ByChannel K) (channel : ℕ) (held : K) → finite.get holding channel ≡ None
       → finite.remove (finite.insert holding channel held) channel ≡ holding
-  set_back holding channel held none = same_holding _ holding (λ q.
-      get-set_at (finite.insert holding channel held) channel None q ∙ by_test q (eq_by_cmp nat_cmp q channel) refl)
-    where
-      by_test : (q : ℕ) (b : Bool) → eq_by_cmp nat_cmp q channel ≡ b → cond b None (finite.get (finite.insert holding channel held) q) ≡ finite.get holding q
-      by_test q true e = let same : channel ≡ q = grind (arith, common_steps) in sym none ∙ ap (finite.get holding) same
-      by_test q false e = get-set_at holding channel (Some held) q ∙ ap (λ b. cond b (Some held) (finite.get holding q)) e
+  set_back holding channel held none = same_holding _ holding (λ q. elim (cases_Bool (eq_by_cmp nat_cmp q channel)) [
+    | inl e ↦ rw (get-set_at (finite.insert holding channel held) channel None q, e) (sym none ∙ ap (finite.get holding) (sym (same_at q channel e)))
+    | inr e ↦ rw (get-set_at (finite.insert holding channel held) channel None q, e, get-set_at holding channel (Some held) q, e) refl
+  ])
 
   -- nothing is kept, or something of some channel
   pub none_held : (m : ByChannel K) → finite.len m ≡ 0 → (q : ℕ) → finite.get m q ≡ None
@@ -74,11 +73,7 @@ module _ {K : Type 0} where
 
   find_kept : (es : List (ℕ × K)) (q : ℕ) → find nat_cmp q es ≡ kept_at es q
   find_kept [] q = refl
-  find_kept (e ∷ es) q = by_test (is_at (nat_cmp q) e.0) (find_kept es q)
-    where
-      by_test : (b : Bool) → find nat_cmp q es ≡ kept_at es q → cond b (Some e.1) (find nat_cmp q es) ≡ cond b (Some e.1) (kept_at es q)
-      by_test true rest = refl
-      by_test false rest = rest
+  find_kept (e ∷ es) q = ap (λ o. cond (is_at (nat_cmp q) e.0) (Some e.1) o) (find_kept es q)
 
   -- What is kept of a channel by entries is the value of its entry.
   pub get-holding : (es : List (ℕ × K)) (q : ℕ) → finite.get (holding_of es) q ≡ kept_at es q
@@ -87,14 +82,12 @@ module _ {K : Type 0} where
   -- Entries with a new value for one channel, and those that were for others, are what was kept with this channel set.
   pub holding_updated : (es new : List (ℕ × K)) (channel : ℕ) (held : Option K) → kept_at new channel ≡ held
       → OthersStay channel es new → holding_of new ≡ set_at (holding_of es) channel held
-  holding_updated es new channel held here stay = same_holding _ _ (λ q.
-      get-holding new q ∙ by_test q (eq_by_cmp nat_cmp q channel) refl ∙ sym (get-set_at (holding_of es) channel held q))
-    where
-      by_test : (q : ℕ) (b : Bool) → eq_by_cmp nat_cmp q channel ≡ b → kept_at new q ≡ cond b held (finite.get (holding_of es) q)
-      by_test q true e = let same : q ≡ channel = grind (arith, common_steps) in ap (λ k. kept_at new k) same ∙ here
-      by_test q false e =
-          let apart : q ≢ channel = λ same. let t = ap (λ k. eq_by_cmp nat_cmp k channel) same ∙ at_itself channel in let no : true ≡ false = sym t ∙ e in cc in
-          stay q apart ∙ sym (get-holding es q)
+  holding_updated es new channel held here stay = same_holding _ _ (λ q. elim (cases_Bool (eq_by_cmp nat_cmp q channel)) [
+    | inl e ↦ rw (get-holding new q, get-set_at (holding_of es) channel held q, e) (ap (λ k. kept_at new k) (same_at q channel e) ∙ here)
+    | inr e ↦
+        let apart : q ≢ channel = λ same. let t = ap (λ k. eq_by_cmp nat_cmp k channel) same ∙ at_itself channel in let no : true ≡ false = sym t ∙ e in cc in
+        rw (get-holding new q, get-set_at (holding_of es) channel held q, e) (stay q apart ∙ sym (get-holding es q))
+  ])
 
   -- There are no entries exactly where nothing is kept of any channel.
   pub holding_empty : (es : List (ℕ × K)) → eqb (length es) 0 ≡ eqb (finite.len (holding_of es)) 0
@@ -119,12 +112,7 @@ module _ {X K : Type 0} (f : X → K) where
 
   kept-map : (es : List (ℕ × X)) (q : ℕ) → kept_at (map entry_of es) q ≡ option_map f (kept_at es q)
   kept-map [] q = refl
-  kept-map (e ∷ es) q = by_test (is_at (nat_cmp q) e.0) (kept-map es q)
-    where
-      by_test : (b : Bool) → kept_at (map entry_of es) q ≡ option_map f (kept_at es q)
-          → cond b (Some (f e.1)) (kept_at (map entry_of es) q) ≡ option_map f (cond b (Some e.1) (kept_at es q))
-      by_test true rest = refl
-      by_test false rest = rest
+  kept-map (e ∷ es) q = elim (cases_Bool (is_at (nat_cmp q) e.0)) [ inl t ↦ rw t refl | inr t ↦ rw t (kept-map es q) ]
 
   pub get-seen : (es : List (ℕ × X)) (q : ℕ) → finite.get (seen_of es) q ≡ option_map f (kept_at es q)
   get-seen es q = get-holding (map entry_of es) q ∙ kept-map es q

@@ -1,13 +1,13 @@
 -- The frames of a channel in turn, and the messages that they complete.
-use Rattle.std.proofs.Common.{◌≡◌, ℕ, ◌<◌, ◌≤◌, Bool, true, false, List, [], ◌∷◌, ◌++◌, append-nil, map, refl, ap, subst, ◌∙◌}
+use Rattle.std.proofs.Common.{◌≡◌, ℕ, ◌<◌, ◌≤◌, true, List, [], ◌∷◌, ◌++◌, append-nil, map, refl, ap, ◌∙◌, inl, inr}
 use Rattle.std.specs.List.{AllByRecursion, flat_map}
-use Rattle.std.proofs.lemmas.Bool.{eqb-true}
+use Rattle.std.proofs.lemmas.Bool.{cases_Bool, eqb-true}
 use Rattle.std.proofs.lemmas.List.{map-append}
-use Rattle.amqp_wire.specs.Frames.{Frame, Proto, Meth, Head, Body, Beat, BadBeat, channel_id_of}
+use Rattle.amqp_wire.specs.Frames.{Frame, Proto, Beat, BadBeat, channel_id_of}
 use Rattle.amqp_wire.specs.Outlines.{outline_of}
 use Rattle.amqp_turns.specs.Units.{Finished, Full, Begun, Nothing, Opened, Headed, IsOpening, IsBasicHeader, size_in, IsInTurn, is_of_channel, of_channel}
 use Rattle.amqp_turns.specs.Answers.{Answer, Ends, bodies_within, begun_answers, finished_answers}
-use Rattle.amqp_turns.specs.Stands.{State, At}
+use Rattle.amqp_turns.specs.Stands.{At}
 use Rattle.amqp_turns.specs.Steps.{step, run_answers}
 use Rattle.amqp_turns.specs.Messages.{Content, content_with}
 use Rattle.amqp_turns.specs.Outcomes.{answer_outcome}
@@ -24,26 +24,18 @@ IsOn channel frame = is_of_channel outline_of channel frame ≡ true
 
 -- A frame of a channel's content has the id of the channel.
 pub channel_is : (channel : ℕ) (frame : Frame) → IsOn channel frame → channel_id_of frame ≡ channel
-channel_is channel (Meth other m) h = eqb-true other channel h
-channel_is channel (Head other header) h = eqb-true other channel h
-channel_is channel (Body other content) h = eqb-true other channel h
 channel_is channel (Proto major minor revision) h = absurd cc
 channel_is channel Beat h = absurd cc
 channel_is channel (BadBeat other) h = absurd cc
+channel_is channel frame h = eqb-true _ channel h
 
 -- The frames of a channel's content are all of this channel.
 pub all_on : (channel : ℕ) (frames : List Frame) → AllByRecursion (IsOn channel) (of_channel outline_of channel frames)
 all_on channel [] = tt
-all_on channel (frame ∷ frames) = by_test (is_of_channel outline_of channel frame) refl (all_on channel frames)
-  where
-    by_test : (test : Bool) → is_of_channel outline_of channel frame ≡ test → AllByRecursion (IsOn channel) (of_channel outline_of channel frames)
-        → AllByRecursion (IsOn channel) (of_channel outline_of channel (frame ∷ frames))
-    by_test true e rest =
-        let has : frame ∷ of_channel outline_of channel frames ≡ of_channel outline_of channel (frame ∷ frames) = rw e refl in
-        subst (AllByRecursion (IsOn channel)) has (e, rest)
-    by_test false e rest =
-        let has : of_channel outline_of channel frames ≡ of_channel outline_of channel (frame ∷ frames) = rw e refl in
-        subst (AllByRecursion (IsOn channel)) has rest
+all_on channel (frame ∷ frames) = elim (cases_Bool (is_of_channel outline_of channel frame)) [
+  | inl e ↦ rw e (e, all_on channel frames)
+  | inr e ↦ rw e (all_on channel frames)
+]
 
 -- What holds of all of two lists holds of all of the first one.
 pub all_front : {X : Type 0} (P : X → Type 0) (xs ys : List X) → AllByRecursion P (xs ++ ys) → AllByRecursion P xs
@@ -59,13 +51,13 @@ all_back P (x ∷ xs) ys h = all_back P xs ys h.1
 
 -- A method that begins a message, where none has begun, leaves a message with this opening.
 pub opened : (opening : Frame) → IsOpening (outline_of opening) → (step outline_of greatest (At Nothing) opening).1 ≡ At (Opened opening)
-opened opening h = ap (λ (p : Answer Frame × State Frame). p.1) (opening_step outline_of greatest opening (outline_of opening) refl h)
+opened opening h = rw (opening_step outline_of greatest opening (outline_of opening) refl h) refl
 
 -- After an opening, a content header of the class basic with a size above zero leaves a message with both.
 pub headed_by : (opening header : Frame) → IsBasicHeader (outline_of header) → size_in (outline_of header) ≤ greatest
     → 0 < size_in (outline_of header) → (step outline_of greatest (At (Opened opening)) header).1 ≡ At (Headed opening header [])
 headed_by opening header basic fits some =
-    ap (λ (p : Answer Frame × State Frame). p.1) (header_step outline_of greatest opening header (outline_of header) refl basic fits some)
+    rw (header_step outline_of greatest opening header (outline_of header) refl basic fits some) refl
 
 -- ---- the messages that answers complete
 
@@ -82,16 +74,15 @@ held_bodies opening header before [] = refl
 held_bodies opening header before (body ∷ bodies) = held_bodies opening header (before ++ body ∷ []) bodies
 
 held_begun : (begun : Begun Frame) → done_by (begun_answers begun) ≡ []
-held_begun Nothing = refl
-held_begun (Opened opening) = refl
 held_begun (Headed opening header bodies) = held_bodies opening header [] bodies
+held_begun begun = refl
 
 -- The frames of a message with a body complete just this message.
 pub full_done : (opening header : Frame) (bodies : List Frame) (last : Frame)
     → done_by (finished_answers (Full opening header bodies last)) ≡ content_with (Headed opening header bodies) last ∷ []
 full_done opening header bodies last =
     done_by_append (begun_answers (Headed opening header bodies)) (Ends (Headed opening header bodies) last ∷ [])
-    ∙ ap (λ cs. cs ++ content_with (Headed opening header bodies) last ∷ []) (held_begun (Headed opening header bodies))
+    ∙ rw (held_begun (Headed opening header bodies)) refl
 
 -- the messages of finished units
 abbrev pub done_of : List (Finished Frame) → List Content

@@ -1,6 +1,6 @@
 -- Pieces of bytes: one by one, joined again, none of them empty, and cut off again after more bytes.
 use Rattle.std.proofs.Common.{◌≡◌, ℕ, ◌+◌, ◌-◌, ◌*◌, ◌/◌, ◌%◌, ◌<◌, ◌≤◌, min, ap₂, zero, suc, Bool, true, false, List, [], ◌∷◌, ◌++◌, Some, length, map, take}
-use Rattle.std.proofs.Common.{drop, refl, sym, ap, ◌∙◌, arith}
+use Rattle.std.proofs.Common.{drop, refl, sym, ap, ◌∙◌, arith, zero-mul, zero-add}
 use Rattle.std.specs.Prelude.{slice_get}
 use Rattle.std.proofs.Math.Seq.{take-add}
 use Rattle.std.proofs.lemmas.List.{append-nil, append_assoc, drop-drop, drop_all, drop-append-le, take-append-le, length-append, length-drop, length-take}
@@ -17,36 +17,31 @@ length-chunks m zero bytes = refl
 length-chunks m (suc n) bytes = ap suc (length-chunks m n (drop m bytes))
 
 drop_more : (m k : ℕ) (bytes : List ℕ) → drop (k * m) (drop m bytes) ≡ drop (suc k * m) bytes
-drop_more m k bytes = let place : m + k * m ≡ suc k * m = omega arith in drop-drop (k * m) m bytes ∙ ap (λ n. drop n bytes) place
+drop_more m k bytes = let place : m + k * m ≡ suc k * m = omega arith in rw (drop-drop (k * m) m bytes, place) refl
 
 -- Chunk k has the bytes from k times the size of a chunk on, up to this size.
 pub chunk_at : (m n k : ℕ) (bytes : List ℕ) → k < n → slice_get (chunks m n bytes) k ≡ Some (take m (drop (k * m) bytes))
 chunk_at m zero k bytes h = absurd (omega arith)
-chunk_at m (suc n) zero bytes h = let start : 0 ≡ zero * m = omega arith in ap (λ p. Some (take m (drop p bytes))) start
-chunk_at m (suc n) (suc k) bytes h = chunk_at m n k (drop m bytes) (omega arith) ∙ ap (λ (xs : List ℕ). Some (take m xs)) (drop_more m k bytes)
+chunk_at m (suc n) zero bytes h = rw zero-mul refl
+chunk_at m (suc n) (suc k) bytes h = rw (chunk_at m n k (drop m bytes) (omega arith), drop_more m k bytes) refl
 
 chunks-later : (m a b : ℕ) (bytes : List ℕ) → chunks m (a + b) bytes ≡ chunks m a bytes ++ chunks m b (drop (a * m) bytes)
-chunks-later m zero b bytes =
-    let none : zero + b ≡ b = omega arith in
-    let start : 0 ≡ zero * m = omega arith in
-    ap (λ n. chunks m n bytes) none ∙ ap (λ p. chunks m b (drop p bytes)) start
+chunks-later m zero b bytes = rw (zero-add, zero-mul) refl
 chunks-later m (suc a) b bytes =
     let more : suc a + b ≡ suc (a + b) = omega arith in
-    ap (λ n. chunks m n bytes) more
-    ∙ ap (λ ps. take m bytes ∷ ps) (chunks-later m a b (drop m bytes) ∙ ap (λ (xs : List ℕ). chunks m a (drop m bytes) ++ chunks m b xs) (drop_more m a bytes))
+    rw (more, chunks-later m a b (drop m bytes), drop_more m a bytes) refl
 
 chunks-front : (m a : ℕ) (xs ys : List ℕ) → a * m ≤ length xs → chunks m a (xs ++ ys) ≡ chunks m a xs
 chunks-front m zero xs ys h = refl
 chunks-front m (suc a) xs ys h =
     let fits : m ≤ length xs = omega arith in
-    ap₂ (λ p ps. p ∷ ps) (take-append-le m xs ys fits)
-    (ap (chunks m a) (drop-append-le m xs ys fits) ∙ chunks-front m a (drop m xs) ys (omega (arith, length-drop m xs)))
+    rw (take-append-le m xs ys fits, drop-append-le m xs ys fits, chunks-front m a (drop m xs) ys (omega (arith, length-drop m xs))) refl
 
 pub flat-chunks : (m n : ℕ) (bytes : List ℕ) → flat_map (λ part. part) (chunks m n bytes) ≡ take (n * m) bytes
-flat-chunks m zero bytes = let start : 0 ≡ zero * m = omega arith in ap (λ p. take p bytes) start
+flat-chunks m zero bytes = rw zero-mul refl
 flat-chunks m (suc n) bytes =
     let place : m + n * m ≡ suc n * m = omega arith in
-    ap (λ r. take m bytes ++ r) (flat-chunks m n (drop m bytes)) ∙ sym (take-add m (n * m) bytes) ∙ ap (λ p. take p bytes) place
+    rw (flat-chunks m n (drop m bytes), ← place) (sym (take-add m (n * m) bytes))
 
 some_in : (m n : ℕ) (bytes : List ℕ) → 1 ≤ m → n * m < length bytes + m → AllByRecursion (λ part. 1 ≤ length part) (chunks m n bytes)
 some_in m zero bytes h most = tt
@@ -111,30 +106,28 @@ piece_starts m n k false h less =
 
 -- nothing is cut off nothing
 pub given-nothing : (m : ℕ) (ends : Bool) (bytes : List ℕ) → 1 ≤ m → length bytes ≡ 0 → pieces_given m ends bytes ≡ []
-given-nothing m ends bytes h none = ap (λ n. chunks m n bytes) (ap (cut_count m ends) none ∙ count-none m ends h)
+given-nothing m ends bytes h none = rw (none, count-none m ends h) refl
 
 -- one piece of the whole size
 pub given-more : (m : ℕ) (ends : Bool) (bytes : List ℕ) → 1 ≤ m → m ≤ length bytes
     → pieces_given m ends bytes ≡ take m bytes ∷ pieces_given m ends (drop m bytes)
-given-more m ends bytes h fits =
-    ap (λ n. chunks m n bytes) (count-more m ends (length bytes) h fits ∙ ap (λ n. suc (cut_count m ends n)) (sym (length-drop m bytes)))
+given-more m ends bytes h fits = rw (count-more m ends (length bytes) h fits, length-drop m bytes) refl
 
 pub pieces-none : (m : ℕ) → 1 ≤ m → pieces m [] ≡ []
 pieces-none m h = given-nothing m true [] h refl
 
 pub pieces-more : (m : ℕ) (bytes : List ℕ) → 1 ≤ m → 1 ≤ length bytes → pieces m bytes ≡ take m bytes ∷ pieces m (drop m bytes)
-pieces-more m bytes h some = ap (λ n. chunks m n bytes) (last_count m (length bytes) h some ∙ ap (λ n. suc (cut_count m true n)) (sym (length-drop m bytes)))
+pieces-more m bytes h some = rw (last_count m (length bytes) h some, length-drop m bytes) refl
 
 -- the last piece of a body
 pub given-ended : (m : ℕ) (bytes : List ℕ) → 1 ≤ m → 1 ≤ length bytes → length bytes ≤ m → pieces m bytes ≡ bytes ∷ []
-given-ended m bytes h some less =
-    pieces-more m bytes h some ∙ ap₂ (λ p ps. p ∷ ps) (take_all m bytes less) (ap (pieces m) (drop_all m bytes less) ∙ pieces-none m h)
+given-ended m bytes h some less = rw (pieces-more m bytes h some, take_all m bytes less, drop_all m bytes less, pieces-none m h) refl
 
 -- bytes of the size are one piece, and nothing is left
 pub one-whole : (m : ℕ) (bytes : List ℕ) → 1 ≤ m → length bytes ≡ m → whole_pieces m bytes ≡ bytes ∷ []
 one-whole m bytes h full =
     let none : length (drop m bytes) ≡ 0 = omega (arith, full, length-drop m bytes) in
-    given-more m false bytes h (omega arith) ∙ ap₂ (λ p ps. p ∷ ps) (take_all m bytes (omega arith)) (given-nothing m false (drop m bytes) h none)
+    rw (given-more m false bytes h (omega arith), take_all m bytes (omega arith), given-nothing m false (drop m bytes) h none) refl
 
 -- Nothing is left over of one piece of the whole size.
 pub left-none : (m : ℕ) (bytes : List ℕ) → 1 ≤ m → length bytes ≡ m → left_over m bytes ≡ []
@@ -144,13 +137,11 @@ left-none m bytes h full =
 
 -- Fewer bytes than the size of a piece make no whole piece.
 pub whole-none : (m : ℕ) (bytes : List ℕ) → length bytes < m → whole_pieces m bytes ≡ []
-whole-none m bytes less = ap (λ n. chunks m n bytes) (no_whole (length bytes) m less)
+whole-none m bytes less = rw (no_whole (length bytes) m less) refl
 
 -- Fewer bytes than the size of a piece are all left over.
 pub left-all : (m : ℕ) (bytes : List ℕ) → length bytes < m → left_over m bytes ≡ bytes
-left-all m bytes less =
-    let none : (length bytes / m) * m ≡ 0 = ap (λ n. n * m) (no_whole (length bytes) m less) ∙ omega arith in
-    ap (λ n. drop n bytes) none
+left-all m bytes less = rw (no_whole (length bytes) m less, zero-mul) refl
 
 -- What is left over is shorter than a piece.
 pub left_short : (m : ℕ) (bytes : List ℕ) → 1 ≤ m → length (left_over m bytes) < m
@@ -227,27 +218,20 @@ left_is m count front back e =
 
 -- no more is taken than there is
 pub short_take : (xs : List ℕ) (m : ℕ) → take (min (length xs) m) xs ≡ take m xs
-short_take xs m =
-    let same : min (length xs) m ≡ min m (length xs) = omega arith in
-    ap (λ k. take k xs) same ∙ take_min m xs
+short_take xs m = let same : min (length xs) m ≡ min m (length xs) = omega arith in rw same (take_min m xs)
 
 -- Dropping bytes, but no more than there are, drops the same.
 pub short_drop : (xs : List ℕ) (m : ℕ) → drop (min (length xs) m) xs ≡ drop m xs
-short_drop xs m =
-    let same : min (length xs) m ≡ min m (length xs) = omega arith in
-    ap (λ k. drop k xs) same ∙ drop_min m xs
+short_drop xs m = let same : min (length xs) m ≡ min m (length xs) = omega arith in rw same (drop_min m xs)
 
 -- one piece more is taken off
 pub pieces-taken : {A : Type 0} (f : List ℕ → A) (m n : ℕ) (done : List A) (rest piece left : List ℕ) → 1 ≤ m → 1 ≤ length rest → n ≡ min (length rest) m
     → piece ≡ take n rest → left ≡ drop n rest → (done ++ f piece ∷ []) ++ map f (pieces m left) ≡ done ++ map f (pieces m rest)
 pieces-taken f m n done rest piece left h some is piece_is left_is =
-    let first : piece ≡ take m rest = piece_is ∙ ap (λ k. take k rest) is ∙ short_take rest m in
-    let second : left ≡ drop m rest = left_is ∙ ap (λ k. drop k rest) is ∙ short_drop rest m in
-    append_assoc done (f piece ∷ []) (map f (pieces m left))
-    ∙ ap₂ (λ p l. done ++ (f p ∷ map f (pieces m l))) first second
-    ∙ ap (λ ps. done ++ map f ps) (sym (pieces-more m rest h some))
+    rw (append_assoc done (f piece ∷ []) (map f (pieces m left)), piece_is, left_is, is, short_take rest m, short_drop rest m)
+    (ap (λ ps. done ++ map f ps) (sym (pieces-more m rest h some)))
 
 -- nothing is left
 pub pieces-over : {A : Type 0} (f : List ℕ → A) (m : ℕ) (done all : List A) (rest : List ℕ)
     → 1 ≤ m → length rest ≡ 0 → done ++ map f (pieces m rest) ≡ all → done ≡ all
-pieces-over f m done all rest h none is = sym (ap (λ ps. done ++ map f ps) (given-nothing m true rest h none) ∙ append-nil done) ∙ is
+pieces-over f m done all rest h none is = rw (given-nothing m true rest h none, append-nil) at is

@@ -1,7 +1,8 @@
 -- Frames one after another: what the steps give is the one reading of them by their longest prefix in turn.
-use Rattle.std.proofs.Common.{◌≡◌, ℕ, ◌+◌, ◌<◌, ◌≤◌, true, false, eqb, leb, List, [], ◌∷◌, ◌++◌, length, map, append_assoc, refl, sym, ap}
-use Rattle.std.proofs.Common.{subst, ◌∙◌, arith, inl, inr, ◌⊎◌}
+use Rattle.std.proofs.Common.{◌≡◌, ℕ, ◌+◌, ◌<◌, ◌≤◌, true, false, eqb, leb, List, [], ◌∷◌, ◌++◌, length, map, append_assoc, refl, sym, ap, subst, ◌∙◌, arith}
+use Rattle.std.proofs.Common.{inl, inr, ◌⊎◌}
 use Rattle.std.proofs.lemmas.List.{append-nil, length-append, length_push}
+use Rattle.std.proofs.lemmas.List.Concat.{flat_map-append}
 use Rattle.std.specs.List.{AllByRecursion, flat_map}
 use Rattle.std.proofs.lemmas.Bool.{eq-eqb, ne_eqb}
 use Rattle.std.proofs.lemmas.Bool.Decides.{nat_tests}
@@ -10,11 +11,11 @@ use Rattle.amqp_wire.specs.declared.outline.FrameOutline.TheVariants as outlines
 use Rattle.amqp_turns.specs.declared.fault.ContentFault.TheVariants as faults
 use Rattle.amqp_turns.specs.Units.{IsOpening, IsOtherMethod, IsBasicHeader, IsBody, size_in, count_in, bytes_in, Finished, Lone, Empty, Full, Begun, Nothing}
 use Rattle.amqp_turns.specs.Units.{Opened, Headed, begun_frames, finished_frames, frames_in, IsBegun, IsFinished, IsInTurn, Reading}
-use Rattle.amqp_turns.specs.Answers.{Answer, Alone, Within, Ends, Wrong, bodies_within, begun_answers, finished_answers, fault_after, answers_in, rest_answers}
-use Rattle.amqp_turns.specs.Answers.{answers_of, Answers, IsLastAnswer}
+use Rattle.amqp_turns.specs.Answers.{Answer, Alone, Within, Ends, Wrong, bodies_within, begun_answers, finished_answers, answers_in, rest_answers, answers_of}
+use Rattle.amqp_turns.specs.Answers.{Answers, IsLastAnswer}
 use Rattle.amqp_turns.specs.Stands.{State, At, Lost, state_after, Stands}
 use Rattle.amqp_turns.specs.Steps.{step, run_answers, run_state}
-use Rattle.amqp_turns.proofs.Moving.{Moved, closes, grows, refused, moved}
+use Rattle.amqp_turns.proofs.Moving.{all-append, bytes_in-push, Moved, closes, grows, refused, moved}
 
 module _ {X : Type 0} (outline : X → FrameOutline) (max : ℕ) where
   -- steps over frames give these outcomes and this state
@@ -29,7 +30,7 @@ module _ {X : Type 0} (outline : X → FrameOutline) (max : ℕ) where
   pub run_answers-append : (state : State X) (xs ys : List X)
       → run_answers outline max state (xs ++ ys) ≡ run_answers outline max state xs ++ run_answers outline max (run_state outline max state xs) ys
   run_answers-append state [] ys = refl
-  run_answers-append state (x ∷ xs) ys = ap (λ rs. (step outline max state x).0 ∷ rs) (run_answers-append (step outline max state x).1 xs ys)
+  run_answers-append state (x ∷ xs) ys = rw (run_answers-append (step outline max state x).1 xs ys) refl
 
   -- The state after frames one after the other is that of the others from the state after the first.
   pub run_state-append : (state : State X) (xs ys : List X) → run_state outline max state (xs ++ ys) ≡ run_state outline max (run_state outline max state xs) ys
@@ -37,40 +38,30 @@ module _ {X : Type 0} (outline : X → FrameOutline) (max : ℕ) where
   run_state-append state (x ∷ xs) ys = run_state-append (step outline max state x).1 xs ys
 
   pub runs_append : {a b c : State X} {xs ys : List X} {rs ts : List (Answer X)} → Runs a xs rs b → Runs b ys ts c → Runs a (xs ++ ys) (rs ++ ts) c
-  runs_append {a = a} {b = b} {c = c} {xs = xs} {ys = ys} {rs = rs} {ts = ts} h g = record {
-    answers_are =
-        run_answers-append a xs ys ∙ ap (λ r. r ++ run_answers outline max (run_state outline max a xs) ys) h.answers_are
-        ∙ ap (λ s. rs ++ run_answers outline max s ys) h.state_is ∙ ap (λ t. rs ++ t) g.answers_are;
-    state_is = run_state-append a xs ys ∙ ap (λ s. run_state outline max s ys) h.state_is ∙ g.state_is;
+  runs_append {a = a} {xs = xs} {ys = ys} h g = record {
+    answers_are = rw (run_answers-append a xs ys, h.answers_are, h.state_is, g.answers_are) refl;
+    state_is = rw (run_state-append a xs ys, h.state_is) g.state_is;
   }
 
   runs_step : (a : State X) (x : X) {b : State X} {r : Answer X} → step outline max a x ≡ (r, b) → Runs a (x ∷ []) (r ∷ []) b
-  runs_step a x e = record { answers_are = ap (λ (p : Answer X × State X). p.0 ∷ []) e; state_is = ap (λ (p : Answer X × State X). p.1) e }
+  runs_step a x e = record { answers_are = rw e refl; state_is = ap (λ (p : Answer X × State X). p.1) e }
 
   -- ---- a faulted channel
 
   runs_lost : (xs : List X) → Runs Lost xs (map (λ _. Wrong faults.Faulted) xs) Lost
   runs_lost [] = runs_nothing Lost
-  runs_lost (x ∷ xs) =
-      let rest = runs_lost xs in
-      record { answers_are = ap (λ rs. Wrong faults.Faulted ∷ rs) rest.answers_are; state_is = rest.state_is }
+  runs_lost (x ∷ xs) = let rest = runs_lost xs in record { answers_are = rw rest.answers_are refl; state_is = rest.state_is }
 
   -- ---- frames in turn
 
   -- Between units an opening is part of a message, and leaves it begun.
   pub opening_step : (x : X) (o : FrameOutline) → outline x ≡ o → IsOpening o → step outline max (At Nothing) x ≡ (Within Nothing x, At (Opened x))
-  opening_step x (outlines.Method channel class id) e h = rw e (rw h refl)
-  opening_step x outlines.ProtocolHeader e h = absurd h
-  opening_step x (outlines.Header channel class size) e h = absurd h
-  opening_step x (outlines.Body channel count) e h = absurd h
-  opening_step x (outlines.Heartbeat channel) e h = absurd h
+  opening_step x (outlines.Method channel class id) e h = rw (e, h) refl
+  opening_step x o e h = absurd h
 
   lone_step : (x : X) (o : FrameOutline) → outline x ≡ o → IsOtherMethod o → step outline max (At Nothing) x ≡ (Alone x, At Nothing)
-  lone_step x (outlines.Method channel class id) e h = rw e (rw h refl)
-  lone_step x outlines.ProtocolHeader e h = absurd h
-  lone_step x (outlines.Header channel class size) e h = absurd h
-  lone_step x (outlines.Body channel count) e h = absurd h
-  lone_step x (outlines.Heartbeat channel) e h = absurd h
+  lone_step x (outlines.Method channel class id) e h = rw (e, h) refl
+  lone_step x o e h = absurd h
 
   -- After an opening, a basic content header of an allowed size above zero is part of the message, which then awaits its body.
   pub header_step : (opening x : X) (o : FrameOutline) → outline x ≡ o → IsBasicHeader o → size_in o ≤ max
@@ -79,11 +70,8 @@ module _ {X : Type 0} (outline : X → FrameOutline) (max : ℕ) where
       let basic : eqb class 60 ≡ true = eq-eqb class 60 h in
       let fit : leb size max ≡ true = grind (arith, nat_tests) in
       let more : eqb 0 size ≡ false = ne_eqb 0 size (omega arith) in
-      rw e (rw basic (rw fit (rw e (rw more refl))))
-  header_step opening x outlines.ProtocolHeader e h fits some = absurd h
-  header_step opening x (outlines.Method channel class id) e h fits some = absurd h
-  header_step opening x (outlines.Body channel count) e h fits some = absurd h
-  header_step opening x (outlines.Heartbeat channel) e h fits some = absurd h
+      rw (e, basic, fit, e, more) refl
+  header_step opening x o e h fits some = absurd h
 
   -- After an opening, a basic content header of size zero ends the message.
   pub empty_step : (opening x : X) (o : FrameOutline) → outline x ≡ o → IsBasicHeader o → size_in o ≡ 0
@@ -92,11 +80,8 @@ module _ {X : Type 0} (outline : X → FrameOutline) (max : ℕ) where
       let basic : eqb class 60 ≡ true = eq-eqb class 60 h in
       let fit : leb size max ≡ true = grind (arith, nat_tests) in
       let all : eqb 0 size ≡ true = eq-eqb 0 size (sym none) in
-      rw e (rw basic (rw fit (rw e (rw all refl))))
-  empty_step opening x outlines.ProtocolHeader e h none = absurd h
-  empty_step opening x (outlines.Method channel class id) e h none = absurd h
-  empty_step opening x (outlines.Body channel count) e h none = absurd h
-  empty_step opening x (outlines.Heartbeat channel) e h none = absurd h
+      rw (e, basic, fit, e, all) refl
+  empty_step opening x o e h none = absurd h
 
   -- A body with which a message is not at its size yet is part of it, and is added to it.
   pub body_step : (opening header : X) (before : List X) (x : X) (o : FrameOutline)
@@ -105,11 +90,8 @@ module _ {X : Type 0} (outline : X → FrameOutline) (max : ℕ) where
   body_step opening header before x (outlines.Body channel count) e h more =
       let fit : leb (bytes_in outline before + count) (size_in (outline header)) ≡ true = grind (arith, nat_tests) in
       let some : eqb (bytes_in outline before + count) (size_in (outline header)) ≡ false = ne_eqb _ _ (omega arith) in
-      rw e (rw fit (rw some refl))
-  body_step opening header before x outlines.ProtocolHeader e h more = absurd h
-  body_step opening header before x (outlines.Method channel class id) e h more = absurd h
-  body_step opening header before x (outlines.Header channel class size) e h more = absurd h
-  body_step opening header before x (outlines.Heartbeat channel) e h more = absurd h
+      rw (e, fit, some) refl
+  body_step opening header before x o e h more = absurd h
 
   -- A body with which a message is at its size ends it.
   pub last_step : (opening header : X) (before : List X) (x : X) (o : FrameOutline)
@@ -118,25 +100,18 @@ module _ {X : Type 0} (outline : X → FrameOutline) (max : ℕ) where
   last_step opening header before x (outlines.Body channel count) e h done =
       let fit : leb (bytes_in outline before + count) (size_in (outline header)) ≡ true = grind (arith, nat_tests) in
       let all : eqb (bytes_in outline before + count) (size_in (outline header)) ≡ true = eq-eqb _ _ done in
-      rw e (rw fit (rw all refl))
-  last_step opening header before x outlines.ProtocolHeader e h done = absurd h
-  last_step opening header before x (outlines.Method channel class id) e h done = absurd h
-  last_step opening header before x (outlines.Header channel class size) e h done = absurd h
-  last_step opening header before x (outlines.Heartbeat channel) e h done = absurd h
-
-  bytes_in-append : (xs ys : List X) → bytes_in outline (xs ++ ys) ≡ bytes_in outline xs + bytes_in outline ys
-  bytes_in-append [] ys = omega arith
-  bytes_in-append (x ∷ xs) ys = omega (arith, bytes_in-append xs ys)
+      rw (e, fit, all) refl
+  last_step opening header before x o e h done = absurd h
 
   bodies_run : (opening header : X) (before xs : List X) → AllByRecursion (λ y. IsBody (outline y)) xs
       → bytes_in outline before + bytes_in outline xs < size_in (outline header)
       → Runs (At (Headed opening header before)) xs (bodies_within opening header before xs) (At (Headed opening header (before ++ xs)))
-  bodies_run opening header before [] h less = record { answers_are = refl; state_is = ap (λ bs. At (Headed opening header bs)) (sym (append-nil before)) }
+  bodies_run opening header before [] h less = record { answers_are = refl; state_is = rw append-nil refl }
   bodies_run opening header before (x ∷ xs) h less =
       let one = body_step opening header before x (outline x) refl h.0 (omega arith) in
-      let rest = bodies_run opening header (before ++ x ∷ []) xs h.1 (omega (arith, bytes_in-append before (x ∷ []))) in
+      let rest = bodies_run opening header (before ++ x ∷ []) xs h.1 (omega (arith, bytes_in-push outline before x)) in
       let joined = runs_append (runs_step (At (Headed opening header before)) x one) rest in
-      record { answers_are = joined.answers_are; state_is = joined.state_is ∙ ap (λ bs. At (Headed opening header bs)) (append_assoc before (x ∷ []) xs) }
+      record { answers_are = joined.answers_are; state_is = rw append_assoc at joined.state_is }
 
   pub begun_runs : (begun : Begun X) → IsBegun outline max begun → Runs (At Nothing) (begun_frames begun) (begun_answers begun) (At begun)
   begun_runs Nothing h = runs_nothing (At Nothing)
@@ -175,52 +150,54 @@ module _ {X : Type 0} (outline : X → FrameOutline) (max : ℕ) where
 
   -- ---- one frame more in turn
 
-  units-push : (units : List (Finished X)) (unit : Finished X) → AllByRecursion (IsFinished outline max) units
-      → IsFinished outline max unit → AllByRecursion (IsFinished outline max) (units ++ unit ∷ [])
-  units-push [] unit h last = (last, tt)
-  units-push (u ∷ us) unit h last = (h.0, units-push us unit h.1 last)
+  -- where one frame more finishes a unit, or is added to what has begun, the frames are in turn
+  closed : (units : List (Finished X)) (begun : Begun X) (x : X) (unit : Finished X) → AllByRecursion (IsFinished outline max) units
+      → IsFinished outline max unit → finished_frames unit ≡ begun_frames begun ++ x ∷ [] → IsInTurn outline max (frames_in units begun ++ x ∷ [])
+  closed units begun x unit finished h frames = record {
+    units = units ++ unit ∷ [];
+    begun = Nothing;
+    finished = all-append (IsFinished outline max) units (unit ∷ []) finished (h, tt);
+    is_begun = tt;
+    are =
+        append_assoc (flat_map finished_frames units) (begun_frames begun) (x ∷ [])
+        ∙ ap (λ fs. flat_map finished_frames units ++ fs) (sym (append-nil (finished_frames unit) ∙ frames))
+        ∙ sym (append-nil (flat_map finished_frames (units ++ unit ∷ [])) ∙ flat_map-append finished_frames units (unit ∷ []));
+  }
 
-  units_frames-push : (units : List (Finished X)) (unit : Finished X)
-      → flat_map finished_frames (units ++ unit ∷ []) ≡ flat_map finished_frames units ++ finished_frames unit
-  units_frames-push [] unit = append-nil (finished_frames unit)
-  units_frames-push (u ∷ us) unit =
-      ap (λ fs. finished_frames u ++ fs) (units_frames-push us unit)
-      ∙ sym (append_assoc (finished_frames u) (flat_map finished_frames us) (finished_frames unit))
+  grown : (units : List (Finished X)) (begun : Begun X) (x : X) (more : Begun X) → AllByRecursion (IsFinished outline max) units
+      → IsBegun outline max more → begun_frames more ≡ begun_frames begun ++ x ∷ [] → IsInTurn outline max (frames_in units begun ++ x ∷ [])
+  grown units begun x more finished h frames = record {
+    units = units;
+    begun = more;
+    finished = finished;
+    is_begun = h;
+    are = append_assoc (flat_map finished_frames units) (begun_frames begun) (x ∷ []) ∙ ap (λ fs. flat_map finished_frames units ++ fs) (sym frames);
+  }
 
   -- a prefix of a list with one more item is a prefix of the list, or all
   prefix_push : (xs : List X) (x : X) (front back : List X) → xs ++ x ∷ [] ≡ front ++ back → ((more : List X) × (xs ≡ front ++ more)) ⊎ (front ≡ xs ++ x ∷ [])
   prefix_push xs x [] back e = inl (xs, refl)
-  prefix_push [] x (f ∷ fs) back e = inr (one_item x f fs back e)
-    where
-      one_item : (x f : X) (fs back : List X) → x ∷ [] ≡ f ∷ (fs ++ back) → f ∷ fs ≡ x ∷ []
-      one_item x f [] back e = cc
-      one_item x f (g ∷ gs) back e = absurd (cc)
+  prefix_push [] x (f ∷ []) back e = inr cc
+  prefix_push [] x (f ∷ g ∷ gs) back e = absurd cc
   prefix_push (y ∷ ys) x (f ∷ fs) back e =
       let tails : ys ++ x ∷ [] ≡ fs ++ back = cc in
       let heads : y ≡ f = cc in
-      longer y f ys x fs heads (prefix_push ys x fs back tails)
-    where
-      longer : (y f : X) (ys : List X) (x : X) (fs : List X) → y ≡ f → ((more : List X) × (ys ≡ fs ++ more)) ⊎ (fs ≡ ys ++ x ∷ [])
-          → ((more : List X) × (y ∷ ys ≡ f ∷ (fs ++ more))) ⊎ (f ∷ fs ≡ y ∷ (ys ++ x ∷ []))
-      longer y f ys x fs same (inl found) = inl (found.0, cc)
-      longer y f ys x fs same (inr all) = inr cc
-
-  -- nothing is longer than all
-  whole_longest : (xs whole front back : List X) → xs ≡ whole → xs ≡ front ++ back → length front ≤ length whole
-  whole_longest xs whole front back e parts = omega (arith, ap length e, ap length parts, length-append front back)
+      elim (prefix_push ys x fs back tails) [
+        | inl found ↦ inl (found.0, let rest : ys ≡ fs ++ found.0 = found.1 in cc)
+        | inr all ↦ inr cc
+      ]
 
   -- what is refused ends the longest prefix
   refused_longest : (xs : List X) (x : X) (bound : ℕ) → ((front back : List X) → xs ≡ front ++ back → IsInTurn outline max front → length front ≤ bound)
       → run_state outline max (At Nothing) (xs ++ x ∷ []) ≡ Lost → (front back : List X)
       → xs ++ x ∷ [] ≡ front ++ back → IsInTurn outline max front → length front ≤ bound
-  refused_longest xs x bound longest lost front back parts turn = by_cases (prefix_push xs x front back parts)
-    where
-      by_cases : ((more : List X) × (xs ≡ front ++ more)) ⊎ (front ≡ xs ++ x ∷ []) → length front ≤ bound
-      by_cases (inl found) = longest front found.0 found.1 turn
-      by_cases (inr all) =
-          let at = in_turn_at front turn in
-          let same : At at.0 ≡ Lost = sym at.1 ∙ ap (run_state outline max (At Nothing)) all ∙ lost in
-          absurd cc
+  refused_longest xs x bound longest lost front back parts turn = elim (prefix_push xs x front back parts) [
+    | inl found ↦ longest front found.0 found.1 turn
+    | inr all ↦
+        let at = in_turn_at front turn in
+        let same : At at.0 ≡ Lost = sym at.1 ∙ ap (run_state outline max (At Nothing)) all ∙ lost in
+        absurd cc
+  ]
 
   -- ---- readings
 
@@ -230,34 +207,22 @@ module _ {X : Type 0} (outline : X → FrameOutline) (max : ℕ) where
   rest_runs xs reading [] e = runs_nothing (At reading.begun)
   rest_runs xs reading (x ∷ rest) e = by_move (moved outline max reading.begun x reading.is_begun)
     where
-      longer : (units : List (Finished X)) (begun : Begun X) → AllByRecursion (IsFinished outline max) units
-          → IsBegun outline max begun → frames_in units begun ≡ frames_in reading.units reading.begun ++ x ∷ [] → ⊥
-      longer units begun finished is_begun same =
-          let parts : xs ≡ frames_in units begun ++ rest =
-          reading.are ∙ ap (λ r. frames_in reading.units reading.begun ++ r) e
-          ∙ sym (append_assoc (frames_in reading.units reading.begun) (x ∷ []) rest) ∙ ap (λ r. r ++ rest) (sym same) in
-          let bound =
-          reading.longest (frames_in units begun) rest parts (record { units = units; begun = begun; finished = finished; is_begun = is_begun; are = refl }) in
-          omega (arith, bound, ap length same, length_push (frames_in reading.units reading.begun) x)
+      longer : IsInTurn outline max (frames_in reading.units reading.begun ++ x ∷ []) → ⊥
+      longer turn =
+          let parts : xs ≡ (frames_in reading.units reading.begun ++ x ∷ []) ++ rest =
+          reading.are ∙ ap (λ r. frames_in reading.units reading.begun ++ r) e ∙ sym (append_assoc (frames_in reading.units reading.begun) (x ∷ []) rest) in
+          let bound = reading.longest (frames_in reading.units reading.begun ++ x ∷ []) rest parts turn in
+          omega (arith, bound, length_push (frames_in reading.units reading.begun) x)
 
       by_move : Moved outline max reading.begun x (step outline max (At reading.begun) x)
           → Runs (At reading.begun) (x ∷ rest) (rest_answers outline reading.begun (x ∷ rest)) Lost
-      by_move (closes unit h frames answers state) =
-          absurd (longer (reading.units ++ unit ∷ []) Nothing (units-push reading.units unit reading.finished h) tt
-          (append-nil (flat_map finished_frames (reading.units ++ unit ∷ []))
-          ∙ units_frames-push reading.units unit ∙ ap (λ fs. flat_map finished_frames reading.units ++ fs) frames
-          ∙ sym (append_assoc (flat_map finished_frames reading.units) (begun_frames reading.begun) (x ∷ []))))
-      by_move (grows more h frames answers state) =
-          absurd (longer reading.units more reading.finished h (ap (λ fs. flat_map finished_frames reading.units ++ fs) frames
-          ∙ sym (append_assoc (flat_map finished_frames reading.units) (begun_frames reading.begun) (x ∷ []))))
+      by_move (closes unit h frames answers state) = absurd (longer (closed reading.units reading.begun x unit reading.finished h frames))
+      by_move (grows more h frames answers state) = absurd (longer (grown reading.units reading.begun x more reading.finished h frames))
       by_move (refused answer state) =
           let lost = runs_lost rest in
           record {
-            answers_are =
-                ap (λ r. r ∷ run_answers outline max (step outline max (At reading.begun) x).1 rest) answer
-                ∙ ap (λ s. Wrong (fault_after reading.begun (outline x)) ∷ run_answers outline max s rest) state
-                ∙ ap (λ rs. Wrong (fault_after reading.begun (outline x)) ∷ rs) lost.answers_are;
-            state_is = ap (λ s. run_state outline max s rest) state ∙ lost.state_is;
+            answers_are = rw (answer, state, lost.answers_are) refl;
+            state_is = rw (state, lost.state_is) refl;
           }
 
   -- each reading gives what the steps give
@@ -283,66 +248,50 @@ module _ {X : Type 0} (outline : X → FrameOutline) (max : ℕ) where
     longest = λ front back parts turn. omega (arith, ap length parts, length-append front back);
   }
 
+  -- where the next frame is refused, it is added to the rest
+  read_rest : (xs : List X) (reading : Reading outline max xs) (x : X)
+      → run_state outline max (At Nothing) (xs ++ x ∷ []) ≡ Lost → Reading outline max (xs ++ x ∷ [])
+  read_rest xs reading x lost = record {
+    units = reading.units;
+    begun = reading.begun;
+    rest = reading.rest ++ x ∷ [];
+    finished = reading.finished;
+    is_begun = reading.is_begun;
+    are = ap (λ ys. ys ++ x ∷ []) reading.are ∙ append_assoc (frames_in reading.units reading.begun) reading.rest (x ∷ []);
+    longest = refused_longest xs x (length (frames_in reading.units reading.begun)) reading.longest lost;
+  }
+
+  -- where all frames are in turn, nothing is left over
+  read_turn : (xs : List X) → IsInTurn outline max xs → Reading outline max xs
+  read_turn xs turn = record {
+    units = turn.units;
+    begun = turn.begun;
+    rest = [];
+    finished = turn.finished;
+    is_begun = turn.is_begun;
+    are = turn.are ∙ sym (append-nil (frames_in turn.units turn.begun));
+    longest = λ front back parts other. omega (arith, ap length turn.are, ap length parts, length-append front back);
+  }
+
   -- a reading of frames goes on to one more
   read_more : (xs : List X) (reading : Reading outline max xs) (x : X) (rest : List X) → reading.rest ≡ rest → Reading outline max (xs ++ x ∷ [])
   read_more xs reading x (y ∷ rest) e =
-      let runs = reading_runs xs reading in
-      let gone : run_state outline max (At Nothing) xs ≡ Lost = runs.state_is ∙ ap (state_after reading.begun) e in
-      let lost : run_state outline max (At Nothing) (xs ++ x ∷ []) ≡ Lost =
-      run_state-append (At Nothing) xs (x ∷ []) ∙ ap (λ s. run_state outline max s (x ∷ [])) gone in
-      record {
-        units = reading.units;
-        begun = reading.begun;
-        rest = (y ∷ rest) ++ x ∷ [];
-        finished = reading.finished;
-        is_begun = reading.is_begun;
-        are =
-            ap (λ ys. ys ++ x ∷ []) (reading.are ∙ ap (λ r. frames_in reading.units reading.begun ++ r) e)
-            ∙ append_assoc (frames_in reading.units reading.begun) (y ∷ rest) (x ∷ []);
-        longest = refused_longest xs x (length (frames_in reading.units reading.begun)) reading.longest lost;
-      }
+      let gone : run_state outline max (At Nothing) xs ≡ Lost = (reading_runs xs reading).state_is ∙ ap (state_after reading.begun) e in
+      read_rest xs reading x (rw (run_state-append (At Nothing) xs (x ∷ []), gone) refl)
   read_more xs reading x [] e = by_move (moved outline max reading.begun x reading.is_begun)
     where
-      whole : xs ≡ frames_in reading.units reading.begun
-      whole = reading.are ∙ ap (λ r. frames_in reading.units reading.begun ++ r) e ∙ append-nil (frames_in reading.units reading.begun)
-
-      ends : (units : List (Finished X)) (begun : Begun X) → AllByRecursion (IsFinished outline max) units → IsBegun outline max begun
-          → frames_in units begun ≡ frames_in reading.units reading.begun ++ x ∷ [] → Reading outline max (xs ++ x ∷ [])
-      ends units begun finished is_begun same =
-          let are : xs ++ x ∷ [] ≡ frames_in units begun = ap (λ ys. ys ++ x ∷ []) whole ∙ sym same in
-          record {
-            units = units;
-            begun = begun;
-            rest = [];
-            finished = finished;
-            is_begun = is_begun;
-            are = are ∙ sym (append-nil (frames_in units begun));
-            longest = λ front back parts turn. whole_longest (xs ++ x ∷ []) (frames_in units begun) front back are parts;
-          }
+      ends : IsInTurn outline max (frames_in reading.units reading.begun ++ x ∷ []) → Reading outline max (xs ++ x ∷ [])
+      ends turn =
+          let whole : xs ≡ frames_in reading.units reading.begun =
+          reading.are ∙ ap (λ r. frames_in reading.units reading.begun ++ r) e ∙ append-nil (frames_in reading.units reading.begun) in
+          read_turn (xs ++ x ∷ []) (subst (λ ys. IsInTurn outline max (ys ++ x ∷ [])) (sym whole) turn)
 
       by_move : Moved outline max reading.begun x (step outline max (At reading.begun) x) → Reading outline max (xs ++ x ∷ [])
-      by_move (closes unit h frames answers state) =
-          ends (reading.units ++ unit ∷ []) Nothing (units-push reading.units unit reading.finished h) tt
-          (append-nil (flat_map finished_frames (reading.units ++ unit ∷ []))
-          ∙ units_frames-push reading.units unit ∙ ap (λ fs. flat_map finished_frames reading.units ++ fs) frames
-          ∙ sym (append_assoc (flat_map finished_frames reading.units) (begun_frames reading.begun) (x ∷ [])))
-      by_move (grows more h frames answers state) =
-          ends reading.units more reading.finished h (ap (λ fs. flat_map finished_frames reading.units ++ fs) frames
-          ∙ sym (append_assoc (flat_map finished_frames reading.units) (begun_frames reading.begun) (x ∷ [])))
+      by_move (closes unit h frames answers state) = ends (closed reading.units reading.begun x unit reading.finished h frames)
+      by_move (grows more h frames answers state) = ends (grown reading.units reading.begun x more reading.finished h frames)
       by_move (refused answer state) =
-          let runs = reading_runs xs reading in
-          let was : run_state outline max (At Nothing) xs ≡ At reading.begun = runs.state_is ∙ ap (state_after reading.begun) e in
-          let lost : run_state outline max (At Nothing) (xs ++ x ∷ []) ≡ Lost =
-          run_state-append (At Nothing) xs (x ∷ []) ∙ ap (λ s. run_state outline max s (x ∷ [])) was ∙ state in
-          record {
-            units = reading.units;
-            begun = reading.begun;
-            rest = x ∷ [];
-            finished = reading.finished;
-            is_begun = reading.is_begun;
-            are = ap (λ ys. ys ++ x ∷ []) whole;
-            longest = refused_longest xs x (length (frames_in reading.units reading.begun)) reading.longest lost;
-          }
+          let was : run_state outline max (At Nothing) xs ≡ At reading.begun = (reading_runs xs reading).state_is ∙ ap (state_after reading.begun) e in
+          read_rest xs reading x (rw (run_state-append (At Nothing) xs (x ∷ []), was) state)
 
   read_on : (xs ys : List X) → Reading outline max xs → Reading outline max (xs ++ ys)
   read_on xs [] reading = rw append-nil reading
@@ -379,10 +328,8 @@ module _ {X : Type 0} (outline : X → FrameOutline) (max : ℕ) where
   pub advance : (xs : List X) (state : State X) (x : X) → Stands outline max xs state → Advances xs state x
   advance xs state x h =
       let was = sym (stands_run xs state h) in
-      let answers : run_answers outline max (At Nothing) (xs ++ x ∷ []) ≡ run_answers outline max (At Nothing) xs ++ (step outline max state x).0 ∷ [] =
-      run_answers-append (At Nothing) xs (x ∷ []) ∙ ap (λ s. run_answers outline max (At Nothing) xs ++ run_answers outline max s (x ∷ [])) was in
-      let after : run_state outline max (At Nothing) (xs ++ x ∷ []) ≡ (step outline max state x).1 =
-      run_state-append (At Nothing) xs (x ∷ []) ∙ ap (λ s. run_state outline max s (x ∷ [])) was in
+      let answers = rw was at (run_answers-append (At Nothing) xs (x ∷ [])) in
+      let after = rw was at (run_state-append (At Nothing) xs (x ∷ [])) in
       record {
         last =
             record {

@@ -1,5 +1,6 @@
 -- What a tracker keeps decides the mark of one more frame, and what to keep after it.
-use Rattle.std.proofs.Common.{◌≡◌, ℕ, ◌+◌, Bool, true, false, eqb, leb, List, [], ◌∷◌, ◌++◌, refl, sym, ap, ◌∙◌, Option, Some, None}
+use Rattle.std.proofs.Common.{◌≡◌, ℕ, ◌+◌, true, eqb, leb, List, [], ◌∷◌, ◌++◌, refl, sym, ap, ◌∙◌, Option, Some, None, inl, inr}
+use Rattle.std.proofs.lemmas.Bool.{cases_Bool}
 use Rattle.amqp_wire.specs.declared.outline.FrameOutline.{FrameOutline}
 use Rattle.amqp_wire.specs.declared.outline.FrameOutline.TheVariants as outlines
 use Rattle.amqp_turns.specs.declared.mark.Mark.{Mark}
@@ -18,61 +19,41 @@ module _ {X : Type 0} (outline : X → FrameOutline) (max : ℕ) where
     pub mark_is : mark_of outline (step outline max state x).0 ≡ mark_after max (progress_of outline state) (outline x)
     pub progress_is : progress_of outline (step outline max state x).1 ≡ progress_after max (progress_of outline state) (outline x)
 
-  marked_method : (x : X) (channel class id : ℕ) (opens : Bool) → outline x ≡ outlines.Method channel class id
-      → is_opening_id class id ≡ opens → IsStepMarked (At Nothing) x
-  marked_method x channel class id true e opens = record { mark_is = rw e (rw opens (rw e refl)); progress_is = rw e (rw opens refl) }
-  marked_method x channel class id false e opens = record { mark_is = rw e (rw opens refl); progress_is = rw e (rw opens refl) }
-
-  marked_header : (opening x : X) (channel class size : ℕ) (basic fits none : Bool) → outline x ≡ outlines.Header channel class size
-      → eqb class 60 ≡ basic → leb size max ≡ fits → eqb 0 size ≡ none → IsStepMarked (At (Opened opening)) x
-  marked_header opening x channel class size false fits none e basic fit done = record { mark_is = rw e (rw basic refl); progress_is = rw e (rw basic refl) }
-  marked_header opening x channel class size true false none e basic fit done =
-      record { mark_is = rw e (rw basic (rw fit refl)); progress_is = rw e (rw basic (rw fit refl)) }
-  marked_header opening x channel class size true true true e basic fit done =
-      record { mark_is = rw e (rw basic (rw fit (rw e (rw done (rw e refl))))); progress_is = rw e (rw basic (rw fit (rw e (rw done refl)))) }
-  marked_header opening x channel class size true true false e basic fit done =
-      record { mark_is = rw e (rw basic (rw fit (rw e (rw done (rw e refl))))); progress_is = rw e (rw basic (rw fit (rw e (rw done (rw e refl))))) }
-
-  marked_body : (opening header : X) (bodies : List X) (x : X) (channel count : ℕ) (fits all : Bool)
-      → outline x ≡ outlines.Body channel count → leb (bytes_in outline bodies + count) (size_in (outline header)) ≡ fits
-      → eqb (bytes_in outline bodies + count) (size_in (outline header)) ≡ all → IsStepMarked (At (Headed opening header bodies)) x
-  marked_body opening header bodies x channel count false all e fit done = record { mark_is = rw e (rw fit refl); progress_is = rw e (rw fit refl) }
-  marked_body opening header bodies x channel count true true e fit done =
-      record { mark_is = rw e (rw fit (rw done (rw e refl))); progress_is = rw e (rw fit (rw done refl)) }
-  marked_body opening header bodies x channel count true false e fit done =
-      let seen : bytes_in outline (bodies ++ x ∷ []) ≡ bytes_in outline bodies + count =
-      bytes_in-push outline bodies x ∙ ap (λ o. bytes_in outline bodies + count_in o) e in
-      record {
-        mark_is = rw e (rw fit (rw done (rw e refl)));
-        progress_is = rw e (rw fit (rw done (ap (λ n. Some (kept.Headed (size_in (outline header)) n)) seen)));
-      }
-
   marked_at : (begun : Begun X) (x : X) (o : FrameOutline) → outline x ≡ o → is_content o ≡ true → IsStepMarked (At begun) x
-  marked_at Nothing x (outlines.Method channel class id) e h = marked_method x channel class id (is_opening_id class id) e refl
-  marked_at Nothing x (outlines.Header channel class size) e h = record { mark_is = rw e refl; progress_is = rw e refl }
-  marked_at Nothing x (outlines.Body channel count) e h = record { mark_is = rw e refl; progress_is = rw e refl }
-  marked_at Nothing x outlines.ProtocolHeader e h = absurd cc
-  marked_at Nothing x (outlines.Heartbeat channel) e h = absurd cc
-  marked_at (Opened opening) x (outlines.Method channel class id) e h = record { mark_is = rw e refl; progress_is = rw e refl }
-  marked_at (Opened opening) x (outlines.Header channel class size) e h =
-      marked_header opening x channel class size (eqb class 60) (leb size max) (eqb 0 size) e refl refl refl
-  marked_at (Opened opening) x (outlines.Body channel count) e h = record { mark_is = rw e refl; progress_is = rw e refl }
-  marked_at (Opened opening) x outlines.ProtocolHeader e h = absurd cc
-  marked_at (Opened opening) x (outlines.Heartbeat channel) e h = absurd cc
-  marked_at (Headed opening header bodies) x (outlines.Method channel class id) e h = record { mark_is = rw e refl; progress_is = rw e refl }
-  marked_at (Headed opening header bodies) x (outlines.Header channel class size) e h = record { mark_is = rw e refl; progress_is = rw e refl }
+  marked_at begun x outlines.ProtocolHeader e h = absurd cc
+  marked_at begun x (outlines.Heartbeat channel) e h = absurd cc
+  marked_at Nothing x (outlines.Method channel class id) e h = elim (cases_Bool (is_opening_id class id)) [
+    | inl opens ↦ record { mark_is = rw (e, opens, e) refl; progress_is = rw (e, opens) refl }
+    | inr other ↦ record { mark_is = rw (e, other) refl; progress_is = rw (e, other) refl }
+  ]
+  marked_at (Opened opening) x (outlines.Header channel class size) e h = elim (cases_Bool (eqb class 60)) [
+    | inl basic ↦ elim (cases_Bool (leb size max)) [
+      | inl fit ↦ elim (cases_Bool (eqb 0 size)) [
+        | inl none ↦ record { mark_is = rw (e, basic, fit, e, none, e) refl; progress_is = rw (e, basic, fit, e, none) refl }
+        | inr some ↦ record { mark_is = rw (e, basic, fit, e, some, e) refl; progress_is = rw (e, basic, fit, e, some, e) refl }
+      ]
+      | inr large ↦ record { mark_is = rw (e, basic, large) refl; progress_is = rw (e, basic, large) refl }
+    ]
+    | inr other ↦ record { mark_is = rw (e, other) refl; progress_is = rw (e, other) refl }
+  ]
   marked_at (Headed opening header bodies) x (outlines.Body channel count) e h =
-      marked_body opening header bodies x channel count (leb (bytes_in outline bodies + count) (size_in (outline header)))
-      (eqb (bytes_in outline bodies + count) (size_in (outline header))) e refl refl
-  marked_at (Headed opening header bodies) x outlines.ProtocolHeader e h = absurd cc
-  marked_at (Headed opening header bodies) x (outlines.Heartbeat channel) e h = absurd cc
+      let size = size_in (outline header) in
+      let seen = bytes_in outline bodies + count in
+      elim (cases_Bool (leb seen size)) [
+        | inl fit ↦ elim (cases_Bool (eqb seen size)) [
+          | inl all ↦ record { mark_is = rw (e, fit, all, e) refl; progress_is = rw (e, fit, all) refl }
+          | inr some ↦
+              let after : bytes_in outline (bodies ++ x ∷ []) ≡ seen = bytes_in-push outline bodies x ∙ ap (λ o. bytes_in outline bodies + count_in o) e in
+              record { mark_is = rw (e, fit, some, e) refl; progress_is = rw (e, fit, some) (ap (λ n. Some (kept.Headed size n)) after) }
+        ]
+        | inr beyond ↦ record { mark_is = rw (e, beyond) refl; progress_is = rw (e, beyond) refl }
+      ]
+  marked_at begun x o e h = record { mark_is = rw e refl; progress_is = rw e refl }
 
   marked_lost : (x : X) (o : FrameOutline) → outline x ≡ o → is_content o ≡ true → IsStepMarked Lost x
-  marked_lost x (outlines.Method channel class id) e h = record { mark_is = rw e refl; progress_is = rw e refl }
-  marked_lost x (outlines.Header channel class size) e h = record { mark_is = rw e refl; progress_is = rw e refl }
-  marked_lost x (outlines.Body channel count) e h = record { mark_is = rw e refl; progress_is = rw e refl }
   marked_lost x outlines.ProtocolHeader e h = absurd cc
   marked_lost x (outlines.Heartbeat channel) e h = absurd cc
+  marked_lost x o e h = record { mark_is = rw e refl; progress_is = rw e refl }
 
   pub step_marked_is : (state : State X) (x : X) → is_content (outline x) ≡ true → IsStepMarked state x
   step_marked_is (At begun) x h = marked_at begun x (outline x) refl h
@@ -87,14 +68,14 @@ tracks_step max before after outline mark content is kept = record {
       record {
         answer = _;
         last = (advance itself max outlines h.state outline h.stands).last;
-        is = is ∙ ap (λ p. mark_after max p outline) h.is ∙ sym step.mark_is;
+        is = rw (is, h.is) (sym step.mark_is);
       };
   stands = λ outlines h.
       let step = step_marked_is itself max h.state outline content in
       record {
         state = _;
         stands = (advance itself max outlines h.state outline h.stands).stands;
-        is = kept ∙ ap (progress_marked before outline) is ∙ ap (λ p. progress_after max p outline) h.is ∙ sym step.progress_is;
+        is = rw (kept, is, h.is) (sym step.progress_is);
       };
 }
 

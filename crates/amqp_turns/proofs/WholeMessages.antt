@@ -1,5 +1,5 @@
 -- The frames of whole messages, one after another, give these messages and no fault.
-use Rattle.std.proofs.Common.{◌≡◌, ℕ, ◌+◌, ◌<◌, ◌≤◌, List, [], ◌∷◌, ◌++◌, length, map, refl, sym, ap, ap₂, subst, ◌∙◌, arith}
+use Rattle.std.proofs.Common.{◌≡◌, ℕ, ◌+◌, ◌<◌, ◌≤◌, List, [], ◌∷◌, ◌++◌, length, map, refl, sym, ap, ◌∙◌, arith}
 use Rattle.std.proofs.lemmas.List.{append-nil, append_assoc, length-append, map-append}
 use Rattle.std.specs.List.{AllByRecursion, flat_map}
 use Rattle.amqp_types.specs.ContentHeaders.{ContentHeader}
@@ -10,9 +10,9 @@ use Rattle.amqp_turns.specs.Answers.{Answer, Within, Ends}
 use Rattle.amqp_turns.specs.Stands.{State, At}
 use Rattle.amqp_turns.specs.Steps.{step, run_answers, run_state}
 use Rattle.amqp_turns.specs.Messages.{Content, method_in, header_in, joined, content_with}
-use Rattle.amqp_turns.specs.Outcomes.{OutcomeView, passed, held, done, wrong, answer_outcome}
+use Rattle.amqp_turns.specs.Outcomes.{OutcomeView, done, answer_outcome}
 use Rattle.amqp_turns.specs.Laws.{done_in, IsNoFault}
-use Rattle.amqp_turns.proofs.Moving.{bytes_in-push}
+use Rattle.amqp_turns.proofs.Moving.{all-append, bytes_in-push}
 use Rattle.amqp_turns.proofs.Running.{header_step, empty_step, body_step, last_step, run_answers-append, run_state-append}
 use Rattle.amqp_turns.proofs.Telling.{joined-push}
 use Rattle.amqp_turns.proofs.Pieces.{ArePieces}
@@ -20,20 +20,18 @@ use Rattle.amqp_turns.proofs.Pieces.{ArePieces}
 -- The messages that outcomes complete one after the other are those of the first, and then those of the others.
 pub done_in-append : (xs ys : List OutcomeView) → done_in (xs ++ ys) ≡ done_in xs ++ done_in ys
 done_in-append [] ys = refl
-done_in-append (passed frame ∷ xs) ys = done_in-append xs ys
-done_in-append (held ∷ xs) ys = done_in-append xs ys
 done_in-append (done content ∷ xs) ys = ap (λ cs. content ∷ cs) (done_in-append xs ys)
-done_in-append (wrong fault ∷ xs) ys = done_in-append xs ys
+done_in-append (x ∷ xs) ys = done_in-append xs ys
 
-pub no_fault-append : (xs ys : List OutcomeView) → AllByRecursion IsNoFault xs → AllByRecursion IsNoFault ys → AllByRecursion IsNoFault (xs ++ ys)
-no_fault-append [] ys h g = g
-no_fault-append (x ∷ xs) ys h g = (h.0, no_fault-append xs ys h.1 g)
+-- the outcomes of frames from a state on
+abbrev pub outcomes_of : ℕ → State Frame → List Frame → List OutcomeView
+outcomes_of max state frames = map answer_outcome (run_answers outline_of max state frames)
 
 -- frames that leave nothing begun, and give just these messages
 pub record GivesWhole (max : ℕ) (state : State Frame) (frames : List Frame) (contents : List Content) : Type 0 where
   pub state_is : run_state outline_of max state frames ≡ At Nothing
-  pub done_are : done_in (map answer_outcome (run_answers outline_of max state frames)) ≡ contents
-  pub no_fault : AllByRecursion IsNoFault (map answer_outcome (run_answers outline_of max state frames))
+  pub done_are : done_in (outcomes_of max state frames) ≡ contents
+  pub no_fault : AllByRecursion IsNoFault (outcomes_of max state frames)
 
 -- ---- one message
 
@@ -41,27 +39,11 @@ pub record GivesWhole (max : ℕ) (state : State Frame) (frames : List Frame) (c
 pub held_first : (max : ℕ) (state next : State Frame) (begun : Begun Frame) (frame : Frame) (frames : List Frame) (contents : List Content)
     → step outline_of max state frame ≡ (Within begun frame, next) → GivesWhole max next frames contents → GivesWhole max state (frame ∷ frames) contents
 held_first max state next begun frame frames contents e h =
-    let first : (step outline_of max state frame).0 ≡ Within begun frame = ap (λ (p : Answer Frame × State Frame). p.0) e in
-    let second : (step outline_of max state frame).1 ≡ next = ap (λ (p : Answer Frame × State Frame). p.1) e in
-    let answers : map answer_outcome (run_answers outline_of max state (frame ∷ frames)) ≡ held ∷ map answer_outcome (run_answers outline_of max next frames) =
-    ap₂ (λ a s. answer_outcome a ∷ map answer_outcome (run_answers outline_of max s frames)) first second in
-    record {
-      state_is = ap (λ s. run_state outline_of max s frames) second ∙ h.state_is;
-      done_are = ap done_in answers ∙ h.done_are;
-      no_fault = subst (λ (ts : List OutcomeView). AllByRecursion IsNoFault ts) (sym answers) (tt, h.no_fault);
-    }
+    record { state_is = rw e h.state_is; done_are = rw e h.done_are; no_fault = rw e (tt, h.no_fault) }
 
 done_last : (max : ℕ) (state : State Frame) (begun : Begun Frame) (frame : Frame)
     → step outline_of max state frame ≡ (Ends begun frame, At Nothing) → GivesWhole max state (frame ∷ []) (content_with begun frame ∷ [])
-done_last max state begun frame e =
-    let first : (step outline_of max state frame).0 ≡ Ends begun frame = ap (λ (p : Answer Frame × State Frame). p.0) e in
-    let answers : map answer_outcome (run_answers outline_of max state (frame ∷ [])) ≡ done (content_with begun frame) ∷ [] =
-    ap (λ a. answer_outcome a ∷ []) first in
-    record {
-      state_is = ap (λ (p : Answer Frame × State Frame). p.1) e;
-      done_are = ap done_in answers;
-      no_fault = subst (λ (ts : List OutcomeView). AllByRecursion IsNoFault ts) (sym answers) (tt, tt);
-    }
+done_last max state begun frame e = record { state_is = ap (λ (p : Answer Frame × State Frame). p.1) e; done_are = rw e refl; no_fault = rw e (tt, tt) }
 
 -- a message with this body
 abbrev message_with : ℕ → Frame → Frame → List ℕ → Content
@@ -73,12 +55,11 @@ bodies_give : (max channel : ℕ) (opening header : Frame) (before : List Frame)
     (message_with channel opening header (joined before ++ flat_map (λ p. p) (part ∷ parts)) ∷ [])
 bodies_give max channel opening header before part [] some total =
     let sum : bytes_in outline_of before + length part ≡ size_in (outline_of header) = omega (arith, total, length-append part []) in
-    let given =
-    done_last max (At (Headed opening header before)) (Headed opening header before) (Body channel part)
-    (last_step outline_of max opening header before (Body channel part) (outline_of (Body channel part)) refl tt sum) in
     let body : joined (before ++ Body channel part ∷ []) ≡ joined before ++ (part ++ []) =
     joined-push before (Body channel part) ∙ ap (λ b. joined before ++ b) (sym (append-nil part)) in
-    subst (λ (b : List ℕ). GivesWhole max (At (Headed opening header before)) (Body channel part ∷ []) (message_with channel opening header b ∷ [])) body given
+    rw (← body)
+    (done_last max (At (Headed opening header before)) (Headed opening header before) (Body channel part)
+    (last_step outline_of max opening header before (Body channel part) (outline_of (Body channel part)) refl tt sum))
 bodies_give max channel opening header before part (next ∷ parts) some total =
     let more : bytes_in outline_of before + length part < size_in (outline_of header) =
     omega (arith, total, some.0, length-append part (flat_map (λ p. p) (next ∷ parts)), length-append next (flat_map (λ p. p) parts)) in
@@ -88,15 +69,10 @@ bodies_give max channel opening header before part (next ∷ parts) some total =
     let body : joined (before ++ Body channel part ∷ []) ++ flat_map (λ p. p) (next ∷ parts) ≡ joined before ++ (part ++ flat_map (λ p. p) (next ∷ parts)) =
     ap (λ b. b ++ flat_map (λ p. p) (next ∷ parts)) (joined-push before (Body channel part))
     ∙ append_assoc (joined before) part (flat_map (λ p. p) (next ∷ parts)) in
-    let rest_whole =
-    subst
-    (λ (b : List ℕ).
-    GivesWhole max (At (Headed opening header (before ++ Body channel part ∷ [])))
-    (map (λ p. Body channel p) (next ∷ parts)) (message_with channel opening header b ∷ []))
-    body rest in
-    held_first max (At (Headed opening header before)) (At (Headed opening header (before ++ Body channel part ∷ [])))
+    rw (← body)
+    (held_first max (At (Headed opening header before)) (At (Headed opening header (before ++ Body channel part ∷ [])))
     (Headed opening header before) (Body channel part) (map (λ p. Body channel p) (next ∷ parts)) _
-    (body_step outline_of max opening header before (Body channel part) (outline_of (Body channel part)) refl tt more) rest_whole
+    (body_step outline_of max opening header before (Body channel part) (outline_of (Body channel part)) refl tt more) rest)
 
 -- after the opening
 pub header_gives : (max channel : ℕ) (opening : Frame) (header : ContentHeader) (body : List ℕ) (parts : List (List ℕ))
@@ -105,24 +81,17 @@ pub header_gives : (max channel : ℕ) (opening : Frame) (header : ContentHeader
     (record { channel = channel; opening = method_in opening; properties = header.options; body = body } ∷ [])
 header_gives max channel opening header body [] basic size fits are =
     let none : size_in (outline_of (Head channel header)) ≡ 0 = size ∙ ap length (sym are.joined) in
-    let given =
-    done_last max (At (Opened opening)) (Opened opening) (Head channel header)
-    (empty_step outline_of max opening (Head channel header) (outline_of (Head channel header)) refl basic none) in
-    subst (λ (b : List ℕ). GivesWhole max (At (Opened opening)) (Head channel header ∷ []) (message_with channel opening (Head channel header) b ∷ []))
-    are.joined given
+    rw (← are.joined)
+    (done_last max (At (Opened opening)) (Opened opening) (Head channel header)
+    (empty_step outline_of max opening (Head channel header) (outline_of (Head channel header)) refl basic none))
 header_gives max channel opening header body (part ∷ parts) basic size fits are =
     let total : length (flat_map (λ p. p) (part ∷ parts)) ≡ length body = ap length are.joined in
     let long : 1 ≤ length body = omega (arith, total, are.some.0, length-append part (flat_map (λ p. p) parts)) in
     let rest = bodies_give max channel opening (Head channel header) [] part parts are.some.1 (omega (arith, total, size)) in
-    let given =
-    held_first max (At (Opened opening)) (At (Headed opening (Head channel header) []))
+    rw (← are.joined)
+    (held_first max (At (Opened opening)) (At (Headed opening (Head channel header) []))
     (Opened opening) (Head channel header) (map (λ p. Body channel p) (part ∷ parts)) _
-    (header_step outline_of max opening (Head channel header) (outline_of (Head channel header)) refl basic (omega (arith, size)) (omega (arith, size))) rest in
-    subst
-    (λ (b : List ℕ).
-    GivesWhole max (At (Opened opening)) (Head channel header ∷ map (λ p. Body channel p) (part ∷ parts))
-    (message_with channel opening (Head channel header) b ∷ []))
-    are.joined given
+    (header_step outline_of max opening (Head channel header) (outline_of (Head channel header)) refl basic (omega (arith, size)) (omega (arith, size))) rest)
 
 -- ---- one message after another
 
@@ -130,20 +99,12 @@ header_gives max channel opening header body (part ∷ parts) basic size fits ar
 pub after_whole : (max : ℕ) (front back : List Frame) (contents more : List Content) → GivesWhole max (At Nothing) front contents
     → GivesWhole max (At Nothing) back more → GivesWhole max (At Nothing) (front ++ back) (contents ++ more)
 after_whole max front back contents more h g =
-    let answers : map answer_outcome (run_answers outline_of max (At Nothing) (front ++ back))
-    ≡ map answer_outcome (run_answers outline_of max (At Nothing) front) ++ map answer_outcome (run_answers outline_of max (At Nothing) back) =
-    ap (map answer_outcome) (run_answers-append outline_of max (At Nothing) front back
-    ∙ ap (λ s. run_answers outline_of max (At Nothing) front ++ run_answers outline_of max s back) h.state_is)
-    ∙ map-append answer_outcome (run_answers outline_of max (At Nothing) front) (run_answers outline_of max (At Nothing) back) in
+    let answers : outcomes_of max (At Nothing) (front ++ back) ≡ outcomes_of max (At Nothing) front ++ outcomes_of max (At Nothing) back =
+    rw (run_answers-append outline_of max (At Nothing) front back, h.state_is, map-append) refl in
     record {
-      state_is = run_state-append outline_of max (At Nothing) front back ∙ ap (λ s. run_state outline_of max s back) h.state_is ∙ g.state_is;
-      done_are =
-          ap done_in answers
-          ∙ done_in-append (map answer_outcome (run_answers outline_of max (At Nothing) front))
-          (map answer_outcome (run_answers outline_of max (At Nothing) back))
-          ∙ ap₂ (λ xs ys. xs ++ ys) h.done_are g.done_are;
+      state_is = rw (run_state-append outline_of max (At Nothing) front back, h.state_is) g.state_is;
+      done_are = rw (answers, done_in-append (outcomes_of max (At Nothing) front) (outcomes_of max (At Nothing) back), h.done_are, g.done_are) refl;
       no_fault =
-          subst (λ (ts : List OutcomeView). AllByRecursion IsNoFault ts) (sym answers) (no_fault-append
-          (map answer_outcome (run_answers outline_of max (At Nothing) front))
-          (map answer_outcome (run_answers outline_of max (At Nothing) back)) h.no_fault g.no_fault);
+          rw answers
+          (all-append IsNoFault (outcomes_of max (At Nothing) front) (outcomes_of max (At Nothing) back) h.no_fault g.no_fault);
     }

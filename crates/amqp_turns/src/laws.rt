@@ -17,11 +17,13 @@ pub fn outlines_answer_alike()
 {}
 
 /// What an assembler gives for the frames of a channel are the outcomes of these frames.
+#[tactic(auto, using(crate::proofs::Apart::channels_answered))]
 pub fn channels_are_answered()
     ensures { ChannelsAreAnswered }
 {}
 
 /// What comes on other channels changes nothing.
+#[tactic(auto, using(crate::proofs::Apart::channels_apart))]
 pub fn channels_are_apart()
     ensures { ChannelsAreApart }
 {}

@@ -1,9 +1,7 @@
 //! Worked frames and contents that are made of heads and nodes, and each refusal with its head and its node.
 
-use amqp_fields::{
-    FLAG, Head, LONG_LONG, LONG_STRING, Node, OCTET, SHORT, SHORT_STRING, TABLE, WriteError,
-    WriteRefusal, write_entries, write_frames, write_values,
-};
+use amqp_fields::{FLAG, Head, LONG_LONG, LONG_STRING, Node, OCTET, SHORT, SHORT_STRING, TABLE};
+use amqp_fields_write::{WriteError, WriteRefusal, write_entries, write_frames, write_values};
 use amqp_types::ParserError;
 use amqp_vectors::asking::same;
 use std::test::Fail;

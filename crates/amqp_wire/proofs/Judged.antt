@@ -1,8 +1,8 @@
 -- Whole payloads that are decoded without memory.
-use Rattle.std.proofs.Common.{◌≡◌, ◌<◌, ℕ, Bool, true, false, List, [], length, take, Result, Ok, Err, refl, sym, ap, subst, ◌∙◌, arith, IsTrue, ◌∷◌, inl, inr}
+use Rattle.std.proofs.Common.{◌≡◌, ◌<◌, ℕ, Bool, true, false, List, [], length, take, Result, Ok, Err, refl, sym, ap, subst, ◌∙◌, arith, IsTrue, ◌∷◌}
 use Rattle.std.specs.Str.{bytes_eq}
 use Rattle.std.specs.Prelude.{eqb, ◌↔◌, ◌^◌}
-use Rattle.std.proofs.lemmas.Bool.{cases_eq, eq-eqb, ne_eqb}
+use Rattle.std.proofs.lemmas.Bool.{ne_eqb}
 use Rattle.std.proofs.lemmas.List.{take_all}
 use Rattle.std.proofs.lemmas.Slice.Eq.{bytes_eq-Decides}
 use Rattle.amqp_types.specs.Levels.{Level, tidy}
@@ -31,8 +31,8 @@ use Rattle.amqp_wire.specs.declared.frame_type.AMQPFrameType.TheVariants as kind
 use Rattle.amqp_wire.specs.declared.judging.FrameJudgement.{FrameJudgement}
 use Rattle.amqp_wire.specs.declared.version.ProtocolVersion.{ProtocolVersion}
 use Rattle.amqp_wire.specs.Frames.{Frame, Proto, Meth, Head, Body, beat_on, raw_as}
-use Rattle.amqp_wire.specs.Canonical.{payload_of}
 use Rattle.amqp_wire.specs.Spelling.{Spells, bytes_as}
+use Rattle.amqp_wire.proofs.Encoded.{payload_of-beat}
 use Rattle.amqp_wire.proofs.Tidied.{frame_decided}
 use Rattle.amqp_wire.specs.Judgements.{IsAll, JudgesAll, IsJudged, JudgesFrame}
 use Rattle.amqp_wire.specs.Verdicts.{all_of, decode_payload, is_tidy_as}
@@ -47,17 +47,7 @@ same_test false false f g = refl
 
 inside_fault : (error : ParserError) → MayRefuse error → MayRefuse (inside_error error)
 inside_fault errors.Incomplete h = λ e. cc
-inside_fault errors.UnknownFrameType h = h
-inside_fault errors.BadProtocolHeader h = h
-inside_fault errors.BadFrameEnd h = h
-inside_fault errors.UnknownClass h = h
-inside_fault errors.UnknownMethod h = h
-inside_fault errors.ShortPayload h = h
-inside_fault errors.TrailingBytes h = h
-inside_fault errors.NotUtf8 h = h
-inside_fault errors.UnknownTag h = h
-inside_fault errors.TooDeep h = h
-inside_fault errors.NoMemory h = h
+inside_fault error h = h
 
 -- ---- what a whole payload is, where decoding it is lawful
 
@@ -80,7 +70,7 @@ module _ {A : Type 0} (judge : Judge A) (Spells : Level → List ℕ → A → T
         tidy_is = same_test found.tidy (is_tidy payload)
             (λ e.
             payloads.spelled_at judge Spells canonical is_tidy lawful decides tidy payload h.thing
-            (subst (λ bytes. Spells tidy bytes h.thing) used (h.tidy.0 e)))
+            (rw (← used) (h.tidy.0 e)))
             (λ e.
             h.tidy.1 (subst (λ bytes. Spells tidy bytes h.thing) (sym used)
             (payloads.whole_spells judge Spells canonical is_tidy lawful decides tidy payload h.thing fits is e)));
@@ -104,45 +94,46 @@ module _ {A : Type 0} (judge : Judge A) (Spells : Level → List ℕ → A → T
       → JudgesAll judge canonical is_tidy payload (Err errors.TrailingBytes)
   is_trailing payload found less h = ((tt, λ e. cc), payloads.fills_less (length payload) found.used (judge payload) h.thing h.is less)
 
+-- what decoding the whole payload of a method, or of a content header, returns
+abbrev pub JudgesMethod : List ℕ → Result FrameJudgement ParserError → Type 0
+JudgesMethod payload = JudgesAll judge_payload payload_bytes is_tidy_payload payload
+
+abbrev pub JudgesHeader : List ℕ → Result FrameJudgement ParserError → Type 0
+JudgesHeader payload = JudgesAll judge_content_header content_header_bytes is_tidy_content_header payload
+
 -- The payload of a method that was decoded to its end, with no memory, is decoded whole.
 pub method_all : (payload : List ℕ) (found : Judgement) → IsBytes payload → found.used ≡ length payload → JudgesPayload payload (Ok found)
-    → JudgesAll judge_payload payload_bytes is_tidy_payload payload (Ok (record { canonical = found.canonical; tidy = found.tidy }))
+    → JudgesMethod payload (Ok (record { canonical = found.canonical; tidy = found.tidy }))
 method_all = is_all judge_payload SpellsPayload payload_bytes is_tidy_payload payloads_lawful payloads_decided payloads_inside
 
 -- The fault of decoding a method is that of its whole payload, in which an incomplete one is short.
 pub method_refused : (payload : List ℕ) (error : ParserError) → JudgesPayload payload (Err error)
-    → JudgesAll judge_payload payload_bytes is_tidy_payload payload (Err (inside_error error))
+    → JudgesMethod payload (Err (inside_error error))
 method_refused = is_refused judge_payload SpellsPayload payload_bytes is_tidy_payload payloads_lawful payloads_decided payloads_inside
 
 pub method_trailing : (payload : List ℕ) (found : Judgement) → found.used < length payload → JudgesPayload payload (Ok found)
-    → JudgesAll judge_payload payload_bytes is_tidy_payload payload (Err errors.TrailingBytes)
+    → JudgesMethod payload (Err errors.TrailingBytes)
 method_trailing = is_trailing judge_payload SpellsPayload payload_bytes is_tidy_payload payloads_lawful payloads_decided payloads_inside
 
 -- A content header that was decoded to the end of its payload, with no memory, is decoded whole.
 pub header_all : (payload : List ℕ) (found : Judgement) → IsBytes payload → found.used ≡ length payload → JudgesContentHeader payload (Ok found)
-    → JudgesAll judge_content_header content_header_bytes is_tidy_content_header payload (Ok (record { canonical = found.canonical; tidy = found.tidy }))
+    → JudgesHeader payload (Ok (record { canonical = found.canonical; tidy = found.tidy }))
 header_all =
     is_all judge_content_header SpellsContentHeader content_header_bytes is_tidy_content_header
     content_headers_lawful content_headers_decided content_headers_inside
 
 -- The fault of decoding a content header is that of its whole payload, in which an incomplete one is short.
 pub header_refused : (payload : List ℕ) (error : ParserError) → JudgesContentHeader payload (Err error)
-    → JudgesAll judge_content_header content_header_bytes is_tidy_content_header payload (Err (inside_error error))
+    → JudgesHeader payload (Err (inside_error error))
 header_refused =
     is_refused judge_content_header SpellsContentHeader content_header_bytes
-    is_tidy_content_header content_headers_lawful content_headers_decided content_headers_inside
-
-pub header_trailing : (payload : List ℕ) (found : Judgement) → found.used < length payload → JudgesContentHeader payload (Ok found)
-    → JudgesAll judge_content_header content_header_bytes is_tidy_content_header payload (Err errors.TrailingBytes)
-header_trailing =
-    is_trailing judge_content_header SpellsContentHeader content_header_bytes
     is_tidy_content_header content_headers_lawful content_headers_decided content_headers_inside
 
 -- ---- frames
 
 -- What is found of the payload of a method is found of its frame.
 pub method_frame : (channel : ℕ) (payload : List ℕ) (r : Result FrameJudgement ParserError)
-    → JudgesAll judge_payload payload_bytes is_tidy_payload payload r → JudgesFrame (raw_as kinds.Method channel payload) r
+    → JudgesMethod payload r → JudgesFrame (raw_as kinds.Method channel payload) r
 unfolding decode_payload is_tidy_as
 method_frame channel payload (Ok found) h = record {
   frame = Meth channel h.thing;
@@ -154,7 +145,7 @@ method_frame channel payload (Err error) h = (h.0, payloads.refused_map error (�
 
 -- What is found of the payload of a content header is found of its frame.
 pub header_frame : (channel : ℕ) (payload : List ℕ) (r : Result FrameJudgement ParserError)
-    → JudgesAll judge_content_header content_header_bytes is_tidy_content_header payload r → JudgesFrame (raw_as kinds.Header channel payload) r
+    → JudgesHeader payload r → JudgesFrame (raw_as kinds.Header channel payload) r
 unfolding decode_payload is_tidy_as
 header_frame channel payload (Ok found) h = record {
   frame = Head channel h.thing;
@@ -176,12 +167,6 @@ empty_decided : (payload : List ℕ) → bytes_eq payload [] ≡ eqb (length pay
 empty_decided [] = refl
 empty_decided (byte ∷ payload) = sym (ne_eqb (length (byte ∷ payload)) 0 (λ e. absurd (omega (arith, e))))
 
-payload_of-beat : (channel : ℕ) → payload_of (beat_on channel) ≡ []
-payload_of-beat channel = elim (cases_eq channel 0) [
-  | inl zero ↦ rw (eq-eqb channel 0 zero) refl
-  | inr some ↦ rw (ne_eqb channel 0 some) refl
-]
-
 -- A heartbeat is canonical and tidy exactly where it has no payload.
 pub beat_frame : (channel : ℕ) (payload : List ℕ) (empty : Bool) → empty ≡ eqb (length payload) 0
     → JudgesFrame (raw_as kinds.Heartbeat channel payload) (Ok (record { canonical = empty; tidy = empty }))
@@ -198,11 +183,8 @@ pub proto_frame : (channel : ℕ) (payload : List ℕ) (v : ProtocolVersion)
     → decode_payload kinds.ProtocolHeader channel payload ≡ Ok (Proto v.major v.minor v.revision)
     → JudgesFrame (raw_as kinds.ProtocolHeader channel payload) (Ok (record { canonical = true; tidy = true }))
 unfolding decode_payload is_tidy_as
-proto_frame channel [] v is = absurd cc
-proto_frame channel (a ∷ []) v is = absurd cc
-proto_frame channel (a ∷ b ∷ []) v is = absurd cc
 proto_frame channel (a ∷ b ∷ c ∷ []) v is = record { frame = Proto a b c; is = refl; canonical = same_bytes (a ∷ b ∷ c ∷ []); tidy = refl }
-proto_frame channel (a ∷ b ∷ c ∷ d ∷ more) v is = absurd cc
+proto_frame channel payload v is = absurd cc
 
 -- the same of a type that is this one
 pub judged_as : (kind other : AMQPFrameType) (channel : ℕ) (payload : List ℕ) (r : Result FrameJudgement ParserError)

@@ -17,22 +17,12 @@ drop-one_more k b rest some = ap (λ i. drop i (b ∷ rest)) {x = k} {y = suc (k
 
 -- a look after the first byte, seen from in front of it
 pub looked_behind_one : (look : Look) (b : ℕ) (rest : List ℕ) → IsBehind look rest → looked look (b ∷ rest) ≡ behind_byte (looked_behind look rest)
-looked_behind_one looks.Incomplete b rest h = refl
-looked_behind_one looks.UnknownFrameType b rest h = refl
-looked_behind_one looks.BadProtocolHeader b rest h = refl
-looked_behind_one looks.TooLarge b rest h = refl
-looked_behind_one looks.BadFrameEnd b rest h = refl
 looked_behind_one (looks.Whole layout) b rest h =
     ap (λ (xs : List ℕ). took (raw_with layout (take layout.payload_len xs)) layout.frame_len) (drop-one_more layout.payload_start b rest h.0)
     ∙ ap (λ k. took (laid_out_behind layout rest) k) {x = layout.frame_len} {y = 1 + (layout.frame_len - 1)} (omega (arith, h.0, h.1.0))
+looked_behind_one look b rest h = refl
 
 -- the three version bytes of a protocol header, after its `A`
 pub version_payload : (bytes : List ℕ) → 7 ≤ length bytes → get_or bytes 4 0 ∷ get_or bytes 5 0 ∷ get_or bytes 6 0 ∷ [] ≡ take 3 (drop 4 bytes)
-version_payload [] enough = absurd (omega arith)
-version_payload (a ∷ []) enough = absurd (omega arith)
-version_payload (a ∷ b ∷ []) enough = absurd (omega arith)
-version_payload (a ∷ b ∷ c ∷ []) enough = absurd (omega arith)
-version_payload (a ∷ b ∷ c ∷ d ∷ []) enough = absurd (omega arith)
-version_payload (a ∷ b ∷ c ∷ d ∷ e ∷ []) enough = absurd (omega arith)
-version_payload (a ∷ b ∷ c ∷ d ∷ e ∷ f ∷ []) enough = absurd (omega arith)
 version_payload (a ∷ b ∷ c ∷ d ∷ e ∷ f ∷ g ∷ rest) enough = refl
+version_payload bytes enough = absurd (omega arith)

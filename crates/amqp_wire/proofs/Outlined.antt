@@ -1,5 +1,5 @@
 -- The ids and sizes of a frame stand at the front of its payload.
-use Rattle.std.proofs.Common.{◌≡◌, ℕ, ◌≤◌, ◌<◌, ◌^◌, List, [], ◌∷◌, ◌++◌, length, drop, Result, Ok, Err, refl, sym, ap, ap₂, ◌∙◌, arith, inl, inr}
+use Rattle.std.proofs.Common.{◌≡◌, ℕ, ◌≤◌, ◌<◌, ◌^◌, List, [], ◌∷◌, ◌++◌, length, Result, Ok, Err, refl, sym, ap, ap₂, ◌∙◌, arith, inl, inr}
 use Rattle.std.specs.Prelude.{IsOk}
 use Rattle.std.proofs.lemmas.Bool.{cases_eq, eq-eqb, ne_eqb}
 use Rattle.std.proofs.lemmas.Nat.{from_be_bytes-to_be_bytes_2, from_be_bytes-to_be_bytes_8}
@@ -14,7 +14,7 @@ use Rattle.amqp_types.specs.Tidiness.{short_at}
 use Rattle.amqp_wire.specs.declared.frame_type.AMQPFrameType.{AMQPFrameType}
 use Rattle.amqp_wire.specs.declared.frame_type.AMQPFrameType.TheVariants as kinds
 use Rattle.amqp_wire.specs.declared.outline.FrameOutline.TheVariants as outlines
-use Rattle.amqp_wire.specs.Frames.{Frame, Proto, Meth, Head, Body, Beat, BadBeat, channel_id_of, beat_on}
+use Rattle.amqp_wire.specs.Frames.{Frame, Proto, Meth, Head, Body, channel_id_of, beat_on}
 use Rattle.amqp_wire.specs.Outlines.{outline_of, outline_channel, long_long_at, outline_at, IsEnough}
 use Rattle.amqp_wire.specs.Verdicts.{all_of, decode_payload}
 use Rattle.amqp_wire.proofs.Encoded.{read_as}
@@ -23,22 +23,17 @@ use Rattle.amqp_wire.proofs.Typed.{method_spells, header_spells}
 -- an outline has the channel of its frame
 pub outline_of-channel : (frame : Frame) → outline_channel (outline_of frame) ≡ channel_id_of frame
 outline_of-channel (Proto major minor revision) = refl
-outline_of-channel (Meth channel m) = refl
-outline_of-channel (Head channel header) = refl
-outline_of-channel (Body channel content) = refl
-outline_of-channel Beat = refl
-outline_of-channel (BadBeat channel) = refl
+outline_of-channel frame = refl
 
 -- ---- methods
 
 -- a payload of a method begins with its ids
-pub record HasIds (payload : List ℕ) (m : Method) (slot_bytes : List ℕ) : Type 0 where
-  pub enough : 4 ≤ length payload
-  pub class_is : short_at 0 payload ≡ m.class
-  pub id_is : short_at 2 payload ≡ m.id
-  pub behind_is : drop 4 payload ≡ slot_bytes
+record HasIds (payload : List ℕ) (m : Method) : Type 0 where
+  enough : 4 ≤ length payload
+  class_is : short_at 0 payload ≡ m.class
+  id_is : short_at 2 payload ≡ m.id
 
-pub ids_spelled : (payload : List ℕ) (m : Method) (h : SpellsPayload plain payload m) → HasIds payload m h.slot_bytes
+ids_spelled : (payload : List ℕ) (m : Method) → SpellsPayload plain payload m → HasIds payload m
 ids_spelled payload m h =
     let are : payload ≡ number_bytes bytes2 m.class ++ (number_bytes bytes2 m.id ++ h.slot_bytes) =
     h.bytes_are ∙ ap₂ (λ xs ys. xs ++ (ys ++ h.slot_bytes)) h.class_is.bytes_are h.id_is.bytes_are in
@@ -46,7 +41,6 @@ ids_spelled payload m h =
       enough = omega (arith, ap length are);
       class_is = ap (short_at 0) are ∙ from_be_bytes-to_be_bytes_2 m.class h.class_is.fits;
       id_is = ap (short_at 2) are ∙ from_be_bytes-to_be_bytes_2 m.id h.id_is.fits;
-      behind_is = ap (drop 4) are;
     }
 
 -- ---- content headers
@@ -99,38 +93,6 @@ pub record IsOutlined (kind : AMQPFrameType) (channel : ℕ) (payload : List ℕ
   pub enough : IsEnough kind payload
   pub outline_is : outline_at kind channel payload ≡ outline_of frame
 
-proto_outlined : (channel : ℕ) (payload : List ℕ) (frame : Frame)
-    → decode_payload kinds.ProtocolHeader channel payload ≡ Ok frame → IsOutlined kinds.ProtocolHeader channel payload frame
-unfolding decode_payload
-proto_outlined channel [] frame h = absurd cc
-proto_outlined channel (a ∷ []) frame h = absurd cc
-proto_outlined channel (a ∷ b ∷ []) frame h = absurd cc
-proto_outlined channel (a ∷ b ∷ c ∷ []) frame h =
-    let is : Proto a b c ≡ frame = cc in
-    record { enough = tt; outline_is = ap outline_of is }
-proto_outlined channel (a ∷ b ∷ c ∷ d ∷ more) frame h = absurd cc
-
-method_outlined : (channel : ℕ) (payload : List ℕ) (frame : Frame) → IsBytes payload
-    → decode_payload kinds.Method channel payload ≡ Ok frame → IsOutlined kinds.Method channel payload frame
-unfolding decode_payload
-method_outlined channel payload frame fits h =
-    let read = read_as (λ x. Meth channel x) (all_of judge_payload payload) frame h in
-    let ids = ids_spelled payload read.0 (method_spells plain payload read.0 fits read.1 refl) in
-    record { enough = ids.enough; outline_is = ap₂ (λ class id. outlines.Method channel class id) ids.class_is ids.id_is ∙ ap outline_of read.2 }
-
-header_outlined : (channel : ℕ) (payload : List ℕ) (frame : Frame) → IsBytes payload
-    → decode_payload kinds.Header channel payload ≡ Ok frame → IsOutlined kinds.Header channel payload frame
-unfolding decode_payload
-header_outlined channel payload frame fits h =
-    let read = read_as (λ x. Head channel x) (all_of judge_content_header payload) frame h in
-    let front = header_front (header_spells plain payload read.0 fits read.1 refl) in
-    let class : short_at 0 payload ≡ read.0.class_id =
-    ap (short_at 0) front.bytes_are ∙ from_be_bytes-to_be_bytes_2 front.class front.class_fits ∙ sym (ap (λ (x : ContentHeader). x.class_id) front.header_is) in
-    let size : long_long_at 4 payload ≡ read.0.body_size =
-    ap (long_long_at 4) front.bytes_are ∙ from_be_bytes-to_be_bytes_8 front.size front.size_fits
-    ∙ sym (ap (λ (x : ContentHeader). x.body_size) front.header_is) in
-    record { enough = omega (arith, ap length front.bytes_are); outline_is = ap₂ (λ c s. outlines.Header channel c s) class size ∙ ap outline_of read.2 }
-
 beat_outline : (channel : ℕ) → outlines.Heartbeat channel ≡ outline_of (beat_on channel)
 beat_outline channel = elim (cases_eq channel 0) [
   | inl none ↦ rw (eq-eqb channel 0 none) (ap (λ n. outlines.Heartbeat n) none)
@@ -141,9 +103,23 @@ beat_outline channel = elim (cases_eq channel 0) [
 pub outlined : (kind : AMQPFrameType) (channel : ℕ) (payload : List ℕ) (frame : Frame)
     → IsBytes payload → decode_payload kind channel payload ≡ Ok frame → IsOutlined kind channel payload frame
 unfolding decode_payload
-outlined kinds.ProtocolHeader channel payload frame fits h = proto_outlined channel payload frame h
-outlined kinds.Method channel payload frame fits h = method_outlined channel payload frame fits h
-outlined kinds.Header channel payload frame fits h = header_outlined channel payload frame fits h
+outlined kinds.ProtocolHeader channel (a ∷ b ∷ c ∷ []) frame fits h =
+    let is : Proto a b c ≡ frame = cc in
+    record { enough = tt; outline_is = ap outline_of is }
+outlined kinds.ProtocolHeader channel payload frame fits h = absurd cc
+outlined kinds.Method channel payload frame fits h =
+    let read = read_as (λ x. Meth channel x) (all_of judge_payload payload) frame h in
+    let ids = ids_spelled payload read.0 (method_spells plain payload read.0 fits read.1 refl) in
+    record { enough = ids.enough; outline_is = ap₂ (λ class id. outlines.Method channel class id) ids.class_is ids.id_is ∙ ap outline_of read.2 }
+outlined kinds.Header channel payload frame fits h =
+    let read = read_as (λ x. Head channel x) (all_of judge_content_header payload) frame h in
+    let front = header_front (header_spells plain payload read.0 fits read.1 refl) in
+    let class : short_at 0 payload ≡ read.0.class_id =
+    ap (short_at 0) front.bytes_are ∙ from_be_bytes-to_be_bytes_2 front.class front.class_fits ∙ sym (ap (λ (x : ContentHeader). x.class_id) front.header_is) in
+    let size : long_long_at 4 payload ≡ read.0.body_size =
+    ap (long_long_at 4) front.bytes_are ∙ from_be_bytes-to_be_bytes_8 front.size front.size_fits
+    ∙ sym (ap (λ (x : ContentHeader). x.body_size) front.header_is) in
+    record { enough = omega (arith, ap length front.bytes_are); outline_is = ap₂ (λ c s. outlines.Header channel c s) class size ∙ ap outline_of read.2 }
 outlined kinds.Body channel payload frame fits h =
     let is : Body channel payload ≡ frame = cc in
     record { enough = tt; outline_is = ap outline_of is }

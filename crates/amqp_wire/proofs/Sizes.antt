@@ -139,24 +139,15 @@ slice_by : (deep long : Bool) (bytes old : List ℕ) (error : GenError) → meas
     → SliceAnswers old old (measured deep long bytes) bytes (Err error)
 slice_by deep long bytes old errors.TooDeep e = (e, refl)
 slice_by deep long bytes old errors.TooLong e = (e, refl)
-slice_by true long bytes old errors.NoMemory e = absurd cc
-slice_by false true bytes old errors.NoMemory e = absurd cc
-slice_by false false bytes old errors.NoMemory e = absurd cc
-slice_by true long bytes old errors.BufferTooSmall e = absurd cc
-slice_by false true bytes old errors.BufferTooSmall e = absurd cc
-slice_by false false bytes old errors.BufferTooSmall e = absurd cc
+slice_by true long bytes old error e = absurd cc
+slice_by false true bytes old error e = absurd cc
+slice_by false false bytes old error e = absurd cc
 
 -- A frame without a size is refused for that reason, and leaves the slice as it was.
 pub slice_refused : (f : Frame) (error : GenError) (old : List ℕ) → size_of f ≡ Err error → SliceAnswers old old (size_of f) (canon f) (Err error)
 unfolding size_of
 slice_refused f error old e = slice_by (is_deep f) (is_long f) (canon f) old error e
 
-ok_by : (deep long : Bool) (bytes : List ℕ) (k : ℕ) → measured deep long bytes ≡ Ok k → k ≡ length bytes
-ok_by true long bytes k e = absurd cc
-ok_by false true bytes k e = absurd cc
-ok_by false false bytes k e = cc
-
 -- The size of a frame is the length of its canonical bytes.
 pub size_is : (f : Frame) (n : ℕ) → size_of f ≡ Ok n → n ≡ length (canon f)
-unfolding size_of
-size_is f n e = ok_by (is_deep f) (is_long f) (canon f) n e
+size_is f n e = subst (λ size. SizeIs size (canon f)) e (size_is_length f).1

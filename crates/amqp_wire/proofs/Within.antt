@@ -3,8 +3,8 @@ use Rattle.std.proofs.Common.{◌≡◌, ℕ, ◌+◌, ◌^◌, ◌<◌, List, [
 use Rattle.std.proofs.lemmas.Bool.{cases_eq, eq-eqb, ne_eqb}
 use Rattle.std.proofs.lemmas.List.{length-take-le}
 use Rattle.amqp_types.specs.Levels.{plain}
-use Rattle.amqp_types.specs.Judging.{Fault, Judged, past, fault, took, trailing_bytes, short_payload, unknown_frame_type}
-use Rattle.amqp_types.specs.Judging.{bad_protocol_header, bad_frame_end, IsBytes}
+use Rattle.amqp_types.specs.Judging.{Fault, Judged, past, fault, took, trailing_bytes, short_payload, unknown_frame_type, bad_protocol_header, bad_frame_end}
+use Rattle.amqp_types.specs.Judging.{IsBytes}
 use Rattle.amqp_types.specs.Answers.{RefusesWhole}
 use Rattle.amqp_types.specs.PayloadFaults.{IsInside}
 use Rattle.amqp_types.specs.ValueJudging.{read_map}
@@ -45,15 +45,9 @@ header_sized a b c f same =
 pub whole_sized : (kind : AMQPFrameType) (channel : ℕ) (payload : List ℕ) (f : Frame) → channel < 2 ^ 16 → IsBytes payload
     → length payload < 2 ^ 32 → decode_payload kind channel payload ≡ Ok f → IsSizedWithin (size_of f) (canon f) (length payload + 8)
 unfolding decode_payload
-whole_sized kinds.ProtocolHeader channel [] f on fits few e = absurd cc
-whole_sized kinds.ProtocolHeader channel (a ∷ []) f on fits few e = absurd cc
-whole_sized kinds.ProtocolHeader channel (a ∷ b ∷ []) f on fits few e = absurd cc
 whole_sized kinds.ProtocolHeader channel (a ∷ b ∷ c ∷ []) f on fits few e = header_sized a b c f cc
-whole_sized kinds.ProtocolHeader channel (a ∷ b ∷ c ∷ d ∷ more) f on fits few e = absurd cc
-whole_sized kinds.Method channel payload f on fits few e = around kinds.Method channel payload f (λ h. absurd cc) on fits few e
-whole_sized kinds.Header channel payload f on fits few e = around kinds.Header channel payload f (λ h. absurd cc) on fits few e
-whole_sized kinds.Body channel payload f on fits few e = around kinds.Body channel payload f (λ h. absurd cc) on fits few e
-whole_sized kinds.Heartbeat channel payload f on fits few e = around kinds.Heartbeat channel payload f (λ h. absurd cc) on fits few e
+whole_sized kinds.ProtocolHeader channel payload f on fits few e = absurd cc
+whole_sized kind channel payload f on fits few e = around kind channel payload f (λ h. absurd cc) on fits few e
 
 -- A frame that was decoded at level plain has a size, which is no more than the bytes that it used.
 pub verdict_sized : (bytes : List ℕ) (f : Frame) (n : ℕ) → IsBytes bytes → judge_frame plain None bytes ≡ took f n → IsSizedWithin (size_of f) (canon f) n
@@ -75,11 +69,11 @@ inside_whole bad h = h
 
 -- A payload that is not decoded whole has a fault of its inside, or trailing bytes.
 pub filling_fails : {A : Type 0} (n : ℕ) (j : Judged A) (bad : Fault) → ((one : Fault) → j ≡ fault one → IsInside one) → filling n j ≡ Err bad → IsWhole bad
-filling_fails n past bad inside h = let same : short_payload ≡ bad = cc in subst IsWhole same tt
-filling_fails n (fault one) bad inside h = let same : one ≡ bad = cc in subst IsWhole same (inside_whole one (inside one refl))
+filling_fails n past bad inside h = let same : short_payload ≡ bad = cc in rw (← same) tt
+filling_fails n (fault one) bad inside h = let same : one ≡ bad = cc in rw (← same) (inside_whole one (inside one refl))
 filling_fails n (took x used) bad inside h = elim (cases_eq used n) [
   | inl same ↦ absurd (let e = rw (eq-eqb used n same) at h in cc)
-  | inr other ↦ let e = rw (ne_eqb used n other) at h in let same : trailing_bytes ≡ bad = cc in subst IsWhole same tt
+  | inr other ↦ let e = rw (ne_eqb used n other) at h in let same : trailing_bytes ≡ bad = cc in rw (← same) tt
 ]
 
 map_fails : {A B : Type 0} (make : A → B) (r : Result A Fault) (bad : Fault) → read_map make r ≡ Err bad → r ≡ Err bad
@@ -89,18 +83,15 @@ map_fails make (Err one) bad h = let same : one ≡ bad = cc in ap Err same
 -- A whole payload is refused for what stands inside it, or for trailing bytes.
 pub whole_fails : (kind : AMQPFrameType) (channel : ℕ) (payload : List ℕ) (bad : Fault) → decode_payload kind channel payload ≡ Err bad → IsWhole bad
 unfolding decode_payload
-whole_fails kinds.ProtocolHeader channel [] bad h = let same : short_payload ≡ bad = cc in subst IsWhole same tt
-whole_fails kinds.ProtocolHeader channel (a ∷ []) bad h = let same : short_payload ≡ bad = cc in subst IsWhole same tt
-whole_fails kinds.ProtocolHeader channel (a ∷ b ∷ []) bad h = let same : short_payload ≡ bad = cc in subst IsWhole same tt
 whole_fails kinds.ProtocolHeader channel (a ∷ b ∷ c ∷ []) bad h = absurd cc
-whole_fails kinds.ProtocolHeader channel (a ∷ b ∷ c ∷ d ∷ more) bad h = let same : trailing_bytes ≡ bad = cc in subst IsWhole same tt
+whole_fails kinds.ProtocolHeader channel (a ∷ b ∷ c ∷ d ∷ more) bad h = let same : trailing_bytes ≡ bad = cc in rw (← same) tt
+whole_fails kinds.ProtocolHeader channel payload bad h = let same : short_payload ≡ bad = cc in rw (← same) tt
 whole_fails kinds.Method channel payload bad h =
     filling_fails (length payload) (judge_payload payload) bad (payloads_inside payload) (map_fails (λ m. Meth channel m) (all_of judge_payload payload) bad h)
 whole_fails kinds.Header channel payload bad h =
     filling_fails (length payload) (judge_content_header payload) bad (content_headers_inside payload)
     (map_fails (λ header. Head channel header) (all_of judge_content_header payload) bad h)
-whole_fails kinds.Body channel payload bad h = absurd cc
-whole_fails kinds.Heartbeat channel payload bad h = absurd cc
+whole_fails kind channel payload bad h = absurd cc
 
 -- An error that says why a whole payload is refused is one of the errors of a payload.
 pub error_whole : {A : Type 0} (error : ParserError) (read : Result A Fault)
@@ -109,11 +100,4 @@ error_whole errors.Incomplete read fails h = h
 error_whole errors.UnknownFrameType read fails h = fails unknown_frame_type h
 error_whole errors.BadProtocolHeader read fails h = fails bad_protocol_header h
 error_whole errors.BadFrameEnd read fails h = fails bad_frame_end h
-error_whole errors.UnknownClass read fails h = tt
-error_whole errors.UnknownMethod read fails h = tt
-error_whole errors.ShortPayload read fails h = tt
-error_whole errors.TrailingBytes read fails h = tt
-error_whole errors.NotUtf8 read fails h = tt
-error_whole errors.UnknownTag read fails h = tt
-error_whole errors.TooDeep read fails h = tt
-error_whole errors.NoMemory read fails h = tt
+error_whole error read fails h = tt

@@ -1,7 +1,7 @@
 //! The words of a line read: the kind of a frame, its channel and its payload.
 #![tactic(auto)]
 
-ghost use Rattle.std.specs.Prelude.{◌≡◌, ◌%◌, ◌^◌, drop};
+ghost use Rattle.std.specs.Prelude.{◌≡◌};
 ghost use Rattle.amqp_types.specs.Rows.{slots_at};
 ghost use Rattle.amqp_lines.specs.Rendering.{AppendsText};
 ghost use Rattle.amqp_lines.specs.Reading.{Finds, ReadsWords, channel_at, kind_at};

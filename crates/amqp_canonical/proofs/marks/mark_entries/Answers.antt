@@ -1,14 +1,14 @@
 -- `mark_entries`: clause `marked`, what loops keep and what falls with each iteration.
-use Rattle.std.proofs.Common.{refl, ◌≡◌, ◌+◌, ◌∙◌, ◌<◌, List, length, take, drop, sym, ap, subst, arith}
-use Rattle.std.specs.Prelude.{All}
+use Rattle.std.proofs.Common.{refl, ◌≡◌, ◌∙◌, ◌<◌, length, take, drop, sym, ap, arith}
 use Rattle.amqp_types.proofs.Bytes.{IsBytes-drop}
+use Rattle.std.proofs.lemmas.List.Elements.{All-push}
 use Rattle.amqp_canonical.specs.Leads.{leading}
 use Rattle.amqp_canonical.specs.Marks.{IsMarkOf}
 use Rattle.amqp_canonical.specs.Writes.{entry_bytes, key_in}
-use Rattle.amqp_canonical.proofs.Leading.{all_marked, key_is_short}
+use Rattle.amqp_canonical.proofs.Leading.{key_is_short}
 use Rattle.std.proofs.lemmas.List.{take_more_set, length-set, take_rest}
 use Rattle.amqp_canonical.specs.declared.marks.EntryMark.{EntryMark}
-use Rattle.amqp_canonical.proofs.Marking.{MarkedTo, marked_next, marked_end}
+use Rattle.amqp_canonical.proofs.Marking.{marked_next, marked_end}
 use Rattle.amqp_canonical.proofs.PutParts.{copied_as}
 use Rattle.amqp_canonical.proofs.marks.mark_entries.Goals as goal
 
@@ -49,16 +49,14 @@ loop-at-preserved c =
           let fits = c.size_copied.ensures some in
           copied_as entry_bytes (drop at content) span.size c.size_copied.result _ (sym fits.1) (copied fits.0 room read);
     } in
-    let L : List EntryMark → Type 0 = λ ms. All (IsMarkOf content) ms in (
+    let taken = take_more_set marks count mark more in (
       length-set marks count mark ∙ c.loop-at.invariant.0,
       omega (arith, more, length-set marks count mark),
-      subst L (sym (take_more_set marks count mark more)) (all_marked content (take count marks) mark c.loop-at.invariant.2 is),
-      λ room read.
-          let P : List EntryMark → Type 0 = λ ms. MarkedTo room content (at + span.size) ms in
-          subst P (sym (take_more_set marks count mark more)) (marked_next room content at span.size (take count marks) mark
+      rw taken (All-push (IsMarkOf content) _ mark c.loop-at.invariant.2 is),
+      λ room read. rw taken (marked_next room content at span.size (take count marks) mark
           (λ k. omega (arith, c.type_inv.content k)) c.loop-at-test.true (sized room) refl (c.loop-at.invariant.3 room read)),
     )
 
 pub returns-clause-marked : goal.returns-clause-marked
 returns-clause-marked c =
-    λ room read. marked_end room c.args.content.now c.loop-at.at (take c.loop-at.count c.loop-at.marks) c.loop-at-test.false (c.loop-at.invariant.3 room read)
+    λ room read. marked_end _ _ _ _ c.loop-at-test.false (c.loop-at.invariant.3 room read)

@@ -8,5 +8,5 @@ loop-k-preserved c =
     let l = c.loop-k in (
       c.swap.ensures.len ∙ l.invariant.0,
       omega (arith, l.invariant.1, c.swap.ensures.len),
-      IsPermutation-trans c.args.marks.now l.marks c.swap.new.self l.invariant.2 c.swap.ensures.permutation,
+      IsPermutation-trans _ _ _ l.invariant.2 c.swap.ensures.permutation,
     )

@@ -3,4 +3,4 @@ use Rattle.std.proofs.lemmas.List.Sorted.{IsPermutation-trans}
 use Rattle.amqp_canonical.proofs.marks.sort_by_gap.Goals as goal
 
 pub loop-k-preserved : goal.loop-k-preserved
-loop-k-preserved c = IsPermutation-trans c.args.marks.now c.loop-k.marks c.move_down.new.marks c.loop-k.invariant c.move_down.ensures
+loop-k-preserved c = IsPermutation-trans _ _ _ c.loop-k.invariant c.move_down.ensures

@@ -2,7 +2,8 @@
 use Rattle.std.proofs.Common.{length, drop, ap, arith}
 use Rattle.std.proofs.lemmas.List.{length-drop}
 use Rattle.amqp_types.specs.Numbers.{bytes2, bytes8}
-use Rattle.amqp_canonical.proofs.GivenParts.{header_again, number_here}
+use Rattle.amqp_canonical.proofs.GivenParts.{header_again}
+use Rattle.amqp_canonical.proofs.PayloadParts.{number_here}
 use Rattle.amqp_canonical.proofs.payload_parts.header_parts.Goals as goal
 
 pub returns-clause-same : goal.returns-clause-same

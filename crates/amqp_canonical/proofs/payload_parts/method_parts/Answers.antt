@@ -2,7 +2,8 @@
 use Rattle.std.proofs.Common.{drop, arith}
 use Rattle.std.proofs.lemmas.List.{length-drop}
 use Rattle.amqp_types.specs.Numbers.{bytes2}
-use Rattle.amqp_canonical.proofs.GivenParts.{method_again, number_here}
+use Rattle.amqp_canonical.proofs.GivenParts.{method_again}
+use Rattle.amqp_canonical.proofs.PayloadParts.{number_here}
 use Rattle.amqp_canonical.proofs.payload_parts.method_parts.Goals as goal
 
 pub returns : goal.returns

@@ -6,63 +6,31 @@ use Rattle.amqp_canonical.proofs.payload_writing.put_header.Goals as goal
 
 pub put_if_room-weight_place-requires : goal.put_if_room-weight_place-requires
 put_if_room-weight_place-requires g c =
-    let h =
-    header_parts c.args.class c.args.body_size c.args.properties.now (omega (arith, c.ranges.class)) (omega (arith, c.ranges.body_size)) c.requires.read in
-    record { room = has_room (omega (arith, ap length h.bytes_are, ap length c.to_be_bytes.ensures)) refl c.requires.room }
+    let h = header_parts c.args.class c.args.body_size c.args.properties.now (omega arith) (omega arith) c.requires.read in
+    record { room = has_room (omega (arith, ap length h.1, ap length c.to_be_bytes.ensures)) refl c.requires.room }
 
 pub put_if_room-size_place-requires : goal.put_if_room-size_place-requires
 put_if_room-size_place-requires g c =
-    let h =
-    header_parts c.args.class c.args.body_size c.args.properties.now (omega (arith, c.ranges.class)) (omega (arith, c.ranges.body_size)) c.requires.read in
-    record {
-      room =
-          has_room (omega (arith, ap length h.bytes_are, ap length c.to_be_bytes.ensures, c.put_if_room-weight_place.ensures.behind))
-          c.put_if_room-weight_place.ensures.same c.requires.room;
-    }
+    let h = header_parts c.args.class c.args.body_size c.args.properties.now (omega arith) (omega arith) c.requires.read in
+    record { room = has_room (omega (arith, ap length h.1, ap length c.to_be_bytes.ensures)) c.put_if_room-weight_place.ensures.same c.requires.room }
 
 pub put_if_room-place-requires : goal.put_if_room-place-requires
 put_if_room-place-requires g c =
-    let h =
-    header_parts c.args.class c.args.body_size c.args.properties.now (omega (arith, c.ranges.class)) (omega (arith, c.ranges.body_size)) c.requires.read in
+    let h = header_parts c.args.class c.args.body_size c.args.properties.now (omega arith) (omega arith) c.requires.read in
+    let same = c.put_if_room-size_place.ensures.same ∙ c.put_if_room-weight_place.ensures.same in
+    record { room = has_room (omega (arith, ap length h.1, ap length c.to_be_bytes.ensures, ap length c.to_be_bytes-2.ensures)) same c.requires.room }
+
+pub put_properties-requires : goal.put_properties-requires
+put_properties-requires g c =
+    let h = header_parts c.args.class c.args.body_size c.args.properties.now (omega arith) (omega arith) c.requires.read in
+    let same = c.put_if_room-place.ensures.same ∙ c.put_if_room-size_place.ensures.same ∙ c.put_if_room-weight_place.ensures.same in
     record {
-      room =
-          has_room
-          (omega (
-            arith,
-            ap length h.bytes_are,
-            ap length c.to_be_bytes.ensures,
-            c.put_if_room-weight_place.ensures.behind,
-            c.put_if_room-size_place.ensures.behind,
-            ap length c.to_be_bytes-2.ensures,
-          ))
-          (c.put_if_room-size_place.ensures.same ∙ c.put_if_room-weight_place.ensures.same) c.requires.room;
+      read = h.0;
+      room = has_room (omega (arith, ap length h.1, ap length c.to_be_bytes.ensures, ap length c.to_be_bytes-2.ensures)) same c.requires.room;
     }
-
-pub put_properties-requires-clause-read : goal.put_properties-requires-clause-read
-put_properties-requires-clause-read g c =
-    let h =
-    header_parts c.args.class c.args.body_size c.args.properties.now (omega (arith, c.ranges.class)) (omega (arith, c.ranges.body_size)) c.requires.read in
-    h.read
-
-pub put_properties-requires-clause-room : goal.put_properties-requires-clause-room
-put_properties-requires-clause-room g c =
-    let h =
-    header_parts c.args.class c.args.body_size c.args.properties.now (omega (arith, c.ranges.class)) (omega (arith, c.ranges.body_size)) c.requires.read in
-    has_room
-    (omega (
-      arith,
-      ap length h.bytes_are,
-      ap length c.to_be_bytes.ensures,
-      c.put_if_room-weight_place.ensures.behind,
-      c.put_if_room-size_place.ensures.behind,
-      ap length c.to_be_bytes-2.ensures,
-      c.put_if_room-place.ensures.behind,
-    ))
-    (c.put_if_room-place.ensures.same ∙ c.put_if_room-size_place.ensures.same ∙ c.put_if_room-weight_place.ensures.same) c.requires.room
 
 pub returns : goal.returns
 returns g c =
-    let h =
-    header_parts c.args.class c.args.body_size c.args.properties.now (omega (arith, c.ranges.class)) (omega (arith, c.ranges.body_size)) c.requires.read in
+    let h = header_parts c.args.class c.args.body_size c.args.properties.now (omega arith) (omega arith) c.requires.read in
     let rest = then_put c.put_if_room-size_place.ensures (then_put (same_put c.to_be_bytes-2.ensures c.put_if_room-place.ensures) c.put_properties.ensures) in
-    same_put (sym h.bytes_are) (then_put (same_put c.to_be_bytes.ensures c.put_if_room-weight_place.ensures) rest)
+    same_put (sym h.1) (then_put (same_put c.to_be_bytes.ensures c.put_if_room-weight_place.ensures) rest)

@@ -1,7 +1,6 @@
 -- `put_payload`: what it ensures and what calls require.
-use Rattle.std.proofs.Common.{List, ℕ, length, sym, ap, subst, arith}
-use Rattle.amqp_types.specs.Methods.{judge_payload, payload_bytes}
-use Rattle.amqp_canonical.specs.Writes.{IsRead, canonical_of}
+use Rattle.amqp_canonical.specs.Payloads.{canonical_method}
+use Rattle.std.proofs.Common.{length, ap, arith}
 use Rattle.amqp_canonical.proofs.Putting.{put_in_room, same_put}
 use Rattle.amqp_canonical.proofs.PayloadParts.{payload_long}
 use Rattle.amqp_canonical.proofs.payload_writing.put_payload.Goals as goal
@@ -10,13 +9,12 @@ pub method_parts-class-requires : goal.method_parts-class-requires
 method_parts-class-requires c = payload_long c.args.i.now c.requires.read
 
 pub put_method-requires-clause-read : goal.put_method-requires-clause-read
-put_method-requires-clause-read c = let P : List ℕ → Type 0 = λ bs. IsRead (judge_payload bs) in subst P (sym c.method_parts-class.ensures) c.requires.read
+put_method-requires-clause-read c = rw c.method_parts-class.ensures c.requires.read
 
 pub put_method-requires-clause-room : goal.put_method-requires-clause-room
-put_method-requires-clause-room c = record {
-  few = omega (arith, ap (λ bs. length (canonical_of payload_bytes (judge_payload bs))) c.method_parts-class.ensures, c.requires.room);
-  room = λ known. omega (arith, ap (λ bs. length (canonical_of payload_bytes (judge_payload bs))) c.method_parts-class.ensures, c.requires.room);
-}
+put_method-requires-clause-room c =
+    let same = ap (λ bs. length (canonical_method bs)) c.method_parts-class.ensures in
+    record { few = omega (arith, same, c.requires.room); room = λ known. omega (arith, same, c.requires.room) }
 
 pub returns : goal.returns
-returns c = put_in_room c.requires.room (same_put (ap (λ bs. canonical_of payload_bytes (judge_payload bs)) c.method_parts-class.ensures) c.put_method.ensures)
+returns c = put_in_room c.requires.room (same_put (ap (λ bs. canonical_method bs) c.method_parts-class.ensures) c.put_method.ensures)

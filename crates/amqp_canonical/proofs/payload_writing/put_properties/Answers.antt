@@ -1,9 +1,9 @@
 -- `put_properties`: what it ensures and what calls require.
-use Rattle.std.proofs.Common.{List, ℕ, length, refl, sym, ap, subst, arith}
+use Rattle.std.proofs.Common.{length, refl, sym, ap, arith}
 use Rattle.amqp_types.specs.Properties.{properties}
 use Rattle.amqp_types.specs.PropertyJudging.{judge_set}
 use Rattle.amqp_types.specs.PropertyBytes.{set_bytes}
-use Rattle.amqp_canonical.specs.Writes.{IsRead, canonical_of}
+use Rattle.amqp_canonical.specs.Writes.{canonical_of}
 use Rattle.amqp_canonical.proofs.PayloadParts.{properties_put}
 use Rattle.amqp_canonical.proofs.Putting.{has_room, same_put, then_put}
 use Rattle.amqp_canonical.proofs.payload_writing.put_properties.Goals as goal
@@ -13,18 +13,14 @@ put_if_room-place-requires g c =
     let h = properties_put c.args.i.now c.short_at-mask.result (λ k. omega (arith, c.type_inv.i k)) c.requires.read c.short_at-mask.ensures in
     record { room = has_room (omega (arith, ap length h.bytes_are, ap length c.to_be_bytes.ensures)) refl c.requires.room }
 
-pub put_set-requires-clause-read : goal.put_set-requires-clause-read
-put_set-requires-clause-read g c =
-    let h = properties_put c.args.i.now c.short_at-mask.result (λ k. omega (arith, c.type_inv.i k)) c.requires.read c.short_at-mask.ensures in
-    let P : List ℕ → Type 0 = λ bs. IsRead (judge_set c.short_at-mask.result properties bs) in
-    subst P (sym c.bytes_from.ensures) h.read
-
-pub put_set-requires-clause-room : goal.put_set-requires-clause-room
-put_set-requires-clause-room g c =
+pub put_set-requires : goal.put_set-requires
+put_set-requires g c =
     let h = properties_put c.args.i.now c.short_at-mask.result (λ k. omega (arith, c.type_inv.i k)) c.requires.read c.short_at-mask.ensures in
     let same = ap (λ bs. length (canonical_of (set_bytes properties) (judge_set c.short_at-mask.result properties bs))) c.bytes_from.ensures in
-    has_room (omega (arith, ap length h.bytes_are, ap length c.to_be_bytes.ensures, c.put_if_room-place.ensures.behind, same))
-    c.put_if_room-place.ensures.same c.requires.room
+    record {
+      read = rw c.bytes_from.ensures h.read;
+      room = has_room (omega (arith, ap length h.bytes_are, ap length c.to_be_bytes.ensures, same)) c.put_if_room-place.ensures.same c.requires.room;
+    }
 
 pub returns : goal.returns
 returns g c =

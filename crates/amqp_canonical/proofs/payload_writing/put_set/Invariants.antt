@@ -1,7 +1,6 @@
 -- `put_set`: what loops keep.
-use Rattle.amqp_types.specs.Properties.{properties}
 use Rattle.amqp_canonical.proofs.PayloadParts.{SetPut}
 use Rattle.amqp_canonical.proofs.payload_writing.put_set.Given as goal
 
 abbrev pub invariant-loop-shape : goal.invariant-loop-shape
-invariant-loop-shape g l = SetPut l.mask properties l.i l.rest l.shape-index l.fn.buf l.buf l.at l.end
+invariant-loop-shape g l = SetPut l.mask l.i l.rest l.shape-index l.fn.buf l.buf l.at l.end

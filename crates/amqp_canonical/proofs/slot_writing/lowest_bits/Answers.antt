@@ -2,7 +2,8 @@
 use Rattle.std.proofs.Common.{◌≡◌, ◌*◌, ◌^◌, ◌%◌, sym, ap, ◌∙◌, arith}
 use Rattle.std.proofs.lemmas.Nat.{pow_below}
 use Rattle.amqp_types.proofs.FormLaws.{flags_byte_back}
-use Rattle.amqp_canonical.proofs.SlotParts.{lowest_flags, byte_below}
+use Rattle.amqp_canonical.proofs.OneSlot.{fits_where}
+use Rattle.amqp_canonical.proofs.SlotParts.{lowest_flags}
 use Rattle.amqp_canonical.proofs.slot_writing.lowest_bits.Goals as goal
 
 pub returns-then-count-lt8 : goal.returns-then-count-lt8
@@ -12,4 +13,4 @@ returns-then-count-lt8 c =
     ap (λ m. c.args.byte % m) power ∙ lowest_flags c.args.count c.args.byte
 
 pub returns-else-count-lt8 : goal.returns-else-count-lt8
-returns-else-count-lt8 c = sym (flags_byte_back c.args.count c.args.byte (byte_below c.args.count c.args.byte c.if-count-lt8.false (omega arith)))
+returns-else-count-lt8 c = sym (flags_byte_back c.args.count c.args.byte (fits_where c.args.count c.args.byte (omega arith) c.if-count-lt8.false))

@@ -1,14 +1,11 @@
 -- `judge_field_table`: clause `judged`.
 use Rattle.std.proofs.Common.{arith}
-use Rattle.amqp_types.specs.Levels.{tidy, strict}
-use Rattle.amqp_types.specs.Slots.{table_form}
-use Rattle.amqp_types.specs.SlotSpelling.{SpellsForm}
 use Rattle.amqp_canonical.proofs.OneSlot.{err_passed, table_form_fails, table_form_took}
 use Rattle.amqp_canonical.proofs.slots.judge_field_table.Goals as goal
 
 pub returns-in_err-table-clause-judged : goal.returns-in_err-table-clause-judged
 returns-in_err-table-clause-judged c =
-    err_passed (SpellsForm strict table_form) (SpellsForm tidy table_form) c.args.i.now _ c.in_err-table.field-0.0 _ c.from_residual.ensures.1
+    err_passed _ _ _ _ _ _ c.from_residual.ensures.1
     (table_form_fails c.args.i.now c.in_err-table.field-0.0 c.in_err-table.ensures.judged)
 
 pub returns-clause-judged : goal.returns-clause-judged

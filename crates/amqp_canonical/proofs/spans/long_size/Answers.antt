@@ -11,5 +11,4 @@ returns-in-Ok-clause-used c = λ read. sym (ap (λ j. used_by j) c.in-Ok.ensures
 
 pub returns-in-Err-clause-used : goal.returns-in-Err-clause-used
 returns-in-Err-clause-used c = λ read.
-    absurd (unread c.in-Err.field-0 (judge_long_string c.args.i.now)
-    (fully {A = Bor (List ℕ)} (λ b. b.now) c.in-Err.field-0 (judge_long_string c.args.i.now) c.in-Err.ensures.judged) read)
+    absurd (unread c.in-Err.field-0 _ (fully {A = Bor (List ℕ)} (λ b. b.now) _ (judge_long_string c.args.i.now) c.in-Err.ensures.judged) read)

@@ -6,8 +6,7 @@ use Rattle.amqp_canonical.proofs.spans.size_in.Goals as goal
 
 pub returns-in-Fixed-clause-used : goal.returns-in-Fixed-clause-used
 returns-in-Fixed-clause-used c = λ room tag is read.
-    let one = fixed_taken (nested room) tag c.args.i.now c.in-Fixed.n (λ k. omega (arith, c.type_inv.i k)) (is ∙ c.in-Fixed.is) read in
-    used_taken c.args.i.now c.in-Fixed.n _ one.1
+    used_taken _ _ _ (fixed_taken (nested room) tag c.args.i.now _ (λ k. omega (arith, c.type_inv.i k)) (is ∙ c.in-Fixed.is) read).1
 
 pub returns-in-OneBoolean-clause-used : goal.returns-in-OneBoolean-clause-used
 returns-in-OneBoolean-clause-used c = λ room tag is read. boolean_used (nested room) tag c.args.i.now (is ∙ c.in-OneBoolean.is) read

@@ -1,8 +1,6 @@
 -- the calls of cycle `write`: what loops keep and what falls with each iteration or call.
+use Rattle.amqp_canonical.specs.CanonicalValues.{canonical_entries}
 use Rattle.std.proofs.Common.{◌+◌, ◌-◌, ◌*◌, ◌≤◌, length}
-use Rattle.amqp_types.specs.Settling.{settled}
-use Rattle.amqp_canonical.specs.Writes.{table_content}
-use Rattle.amqp_canonical.specs.Marks.{entries_in}
 use Rattle.amqp_canonical.proofs.PutByLoops.{ValuesPut, EntriesPut, SelectedPut}
 use Rattle.amqp_canonical.proofs.writing.+write.Given as goal
 
@@ -43,7 +41,7 @@ abbrev pub decreases-put_marked-loop-k : goal.decreases-put_marked-loop-k
 decreases-put_marked-loop-k g l = length l.marks - l.k
 
 abbrev pub decreases-put_selected-loop-next : goal.decreases-put_selected-loop-next
-decreases-put_selected-loop-next g l = l.at + length (table_content (settled (entries_in l.depth_left l.content))) - l.end
+decreases-put_selected-loop-next g l = l.at + length (canonical_entries l.depth_left l.content) - l.end
 
 abbrev pub invariant-put_values-loop-start : goal.invariant-put_values-loop-start
 invariant-put_values-loop-start g l = ValuesPut l.depth_left l.content l.start l.fn.buf l.buf l.at l.end

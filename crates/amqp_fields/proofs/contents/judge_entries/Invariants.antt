@@ -1,6 +1,6 @@
 -- `judge_entries`: what the loop keeps, and what falls with each iteration.
 use Rattle.std.proofs.Common.{length}
-use Rattle.amqp_types.specs.ValueJudging.{judge_entry, judge_value}
+use Rattle.amqp_fields.proofs.Names.{judge_entry, judge_value}
 use Rattle.amqp_fields.proofs.Filling.{Onward}
 use Rattle.amqp_fields.proofs.contents.judge_entries.Given as goal
 

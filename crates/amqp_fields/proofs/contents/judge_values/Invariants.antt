@@ -1,6 +1,6 @@
 -- `judge_values`: what the loop keeps, and what falls with each iteration.
 use Rattle.std.proofs.Common.{length}
-use Rattle.amqp_types.specs.ValueJudging.{judge_value}
+use Rattle.amqp_fields.proofs.Names.{judge_value}
 use Rattle.amqp_fields.proofs.Filling.{Onward}
 use Rattle.amqp_fields.proofs.contents.judge_values.Given as goal
 

@@ -1,6 +1,6 @@
 -- `count_fields`: what it ensures.
 use Rattle.std.proofs.Common.{ap, ◌∙◌}
-use Rattle.amqp_fields.specs.Counting.{count_of}
+use Rattle.amqp_fields.proofs.Names.{count_of}
 use Rattle.amqp_fields.proofs.Counted.{frame_counted}
 use Rattle.amqp_fields.proofs.counting.count_fields.Goals as goal
 

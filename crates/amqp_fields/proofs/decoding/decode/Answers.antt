@@ -1,10 +1,8 @@
 -- `decode`: what a method ensures.
 use Rattle.std.proofs.Common.{Ok, sym, subst}
-use Rattle.amqp_wire.specs.declared.frame_type.AMQPFrameType.{AMQPFrameType}
+use Rattle.amqp_fields.proofs.Names.{AMQPFrameType, Counts, listed_payload}
 use Rattle.amqp_wire.specs.declared.frame_type.AMQPFrameType.TheVariants as kinds
 use Rattle.amqp_wire.proofs.Judged.{judged_as, method_frame}
-use Rattle.amqp_fields.specs.Finding.{Counts}
-use Rattle.amqp_fields.specs.Listed.{listed_payload}
 use Rattle.amqp_fields.proofs.decoding.decode.Goals as goal
 
 pub returns-in-Some : goal.returns-in-Some

@@ -1,7 +1,6 @@
 -- `list_slots`, which calls itself: what they ensure.
 use Rattle.std.proofs.Common.{◌≡◌, ap, ◌∙◌, arith}
-use Rattle.std.proofs.lemmas.List.{take_rest}
-use Rattle.amqp_fields.specs.Listed.{listed_form, listed_slot, next_place}
+use Rattle.amqp_fields.proofs.Names.{take_rest, listed_form, listed_slot, next_place}
 use Rattle.amqp_canonical.specs.declared.shapes.Form.TheVariants as forms
 use Rattle.amqp_canonical.specs.declared.shapes.Slot.TheVariants as slots
 use Rattle.amqp_fields.proofs.SlotSteps.{reserved_first, slots_listed}

@@ -1,6 +1,5 @@
 -- `in_reach`: what it ensures, and that no place is out of range.
-use Rattle.std.proofs.Common.{sym, arith}
-use Rattle.std.proofs.lemmas.List.{length-take-le, take_all}
+use Rattle.std.proofs.Common.{length-take-le, take_all, sym, arith}
 use Rattle.amqp_fields.proofs.frames.in_reach.Goals as goal
 
 pub slice_bounds-result-end : goal.slice_bounds-result-end

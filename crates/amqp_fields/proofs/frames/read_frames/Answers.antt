@@ -1,7 +1,6 @@
 -- `read_frames`: what it ensures, what the loop keeps, and that no sum is out of range.
-use Rattle.std.proofs.Common.{rules, arith, ap, length, refl, ◌<◌, ◌+◌}
-use Rattle.std.proofs.lemmas.List.{length-take}
-use Rattle.amqp_fields.specs.declared.frames.FramesRead.{FramesRead}
+use Rattle.std.proofs.Common.{length-take, rules, arith, ap, length, refl, ◌<◌, ◌+◌}
+use Rattle.amqp_fields.proofs.Names.{FramesRead}
 use Rattle.amqp_fields.specs.declared.frames.FramesEnd.TheVariants as ends
 use Rattle.amqp_fields.proofs.FramesGiven.{all_read, going_full, going_given, going_on, going_stays, next_few}
 use Rattle.amqp_fields.proofs.frames.read_frames.Goals as goal

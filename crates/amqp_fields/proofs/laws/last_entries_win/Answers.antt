@@ -1,6 +1,6 @@
 -- `last_entries_win`: what it ensures.
 use Rattle.std.proofs.Common.{ap, ◌∙◌}
-use Rattle.amqp_types.specs.Settling.{value_at}
+use Rattle.amqp_fields.proofs.Names.{value_at}
 use Rattle.amqp_laws.proofs.Settling.{settles}
 use Rattle.amqp_fields.proofs.laws.last_entries_win.Goals as goal
 

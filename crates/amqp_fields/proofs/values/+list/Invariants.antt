@@ -1,7 +1,6 @@
 -- the calls of cycle `list`: what loops keep and what falls with each iteration or call.
 use Rattle.std.proofs.Common.{◌+◌, ◌*◌, ◌≤◌, length}
-use Rattle.amqp_fields.specs.Nodes.{blank}
-use Rattle.amqp_fields.specs.Listed.{listed_entry, listed_value}
+use Rattle.amqp_fields.proofs.Names.{blank, listed_entry, listed_value}
 use Rattle.amqp_fields.proofs.Stepping.{GoesOn}
 use Rattle.amqp_fields.proofs.values.+list.Given as goal
 

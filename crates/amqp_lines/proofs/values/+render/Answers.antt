@@ -24,21 +24,21 @@ write_value-returns-in_ok-used-in-Some-clause-written t c =
     value_rendered _ _ _ _ _ _ _
     (sym c.from_byte.ensures ∙ c.in-Some.is) c.in_ok-write_tag-in-Some.ensures written
 
-pub write_array-returns-in-None-clause-written : goal.write_array-returns-in-None-clause-written
-write_array-returns-in-None-clause-written t c = array_unwritten _ _ _ _ _ c.in-None.ensures.found
+pub write_array-returns-in-Err-clause-written : goal.write_array-returns-in-Err-clause-written
+write_array-returns-in-Err-clause-written t c = array_unwritten _ _ _ _ _ (grind arith)
 
-pub write_array-returns-in_ok-push-in-Some-2-clause-written : goal.write_array-returns-in_ok-push-in-Some-2-clause-written
-write_array-returns-in_ok-push-in-Some-2-clause-written t c =
-    array_written _ _ _ _ _ _ _ _ c.in-Some.ensures.found
-    c.in_ok-push-in-Some.ensures.items c.in_ok-write_values-in-Some.ensures c.in_ok-push-in-Some-2.ensures.items
+pub write_array-returns-in_ok-push-in-Ok-2-clause-written : goal.write_array-returns-in_ok-push-in-Ok-2-clause-written
+write_array-returns-in_ok-push-in-Ok-2-clause-written t c =
+    array_written _ _ _ _ _ _ _ _ c.in-Ok.ensures.judged
+    c.in_ok-push-in-Ok.ensures.items c.in_ok-write_values-in-Ok.ensures c.in_ok-push-in-Ok-2.ensures.items
 
-pub write_table-returns-in-None-clause-written : goal.write_table-returns-in-None-clause-written
-write_table-returns-in-None-clause-written t c = table_unwritten _ _ _ _ _ c.in-None.ensures.found
+pub write_table-returns-in-Err-clause-written : goal.write_table-returns-in-Err-clause-written
+write_table-returns-in-Err-clause-written t c = table_unwritten _ _ _ _ _ (grind arith)
 
-pub write_table-returns-in_ok-push-in-Some-2-clause-written : goal.write_table-returns-in_ok-push-in-Some-2-clause-written
-write_table-returns-in_ok-push-in-Some-2-clause-written t c =
-    table_written _ _ _ _ _ _ _ _ c.in-Some.ensures.found
-    c.in_ok-push-in-Some.ensures.items c.in_ok-write_entries-in-Some.ensures c.in_ok-push-in-Some-2.ensures.items
+pub write_table-returns-in_ok-push-in-Ok-2-clause-written : goal.write_table-returns-in_ok-push-in-Ok-2-clause-written
+write_table-returns-in_ok-push-in-Ok-2-clause-written t c =
+    table_written _ _ _ _ _ _ _ _ c.in-Ok.ensures.judged
+    c.in_ok-push-in-Ok.ensures.items c.in_ok-write_entries-in-Ok.ensures c.in_ok-push-in-Ok-2.ensures.items
 
 pub write_values-loop-rest-init : goal.write_values-loop-rest-init
 write_values-loop-rest-init t c = begins

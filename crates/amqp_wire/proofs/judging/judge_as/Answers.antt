@@ -15,22 +15,14 @@ returns-in-Ok c =
     (proto_frame c.args.channel_id c.args.payload.now c.in-Ok.field-0 (c.in-Ok.ensures.whole c.args.channel_id))
 
 pub returns-in-Method : goal.returns-in-Method
-returns-in-Method c =
-    judged_as c.args.frame_type kinds.Method c.args.channel_id c.args.payload.now _ c.in-Method.is
-    (method_frame c.args.channel_id c.args.payload.now c.judge_method.result c.judge_method.ensures)
+returns-in-Method c = rw c.in-Method.is (method_frame c.args.channel_id c.args.payload.now c.judge_method.result c.judge_method.ensures)
 
 pub returns-in-Header : goal.returns-in-Header
-returns-in-Header c =
-    judged_as c.args.frame_type kinds.Header c.args.channel_id c.args.payload.now _ c.in-Header.is
-    (header_frame c.args.channel_id c.args.payload.now c.judge_header.result c.judge_header.ensures)
+returns-in-Header c = rw c.in-Header.is (header_frame c.args.channel_id c.args.payload.now c.judge_header.result c.judge_header.ensures)
 
 pub returns-in-Body : goal.returns-in-Body
-returns-in-Body c =
-    judged_as c.args.frame_type kinds.Body c.args.channel_id c.args.payload.now
-    (Ok (record { canonical = true; tidy = true })) c.in-Body.is (body_frame c.args.channel_id c.args.payload.now)
+returns-in-Body c = rw c.in-Body.is (body_frame c.args.channel_id c.args.payload.now)
 
 pub returns-in-Heartbeat : goal.returns-in-Heartbeat
 returns-in-Heartbeat c =
-    judged_as c.args.frame_type kinds.Heartbeat c.args.channel_id c.args.payload.now
-    (Ok (record { canonical = c.is_empty-empty.result; tidy = c.is_empty-empty.result })) c.in-Heartbeat.is
-    (beat_frame c.args.channel_id c.args.payload.now c.is_empty-empty.result c.is_empty-empty.ensures)
+    rw c.in-Heartbeat.is (beat_frame c.args.channel_id c.args.payload.now c.is_empty-empty.result c.is_empty-empty.ensures)

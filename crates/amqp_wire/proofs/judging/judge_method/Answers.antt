@@ -1,15 +1,12 @@
 -- `judge_method`: what it ensures.
 use Rattle.std.proofs.Common.{Err, sym, subst, arith}
-use Rattle.amqp_types.specs.Methods.{judge_payload, payload_bytes}
-use Rattle.amqp_types.specs.Tidiness.{is_tidy_payload}
 use Rattle.amqp_types.specs.declared.errors.ParserError.{ParserError}
-use Rattle.amqp_wire.specs.Judgements.{JudgesAll}
-use Rattle.amqp_wire.proofs.Judged.{method_all, method_refused}
+use Rattle.amqp_wire.proofs.Judged.{JudgesMethod, method_all, method_refused}
 use Rattle.amqp_wire.proofs.judging.judge_method.Goals as goal
 
 pub returns-in-Err : goal.returns-in-Err
 returns-in-Err c =
-    let P : ParserError → Type 0 = λ error. JudgesAll judge_payload payload_bytes is_tidy_payload c.args.payload.now (Err error) in
+    let P : ParserError → Type 0 = λ error. JudgesMethod c.args.payload.now (Err error) in
     subst P (sym c.inside.ensures) (method_refused c.args.payload.now c.in-Err.error c.in-Err.ensures.judged)
 
 pub returns-in-Ok-2 : goal.returns-in-Ok-2

@@ -30,14 +30,13 @@ loop-value-init g c =
       ];
       counted = λ passes computes. elim c.match-self.branch [
         | in-Some w ↦
-            counted_some c.self.inside.last c.self.inside.others.entries c.args.self.now
-            c.self.view_is passes w.in-Some.entry c.into_iter-value-iterator.result c.match-self.count
+            counted_some _ _ _ c.self.view_is passes w.in-Some.entry c.into_iter-value-iterator.result c.match-self.count
             w.in-Some.is c.self.invariant c.values-value-items.ensures.ordered
             (w.count-is ∙ w.from-count.ensures ∙ (one_is w.test.result).0
             ∙ ap (λ b. cond b 1 0) (computes w.in-Some.entry.value w.test.result (record { shown = _; shows = refl; says = record { met = w.test.ensures } })))
             rest
         | in-None w ↦
-            counted_none c.self.inside.last c.self.inside.others.entries c.args.self.now c.self.view_is
+            counted_none _ _ _ c.self.view_is
             passes c.into_iter-value-iterator.result c.match-self.count w.in-None.is w.count-is rest
       ];
     }
@@ -76,4 +75,4 @@ returns-clause-number g c = λ passes computes.
     sym (add-zero c.loop-value.count) ∙ ap (λ vs. c.loop-value.count + count_by passes vs) (sym none) ∙ c.loop-value.invariant.counted passes computes
 
 pub returns-clause-each_once : goal.returns-clause-each_once
-returns-clause-each_once g c = sorted_seen c.self.inside.last c.self.inside.others.entries c.args.self.now c.self.view_is c.values-value-items.ensures.ordered
+returns-clause-each_once g c = sorted_seen _ _ _ c.self.view_is c.values-value-items.ensures.ordered

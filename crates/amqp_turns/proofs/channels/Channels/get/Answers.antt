@@ -6,9 +6,9 @@ use Rattle.amqp_turns.proofs.channels.Channels.get.Goals as goal
 pub returns-then-is_of : goal.returns-then-is_of
 returns-then-is_of g c =
     c.value_of.ensures
-    ∙ kept_of c.self.inside.last c.self.inside.others.entries c.args.self.now c.self.view_is c.args.channel_id (sym c.is_of.ensures ∙ c.if-is_of.true)
+    ∙ kept_of _ _ _ c.self.view_is c.args.channel_id (sym c.is_of.ensures ∙ c.if-is_of.true)
 
 pub returns : goal.returns
 returns g c =
     c.get_from.ensures
-    ∙ kept_beside c.self.inside.last c.self.inside.others.entries c.args.self.now c.self.view_is c.args.channel_id (sym c.is_of.ensures ∙ c.if-is_of.false)
+    ∙ kept_beside _ _ _ c.self.view_is c.args.channel_id (sym c.is_of.ensures ∙ c.if-is_of.false)

@@ -8,10 +8,10 @@ use Rattle.amqp_turns.proofs.channels.Channels.get_mut.Goals as goal
 pub returns-then-is_of : goal.returns-then-is_of
 returns-then-is_of g c =
     let of = sym c.is_of.ensures ∙ c.if-is_of.true in (
-      (refl, λ w. set_last c.self.inside.last c.self.inside.others.entries c.args.self.now c.self.view_is c.args.channel_id w of, c.self.view_is),
+      (refl, λ w. set_last _ _ _ c.self.view_is c.args.channel_id w of, c.self.view_is),
       record {
         writes_back = tt;
-        value = c.value_mut.ensures.value ∙ kept_of c.self.inside.last c.self.inside.others.entries c.args.self.now c.self.view_is c.args.channel_id of;
+        value = c.value_mut.ensures.value ∙ kept_of _ _ _ c.self.view_is c.args.channel_id of;
       },
     )
 
@@ -27,11 +27,11 @@ returns g c =
       (
         refl,
         λ w.
-            set_others c.self.inside.last c.self.inside.others.entries c.args.self.now c.self.view_is c.args.channel_id w other _ (c.get_mut.follows.holds w).0,
+            set_others _ _ _ c.self.view_is c.args.channel_id w other _ (c.get_mut.follows.holds w).0,
         ap (λ (m : BTreeMap ℕ g.row.T.Denot). with_last c.self.inside.last m.entries) c.get_mut.follows.holds-at-none ∙ c.self.view_is,
       ),
       record {
         writes_back = tt;
-        value = c.get_mut.ensures.value ∙ kept_beside c.self.inside.last c.self.inside.others.entries c.args.self.now c.self.view_is c.args.channel_id other;
+        value = c.get_mut.ensures.value ∙ kept_beside _ _ _ c.self.view_is c.args.channel_id other;
       },
     )

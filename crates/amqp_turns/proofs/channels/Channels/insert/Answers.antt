@@ -10,5 +10,5 @@ returns-then-takes-clause-kept g c = kept-insert_same c.self.inside.others.entri
 pub returns-then-takes-clause-others : goal.returns-then-takes-clause-others
 returns-then-takes-clause-others g c = λ other ne.
     kept-insert_other c.self.inside.others.entries c.args.channel_id c.args.value other ne
-    ∙ others_of_taken c.self.inside.last c.self.inside.others.entries c.args.self.now c.self.view_is c.args.channel_id
+    ∙ others_of_taken _ _ _ c.self.view_is c.args.channel_id
     (sym c.takes.ensures ∙ c.if-takes.true) other ne

@@ -3,4 +3,4 @@ use Rattle.amqp_turns.proofs.LastEntry.{some_seen}
 use Rattle.amqp_turns.proofs.channels.Channels.is_empty.Goals as goal
 
 pub returns-in-Some : goal.returns-in-Some
-returns-in-Some g c = some_seen c.self.inside.last c.self.inside.others.entries c.args.self.now c.self.view_is c.in-Some.field-0 c.in-Some.is
+returns-in-Some g c = some_seen _ _ _ c.self.view_is c.in-Some.field-0 c.in-Some.is

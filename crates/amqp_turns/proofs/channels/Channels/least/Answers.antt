@@ -4,10 +4,10 @@ use Rattle.amqp_turns.proofs.channels.Channels.least.Goals as goal
 
 pub returns-in-Some-other-clause-kept : goal.returns-in-Some-other-clause-kept
 returns-in-Some-other-clause-kept g c =
-    lesser_some c.self.inside.last c.self.inside.others.entries c.args.self.now c.self.view_is c.in-Some.entry c.in-Some-other.other c.min.result
+    lesser_some _ _ _ c.self.view_is c.in-Some.entry c.in-Some-other.other c.min.result
     c.in-Some.is c.in-Some-other.ensures.kept c.min.ensures
 
 pub returns-in-Some-other-clause-least : goal.returns-in-Some-other-clause-least
 returns-in-Some-other-clause-least g c =
-    lesser_least c.self.inside.last c.self.inside.others.entries c.args.self.now c.self.view_is c.in-Some.entry c.in-Some-other.other c.min.result
+    lesser_least _ _ _ c.self.view_is c.in-Some.entry c.in-Some-other.other c.min.result
     c.in-Some.is c.in-Some-other.ensures.least c.min.ensures

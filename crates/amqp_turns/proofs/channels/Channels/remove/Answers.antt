@@ -10,25 +10,25 @@ use Rattle.amqp_turns.proofs.channels.Channels.remove.Goals as goal
 pub returns-then-is_of-clause-value : goal.returns-then-is_of-clause-value
 returns-then-is_of-clause-value g c =
     c.take_value.ensures.value
-    ∙ kept_of c.self.inside.last c.self.inside.others.entries c.args.self.now c.self.view_is c.args.channel_id (sym c.is_of.ensures ∙ c.if-is_of.true)
+    ∙ kept_of _ _ _ c.self.view_is c.args.channel_id (sym c.is_of.ensures ∙ c.if-is_of.true)
 
 pub returns-then-is_of-clause-others : goal.returns-then-is_of-clause-others
 returns-then-is_of-clause-others g c = λ other ne.
     ap (λ (o : Option (Entry g.row.T.Denot)). kept_at (with_last o c.self.inside.others.entries) other) c.take_value.ensures.gone
-    ∙ others_of c.self.inside.last c.self.inside.others.entries c.args.self.now c.self.view_is c.args.channel_id
+    ∙ others_of _ _ _ c.self.view_is c.args.channel_id
     (sym c.is_of.ensures ∙ c.if-is_of.true) other ne
 
 pub returns-clause-value : goal.returns-clause-value
 returns-clause-value g c =
     c.remove.ensures.value
-    ∙ kept_beside c.self.inside.last c.self.inside.others.entries c.args.self.now c.self.view_is c.args.channel_id (sym c.is_of.ensures ∙ c.if-is_of.false)
+    ∙ kept_beside _ _ _ c.self.view_is c.args.channel_id (sym c.is_of.ensures ∙ c.if-is_of.false)
 
 pub returns-clause-kept : goal.returns-clause-kept
 returns-clause-kept g c =
-    kept_with c.self.inside.last c.self.inside.others.entries c.args.self.now c.self.view_is c.args.channel_id
+    kept_with _ _ _ c.self.view_is c.args.channel_id
     (sym c.is_of.ensures ∙ c.if-is_of.false) c.remove.new.self.entries _ c.remove.ensures.updates.1
 
 pub returns-clause-others : goal.returns-clause-others
 returns-clause-others g c =
-    others_beside c.self.inside.last c.self.inside.others.entries c.args.self.now c.self.view_is c.args.channel_id c.remove.new.self.entries
+    others_beside _ _ _ c.self.view_is c.args.channel_id c.remove.new.self.entries
     (λ other ne. c.remove.ensures.updates.2 other (at_other other c.args.channel_id (λ same. ne (sym same))))

@@ -1,0 +1,10 @@
+-- `measure_slots`: what the loop keeps.
+use Rattle.std.proofs.Common.{drop}
+use Rattle.amqp_canonical.specs.Shapes.{slots_of}
+use Rattle.amqp_fields_write.specs.MadeFields.{made_slots}
+use Rattle.amqp_fields_write.proofs.Combined.{Onward}
+use Rattle.amqp_fields_write.proofs.measuring_fields.measure_slots.Given as goal
+
+abbrev pub invariant-loop-shape : goal.invariant-loop-shape
+invariant-loop-shape l =
+    Onward (made_slots l.pool l.end 0 (slots_of l.shapes) l.nodes) (made_slots l.pool l.end l.place (slots_of (drop l.shape-index l.shapes)) l.rest) l.count

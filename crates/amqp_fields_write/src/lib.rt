@@ -1,0 +1,26 @@
+//! Frames, tables and arrays written from heads and nodes, without memory: their canonical encoding, or the first refusal.
+#![tactic(auto)]
+
+mod equality;
+mod few;
+mod laws;
+mod laying;
+mod laying_fields;
+mod laying_frames;
+mod laying_values;
+mod making;
+mod measuring;
+mod measuring_fields;
+mod measuring_frames;
+mod measuring_values;
+mod node_groups;
+mod parts;
+mod refusals;
+
+pub use equality::{equal_write_errors, equal_write_refusals};
+pub use laws::{
+    canonical_where_keys_ascend, heads_mean_one, one_frame_has_same_nodes, read_is_written_again,
+    read_nodes_are_meant,
+};
+pub use making::{write_entries, write_frames, write_values};
+pub use refusals::{Refusal, WriteError, WriteRefusal};
