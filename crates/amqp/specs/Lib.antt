@@ -19,9 +19,9 @@ pub use Rattle.amqp_wire.specs.Canonical
 pub use Rattle.amqp_wire.specs.Spelling
 pub use Rattle.amqp_wire.specs.Verdicts
 pub use Rattle.amqp_frame.specs.Frames
-pub use Rattle.amqp_content.specs.Messages
+pub use Rattle.amqp_messages.specs.Messages
 pub use Rattle.amqp_content.specs.Outcomes
-pub use Rattle.amqp_content.specs.Splits
+pub use Rattle.amqp_messages.specs.Splits
 pub use Rattle.amqp_names.specs.Naming
 pub use Rattle.amqp_names.specs.Names
 pub use Rattle.amqp_names.specs.Tables

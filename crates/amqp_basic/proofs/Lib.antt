@@ -1,2 +1,3 @@
 -- The lemmas of amqp_basic.
 pub mod EqualMethods
+pub mod Padded

@@ -11,6 +11,7 @@ ghost use Rattle.amqp_types.specs.Writing.{Puts, Appends};
 ghost use Rattle.amqp_types.specs.Methods.{judge_method, judge_in_class};
 ghost use Rattle.amqp_types.specs.Methods.{payload_bytes, payload_size};
 ghost use Rattle.amqp_laws.specs.HeldMethods.{IsHeldMethod};
+ghost use Rattle.amqp_values.specs.MethodFields.{ListsMethod};
 ghost use Rattle.amqp_basic.specs.Basic.{method_of};
 
 pub use acknowledging::{
@@ -21,8 +22,7 @@ pub use acknowledging::{
     size_recover_async, size_recover_ok, size_reject,
 };
 use amqp_values::{
-    GenError, Identifier, NoMemory, ParserError, fields_held, gen_fields, parse_id, put_fields,
-    size_fields,
+    Field, GenError, Identifier, NoMemory, ParserError, copied, gen_fields, put_fields, size_fields,
 };
 pub use consuming::{
     Cancel, CancelOk, Consume, ConsumeOk, Qos, QosOk, gen_cancel, gen_cancel_ok, gen_consume,
@@ -136,24 +136,24 @@ impl AMQPMethod {
         ensures { IfOk result (λ copied. copied ≡ self.now) }
     {
         match self {
-            AMQPMethod::Qos(method) => Ok(AMQPMethod::Qos(method.clone()?)),
-            AMQPMethod::QosOk(method) => Ok(AMQPMethod::QosOk(method.clone()?)),
-            AMQPMethod::Consume(method) => Ok(AMQPMethod::Consume(method.copy(alloc)?)),
-            AMQPMethod::ConsumeOk(method) => Ok(AMQPMethod::ConsumeOk(method.copy(alloc)?)),
-            AMQPMethod::Cancel(method) => Ok(AMQPMethod::Cancel(method.copy(alloc)?)),
-            AMQPMethod::CancelOk(method) => Ok(AMQPMethod::CancelOk(method.copy(alloc)?)),
-            AMQPMethod::Publish(method) => Ok(AMQPMethod::Publish(method.copy(alloc)?)),
-            AMQPMethod::Return(method) => Ok(AMQPMethod::Return(method.copy(alloc)?)),
-            AMQPMethod::Deliver(method) => Ok(AMQPMethod::Deliver(method.copy(alloc)?)),
-            AMQPMethod::Get(method) => Ok(AMQPMethod::Get(method.copy(alloc)?)),
-            AMQPMethod::GetOk(method) => Ok(AMQPMethod::GetOk(method.copy(alloc)?)),
-            AMQPMethod::GetEmpty(method) => Ok(AMQPMethod::GetEmpty(method.clone()?)),
-            AMQPMethod::Ack(method) => Ok(AMQPMethod::Ack(method.clone()?)),
-            AMQPMethod::Reject(method) => Ok(AMQPMethod::Reject(method.clone()?)),
-            AMQPMethod::RecoverAsync(method) => Ok(AMQPMethod::RecoverAsync(method.clone()?)),
-            AMQPMethod::Recover(method) => Ok(AMQPMethod::Recover(method.clone()?)),
-            AMQPMethod::RecoverOk(method) => Ok(AMQPMethod::RecoverOk(method.clone()?)),
-            AMQPMethod::Nack(method) => Ok(AMQPMethod::Nack(method.clone()?)),
+            AMQPMethod::Qos(method) => copied!(method.clone(), AMQPMethod::Qos),
+            AMQPMethod::QosOk(method) => copied!(method.clone(), AMQPMethod::QosOk),
+            AMQPMethod::Consume(method) => copied!(method.copy(alloc), AMQPMethod::Consume),
+            AMQPMethod::ConsumeOk(method) => copied!(method.copy(alloc), AMQPMethod::ConsumeOk),
+            AMQPMethod::Cancel(method) => copied!(method.copy(alloc), AMQPMethod::Cancel),
+            AMQPMethod::CancelOk(method) => copied!(method.copy(alloc), AMQPMethod::CancelOk),
+            AMQPMethod::Publish(method) => copied!(method.copy(alloc), AMQPMethod::Publish),
+            AMQPMethod::Return(method) => copied!(method.copy(alloc), AMQPMethod::Return),
+            AMQPMethod::Deliver(method) => copied!(method.copy(alloc), AMQPMethod::Deliver),
+            AMQPMethod::Get(method) => copied!(method.copy(alloc), AMQPMethod::Get),
+            AMQPMethod::GetOk(method) => copied!(method.copy(alloc), AMQPMethod::GetOk),
+            AMQPMethod::GetEmpty(method) => copied!(method.clone(), AMQPMethod::GetEmpty),
+            AMQPMethod::Ack(method) => copied!(method.clone(), AMQPMethod::Ack),
+            AMQPMethod::Reject(method) => copied!(method.clone(), AMQPMethod::Reject),
+            AMQPMethod::RecoverAsync(method) => copied!(method.clone(), AMQPMethod::RecoverAsync),
+            AMQPMethod::Recover(method) => copied!(method.clone(), AMQPMethod::Recover),
+            AMQPMethod::RecoverOk(method) => copied!(method.clone(), AMQPMethod::RecoverOk),
+            AMQPMethod::Nack(method) => copied!(method.clone(), AMQPMethod::Nack),
         }
     }
 }
@@ -191,35 +191,49 @@ fn parse_method(alloc: Global, id: Identifier, i: &[u8]) -> Result<(usize, AMQPM
 pub fn parse_basic(alloc: Global, i: &[u8]) -> Result<(usize, AMQPMethod), ParserError>
     ensures { Parses method_of result i.now (judge_in_class 60) }
 {
-    let (n, id) = parse_id(i)?;
+    let (n, id) = amqp_values::parse_id(i)?;
     let (used, method) = parse_method(alloc, id, &i[n..])?;
     Ok((n + used, method))
 }
 
-/// Calls a function with the ids and fields of a method, after the arguments given.
-macro_rules! with_fields {
-    ($method:expr, $call:ident($($argument:expr),*)) => {
-        match $method {
-            AMQPMethod::Qos(method) => $call($($argument,)* &consuming::qos_fields(method)),
-            AMQPMethod::QosOk(method) => $call($($argument,)* &consuming::qos_ok_fields(method)),
-            AMQPMethod::Consume(method) => $call($($argument,)* &consuming::consume_fields(method)),
-            AMQPMethod::ConsumeOk(method) => $call($($argument,)* &consuming::consume_ok_fields(method)),
-            AMQPMethod::Cancel(method) => $call($($argument,)* &consuming::cancel_fields(method)),
-            AMQPMethod::CancelOk(method) => $call($($argument,)* &consuming::cancel_ok_fields(method)),
-            AMQPMethod::Publish(method) => $call($($argument,)* &publishing::publish_fields(method)),
-            AMQPMethod::Return(method) => $call($($argument,)* &publishing::return_fields(method)),
-            AMQPMethod::Deliver(method) => $call($($argument,)* &publishing::deliver_fields(method)),
-            AMQPMethod::Get(method) => $call($($argument,)* &publishing::get_fields(method)),
-            AMQPMethod::GetOk(method) => $call($($argument,)* &publishing::get_ok_fields(method)),
-            AMQPMethod::GetEmpty(method) => $call($($argument,)* &publishing::get_empty_fields(method)),
-            AMQPMethod::Ack(method) => $call($($argument,)* &acknowledging::ack_fields(method)),
-            AMQPMethod::Reject(method) => $call($($argument,)* &acknowledging::reject_fields(method)),
-            AMQPMethod::RecoverAsync(method) => $call($($argument,)* &acknowledging::recover_async_fields(method)),
-            AMQPMethod::Recover(method) => $call($($argument,)* &acknowledging::recover_fields(method)),
-            AMQPMethod::RecoverOk(method) => $call($($argument,)* &acknowledging::recover_ok_fields(method)),
-            AMQPMethod::Nack(method) => $call($($argument,)* &acknowledging::nack_fields(method)),
+/// The ids and fields of a method, in order, and then nothing up to the most that a method of the class has.
+fn method_fields(method: &AMQPMethod) -> [Field<'_>; 7]
+    ensures { ListsMethod result (method_of method.now) }
+{
+    match method {
+        AMQPMethod::Qos(method) => consuming::qos_fields(method),
+        AMQPMethod::QosOk(method) => consuming::qos_ok_fields(method),
+        AMQPMethod::Consume(method) => consuming::consume_fields(method),
+        AMQPMethod::ConsumeOk(method) => consuming::consume_ok_fields(method),
+        AMQPMethod::Cancel(method) => consuming::cancel_fields(method),
+        AMQPMethod::CancelOk(method) => consuming::cancel_ok_fields(method),
+        AMQPMethod::Publish(method) => {
+            let [first, second, third, fourth, fifth, sixth] = publishing::publish_fields(method);
+            [first, second, third, fourth, fifth, sixth, Field::Nothing]
         }
-    };
+        AMQPMethod::Return(method) => publishing::return_fields(method),
+        AMQPMethod::Deliver(method) => publishing::deliver_fields(method),
+        AMQPMethod::Get(method) => publishing::get_fields(method),
+        AMQPMethod::GetOk(method) => publishing::get_ok_fields(method),
+        AMQPMethod::GetEmpty(method) => publishing::get_empty_fields(method),
+        AMQPMethod::Ack(method) => {
+            let [first, second, third, fourth] = acknowledging::ack_fields(method);
+            [
+                first,
+                second,
+                third,
+                fourth,
+                Field::Nothing,
+                Field::Nothing,
+                Field::Nothing,
+            ]
+        }
+        AMQPMethod::Reject(method) => acknowledging::reject_fields(method),
+        AMQPMethod::RecoverAsync(method) => acknowledging::recover_async_fields(method),
+        AMQPMethod::Recover(method) => acknowledging::recover_fields(method),
+        AMQPMethod::RecoverOk(method) => acknowledging::recover_ok_fields(method),
+        AMQPMethod::Nack(method) => acknowledging::nack_fields(method),
+    }
 }
 
 /// The size in bytes of the ids and fields of any method. Apart from the methods that most frames have, since a call clears
@@ -228,7 +242,7 @@ macro_rules! with_fields {
 fn size_any(method: &AMQPMethod) -> Result<u64, GenError>
     ensures { Measures result (payload_size (method_of method.now)) }
 {
-    with_fields!(method, size_fields())
+    size_fields(&method_fields(method))
 }
 
 /// The size in bytes of the class id, the method id and the fields.
@@ -250,7 +264,7 @@ fn put_any(buf: &mut [u8], at: usize, method: &AMQPMethod) -> usize
         (payload_bytes (method_of method.now)) }
     ensures { Puts buf.old buf.new at (payload_bytes (method_of method.now)) result }
 {
-    with_fields!(method, put_fields(buf, at))
+    put_fields(buf, at, &method_fields(method))
 }
 
 /// Puts the class id, the method id and the fields at a place of a slice, and returns the place after.
@@ -272,12 +286,12 @@ pub fn gen_basic(_alloc: Global, out: &mut Vec<u8>, method: &AMQPMethod) -> Resu
     ensures { Appends out.old.items out.new.items (payload_size (method_of method.now))
         (payload_bytes (method_of method.now)) result }
 {
-    with_fields!(method, gen_fields(out))
+    gen_fields(out, &method_fields(method))
 }
 
 /// A method of the class is held, whatever a program does: the premise of the laws that read canonical bytes back.
 pub fn basic_method_held(method: &AMQPMethod)
     ensures { IsHeldMethod (method_of method.now) }
 {
-    with_fields!(method, fields_held())
+    amqp_values::fields_held(&method_fields(method))
 }

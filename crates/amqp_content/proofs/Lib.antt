@@ -3,5 +3,5 @@ pub mod Telling
 pub mod SplitAndBack
 pub mod Apart
 pub mod Entries
-pub mod EqualContents
+pub mod EqualOutcomes
 pub mod Counting

@@ -15,10 +15,10 @@ use Rattle.amqp_turns.proofs.Pieces.{pieces_are}
 use Rattle.amqp_turns.proofs.Apart.{channels_answered}
 use Rattle.amqp_turns.proofs.Running.{opening_step, answers_run, run_is_answers}
 use Rattle.amqp_turns.proofs.WholeMessages.{GivesWhole, held_first, header_gives, after_whole}
-use Rattle.amqp_content.specs.declared.opening.Opening.{Opening}
-use Rattle.amqp_content.specs.declared.opening.Opening.TheVariants as openings
-use Rattle.amqp_content.specs.Messages.{Parts, content_of, opening_method}
-use Rattle.amqp_content.specs.Splits.{Sent, sent_frames, split_header, split_of}
+use Rattle.amqp_messages.specs.declared.opening.Opening.{Opening}
+use Rattle.amqp_messages.specs.declared.opening.Opening.TheVariants as openings
+use Rattle.amqp_messages.specs.Messages.{Parts, content_of, opening_method}
+use Rattle.amqp_messages.specs.Splits.{Sent, sent_frames, split_header, split_of}
 use Rattle.amqp_content.specs.Laws.{AreSendable, AreWhole, ComesBack}
 
 opens : (opening : Opening) → is_opening_id (opening_method opening).class (opening_method opening).id ≡ true

@@ -10,8 +10,8 @@ use Rattle.amqp_turns.specs.Units.{is_content, of_channel}
 use Rattle.amqp_turns.specs.Outcomes.{OutcomeView, Assembling, PushesIn, TakesMarked}
 use Rattle.amqp_turns.specs.Outcomes.{answer_outcome}
 use Rattle.amqp_turns.specs.Sequences.{AreGiven, given_of}
-use Rattle.amqp_content.specs.Messages.{Parts, content_of}
-use Rattle.amqp_content.specs.Splits.{Sent, sent_frames}
+use Rattle.amqp_messages.specs.Messages.{Parts, content_of}
+use Rattle.amqp_messages.specs.Splits.{Sent, sent_frames}
 
 -- What is given for a frame of content, and kept after it, by its mark is what the frames of its
 -- channel so far give and leave, of which it is the last.

@@ -9,7 +9,7 @@ pub use Rattle.amqp_turns.specs.Outcomes.{with_bytes, IsHeaded, IsHeadedThere, w
 pub use Rattle.amqp_turns.specs.Outcomes.{marked_outcome, kept_marked, mark_kept, TakesFrame}
 pub use Rattle.amqp_turns.specs.Outcomes.{IsMessage, TakesIn, TakesMarked}
 use Rattle.amqp_frame.specs.Frames.{frame_of, header_of}
-use Rattle.amqp_content.specs.Messages.{content_of, opening_method}
+use Rattle.amqp_messages.specs.Messages.{content_of, opening_method}
 use Rattle.amqp_content.specs.declared.outcome.Outcome.{Outcome}
 use Rattle.amqp_content.specs.declared.outcome.Outcome.TheVariants as outcomes
 use Rattle.amqp_content.specs.declared.pending.Pending.{Pending}

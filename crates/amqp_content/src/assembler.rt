@@ -15,10 +15,10 @@ ghost use Rattle.amqp_content.specs.Memory.{NeedsMemory};
 ghost use Rattle.amqp_content.specs.Bounds.{adds, body_bytes};
 ghost use Rattle.amqp_turns.specs.Steps.{mark_after, method_mark};
 
-use crate::opening::Opening;
 use crate::outcome::Outcome;
 use crate::pending::Pending;
 use amqp_frame::{AMQPContentHeader, AMQPFrame, FrameOutline};
+use amqp_messages::Opening;
 use amqp_protocol::AMQPClass;
 use amqp_turns::{Channels, ContentFault, Mark, Progress, step};
 use amqp_types::{ByteArray, ChannelId, NoMemory};

@@ -10,11 +10,12 @@ ghost use Rattle.amqp_types.specs.Writing.{Puts, Appends};
 ghost use Rattle.amqp_types.specs.Methods.{judge_method, judge_in_class};
 ghost use Rattle.amqp_types.specs.Methods.{payload_bytes, payload_size};
 ghost use Rattle.amqp_laws.specs.HeldMethods.{IsHeldMethod};
+ghost use Rattle.amqp_values.specs.MethodFields.{ListsMethod};
 ghost use Rattle.amqp_exchange.specs.Exchange.{method_of};
 
 use amqp_values::{
-    GenError, Identifier, NoMemory, ParserError, fields_held, gen_fields, in_variant, parse_id,
-    put_fields, size_fields,
+    Field, GenError, Identifier, NoMemory, ParserError, copied, fields_held, gen_fields,
+    in_variant, parse_id, put_fields, size_fields,
 };
 pub use binding::{
     Bind, BindOk, Unbind, UnbindOk, gen_bind, gen_bind_ok, gen_unbind, gen_unbind_ok, parse_bind,
@@ -85,14 +86,14 @@ impl AMQPMethod {
         ensures { IfOk result (λ copied. copied ≡ self.now) }
     {
         match self {
-            AMQPMethod::Declare(method) => Ok(AMQPMethod::Declare(method.copy(alloc)?)),
-            AMQPMethod::DeclareOk(method) => Ok(AMQPMethod::DeclareOk(method.clone()?)),
-            AMQPMethod::Delete(method) => Ok(AMQPMethod::Delete(method.copy(alloc)?)),
-            AMQPMethod::DeleteOk(method) => Ok(AMQPMethod::DeleteOk(method.clone()?)),
-            AMQPMethod::Bind(method) => Ok(AMQPMethod::Bind(method.copy(alloc)?)),
-            AMQPMethod::BindOk(method) => Ok(AMQPMethod::BindOk(method.clone()?)),
-            AMQPMethod::Unbind(method) => Ok(AMQPMethod::Unbind(method.copy(alloc)?)),
-            AMQPMethod::UnbindOk(method) => Ok(AMQPMethod::UnbindOk(method.clone()?)),
+            AMQPMethod::Declare(method) => copied!(method.copy(alloc), AMQPMethod::Declare),
+            AMQPMethod::DeclareOk(method) => copied!(method.clone(), AMQPMethod::DeclareOk),
+            AMQPMethod::Delete(method) => copied!(method.copy(alloc), AMQPMethod::Delete),
+            AMQPMethod::DeleteOk(method) => copied!(method.clone(), AMQPMethod::DeleteOk),
+            AMQPMethod::Bind(method) => copied!(method.copy(alloc), AMQPMethod::Bind),
+            AMQPMethod::BindOk(method) => copied!(method.clone(), AMQPMethod::BindOk),
+            AMQPMethod::Unbind(method) => copied!(method.copy(alloc), AMQPMethod::Unbind),
+            AMQPMethod::UnbindOk(method) => copied!(method.clone(), AMQPMethod::UnbindOk),
         }
     }
 }
@@ -125,27 +126,27 @@ pub fn parse_exchange(alloc: Global, i: &[u8]) -> Result<(usize, AMQPMethod), Pa
     Ok((n + used, method))
 }
 
-/// Calls a function with the ids and fields of a method, after the arguments given.
-macro_rules! with_fields {
-    ($method:expr, $call:ident($($argument:expr),*)) => {
-        match $method {
-            AMQPMethod::Declare(method) => $call($($argument,)* &declaring::declare_fields(method)),
-            AMQPMethod::DeclareOk(method) => $call($($argument,)* &declaring::declare_ok_fields(method)),
-            AMQPMethod::Delete(method) => $call($($argument,)* &declaring::delete_fields(method)),
-            AMQPMethod::DeleteOk(method) => $call($($argument,)* &declaring::delete_ok_fields(method)),
-            AMQPMethod::Bind(method) => $call($($argument,)* &binding::bind_fields(method)),
-            AMQPMethod::BindOk(method) => $call($($argument,)* &binding::bind_ok_fields(method)),
-            AMQPMethod::Unbind(method) => $call($($argument,)* &binding::unbind_fields(method)),
-            AMQPMethod::UnbindOk(method) => $call($($argument,)* &binding::unbind_ok_fields(method)),
-        }
-    };
+/// The ids and fields of a method, in order, and then nothing up to the most that a method of the class has.
+fn method_fields(method: &AMQPMethod) -> [Field<'_>; 8]
+    ensures { ListsMethod result (method_of method.now) }
+{
+    match method {
+        AMQPMethod::Declare(method) => declaring::declare_fields(method),
+        AMQPMethod::DeclareOk(method) => declaring::declare_ok_fields(method),
+        AMQPMethod::Delete(method) => declaring::delete_fields(method),
+        AMQPMethod::DeleteOk(method) => declaring::delete_ok_fields(method),
+        AMQPMethod::Bind(method) => binding::bind_fields(method),
+        AMQPMethod::BindOk(method) => binding::bind_ok_fields(method),
+        AMQPMethod::Unbind(method) => binding::unbind_fields(method),
+        AMQPMethod::UnbindOk(method) => binding::unbind_ok_fields(method),
+    }
 }
 
 /// The size in bytes of the class id, the method id and the fields.
 pub fn size_exchange(method: &AMQPMethod) -> Result<u64, GenError>
     ensures { Measures result (payload_size (method_of method.now)) }
 {
-    with_fields!(method, size_fields())
+    size_fields(&method_fields(method))
 }
 
 /// Puts the class id, the method id and the fields at a place of a slice, and returns the place after.
@@ -154,7 +155,7 @@ pub fn put_exchange(buf: &mut [u8], at: usize, method: &AMQPMethod) -> usize
         (payload_bytes (method_of method.now)) }
     ensures { Puts buf.old buf.new at (payload_bytes (method_of method.now)) result }
 {
-    with_fields!(method, put_fields(buf, at))
+    put_fields(buf, at, &method_fields(method))
 }
 
 /// Appends the class id, the method id and the fields to a vector.
@@ -162,12 +163,12 @@ pub fn gen_exchange(_alloc: Global, out: &mut Vec<u8>, method: &AMQPMethod) -> R
     ensures { Appends out.old.items out.new.items (payload_size (method_of method.now))
         (payload_bytes (method_of method.now)) result }
 {
-    with_fields!(method, gen_fields(out))
+    gen_fields(out, &method_fields(method))
 }
 
 /// A method of the class is held, whatever a program does: the premise of the laws that read canonical bytes back.
 pub fn exchange_method_held(method: &AMQPMethod)
     ensures { IsHeldMethod (method_of method.now) }
 {
-    with_fields!(method, fields_held())
+    fields_held(&method_fields(method))
 }

@@ -4,7 +4,7 @@ use Rattle.amqp_fields.proofs.Names.{bind_took, value_took, count_took, Fault, J
 
 -- what holds of what was taken holds of what is the same
 pub as_took : {B : Type 0} (P : B → ℕ → Type 0) {x y : B} {n m : ℕ} → took x n ≡ took y m → P x n → P y m
-as_took P {x} {y} {n} {m} e h = subst (λ z. P z m) (value_took x y n m e) (subst (P x) (count_took x y n m e) h)
+as_took P {x} {y} {n} {m} e h = subst (λ z. P z m) (value_took _ _ _ _ e) (subst (P x) (count_took _ _ _ _ e) h)
 
 -- it takes so many bytes, at most as many as there are, and what it takes is related
 abbrev pub Takes : {A B : Type 0} → (A → B → ℕ → Type 0) → ℕ → Judged B → A → ℕ → Type 0
@@ -25,13 +25,13 @@ module _ {A B : Type 0} {R : A → B → ℕ → Type 0} {size : ℕ} where
   agree_back h y n e =
       let one = h.back y n e in
       let all = h.there one.0 n one.1 in
-      (one.0, one.1, all.2, subst (λ z. R one.0 z n) (value_took all.0 y n n (sym all.1 ∙ e)) all.3)
+      (one.0, one.1, all.2, subst (λ z. R one.0 z n) (value_took _ _ _ _ (sym all.1 ∙ e)) all.3)
 
   -- both take something
   pub agree_took : (x : A) (y : B) (n : ℕ) → n ≤ size → R x y n → Agree R size (took x n) (took y n)
   agree_took x y n few r = record {
     there = λ z m e. as_took (Takes R size (took y n)) e (y, refl, few, r);
-    back = λ z m e. (x, ap (took x) (count_took y z n m e));
+    back = λ z m e. (x, ap (took x) (count_took _ _ _ _ e));
   }
 
   -- no byte is there
@@ -51,7 +51,7 @@ module _ {A B C : Type 0} {R : A → C → ℕ → Type 0} {size : ℕ} where
   pub follows_make : (S : B → C → ℕ → Type 0) (j : Judged A) (k : Judged C) (make : A → B)
       → Follows R size j k → ((x : A) (y : C) (n : ℕ) → R x y n → S (make x) y n) → Follows S size (j >>= λ x. took (make x.0) x.1) k
   follows_make S j k make h made z m e =
-      let one = bind_took j (λ x. took (make x.0) x.1) z m e in
+      let one = bind_took j _ _ _ e in
       let y = h one.0 one.1 one.2 in
       as_took (Takes S size k) one.3 (y.0, y.1, y.2, made one.0 y.0 one.1 y.3)
 
@@ -83,12 +83,12 @@ pub agree_then : {A B C D : Type 0} {R : A → B → ℕ → Type 0} {S : C → 
     → ((x : A) (y : B) (n : ℕ) → n ≤ size → R x y n → Agree S less (f (x, n)) (g (y, n))) → Agree S less (j >>= f) (k >>= g)
 agree_then j k f g h each = record {
   there = λ z m e.
-      let one = bind_took j f z m e in
+      let one = bind_took j _ _ _ e in
       let two = h.there one.0 one.1 one.2 in
       let all = (each one.0 two.0 one.1 two.2 two.3).there z m one.3 in
       (all.0, ap (λ q. q >>= g) two.1 ∙ all.1, all.2, all.3);
   back = λ z m e.
-      let one = bind_took k g z m e in
+      let one = bind_took k _ _ _ e in
       let two = agree_back h one.0 one.1 one.2 in
       let all = (each two.0 one.0 one.1 two.2 two.3).back z m one.3 in
       (all.0, ap (λ q. q >>= f) two.1 ∙ all.1);

@@ -3,10 +3,8 @@ use Rattle.std.proofs.Common.{Bor, ◌≡◌, ℕ, ◌+◌, ◌<◌, ◌≤◌, 
 use Rattle.std.specs.Prelude.{option_copied, option_map, unwrap_or}
 use Rattle.amqp_fields.proofs.Names.{took, bytes2, judge_number, bit_of, flag_at, properties, slots_at, property_of, slot_of, slots_of, AMQPFrameType, Frame}
 use Rattle.amqp_fields.proofs.Names.{outline_of, count_of, method_count, set_at, set_count, total, kept_count, fields_of, length-map}
-use Rattle.amqp_types.specs.Methods.{method}
 use Rattle.amqp_canonical.specs.declared.shapes.Form.{Form as FormShape}
 use Rattle.amqp_canonical.specs.declared.shapes.Slot.{Slot as SlotShape}
-use Rattle.amqp_wire.specs.declared.frame_type.AMQPFrameType.TheVariants as kinds
 use Rattle.amqp_wire.specs.Verdicts.{decode_payload}
 use Rattle.amqp_fields.proofs.Answering.{whole_found}
 use Rattle.amqp_fields.proofs.Spans.{itself}

@@ -81,9 +81,9 @@ pub found_both : {A B C : Type 0} {R : A → List Node → ℕ → Type 0} {S : 
     → Found T from to (length bytes) (judge_both first second join bytes) (judge_both one two (λ a b. a ++ b) bytes)
 found_both {T = T} {from = from} {to = to} bytes first second join one two h rest joins = record {
   there = λ z k e.
-      let x = bind_took (first bytes) _ z k e in
+      let x = bind_took (first bytes) _ _ _ e in
       let a = h.there x.0 x.1 x.2 in
-      let y = bind_took (second (drop x.1 bytes)) _ z k x.3 in
+      let y = bind_took (second (drop x.1 bytes)) _ _ _ x.3 in
       let b = (rest x.1 a.2).there y.0 y.1 y.2 in
       as_took (Takes T (length bytes) (judge_both one two (λ ns more. ns ++ more) bytes)) y.3 (
         a.0 ++ b.0,
@@ -92,11 +92,11 @@ found_both {T = T} {from = from} {to = to} bytes first second join one two h res
         joins x.0 a.0 x.1 y.0 b.0 y.1 a.3 b.3,
       );
   lies = λ nodes k e.
-      let p = bind_took (one bytes) _ nodes k e in
+      let p = bind_took (one bytes) _ _ _ e in
       let a = h.lies p.0 p.1 p.2 in
-      let q = bind_took (two (drop p.1 bytes)) _ nodes k p.3 in
+      let q = bind_took (two (drop p.1 bytes)) _ _ _ p.3 in
       let b = (rest p.1 a.1).lies q.0 q.1 q.2 in
-      as_took (λ ns m. LieIn from to ns × (m ≤ length bytes)) q.3 (append_lie p.0 q.0 a.0 b.0, omega (arith, length-drop p.1 bytes));
+      as_took (λ ns m. LieIn from to ns × (m ≤ length bytes)) q.3 (append_lie _ _ a.0 b.0, omega (arith, length-drop p.1 bytes));
 }
 
 -- ---- the nodes of fields
@@ -132,16 +132,16 @@ kinds_count form = refl
 table_bounded : IsBounded judge_field_table
 unfolding judge_table
 table_bounded bytes es n h =
-    let two = bind_took (judge_long_string bytes) _ es n h in
-    let all = all_took two.1 n (read_map settled (filled (judge_entry (judge_value inner_depth)) 0 two.0)) es two.3 in
-    omega (arith, (long_part bytes two.0 two.1 two.2).within)
+    let two = bind_took (judge_long_string bytes) _ _ _ h in
+    let all = all_took _ _ (read_map settled (filled (judge_entry (judge_value inner_depth)) 0 two.0)) _ two.3 in
+    omega (arith, (long_part bytes _ _ two.2).within)
 
 form_bounded : (form : Form) → IsBounded (judge_form form)
 unfolding judge_form judge_flags
 form_bounded (number_form width) = map_bounded _ (number_bounded width)
 form_bounded (flags_form count) = map_bounded _ (map_bounded _ (number_bounded bytes1))
-form_bounded short_string_form = map_bounded _ (λ bytes text n h. (short_part bytes text n h).within)
-form_bounded long_string_form = map_bounded _ (λ bytes text n h. (long_part bytes text n h).within)
+form_bounded short_string_form = map_bounded _ (λ bytes text n h. (short_part bytes _ _ h).within)
+form_bounded long_string_form = map_bounded _ (λ bytes text n h. (long_part bytes _ _ h).within)
 form_bounded table_form = map_bounded _ table_bounded
 
 label_of : {from to : ℕ} (place : ℕ) (form : Form) → IsLabel from to (placed place form)
@@ -186,7 +186,7 @@ module _ (deep : Bool) (payload : List ℕ) (from to : ℕ) where
       let others = bits_found (place + 1) flags (omega (arith, few)) in
       rw next (
         fields_then (one_field 1 place (flags_form 1) (flag_item flag) one) others.0 (omega arith),
-        append_lie (numbered (placed place (flags_form 1)) (bit_of flag) ∷ []) (listed_bits (place + 1) flags) one.lie others.1,
+        append_lie _ _ one.lie others.1,
       )
 
   flags_found : (place count : ℕ) (bytes : List ℕ) → place + count < 256
@@ -198,10 +198,10 @@ module _ (deep : Bool) (payload : List ℕ) (from to : ℕ) where
       {R = λ flags nodes n. AreItems deep payload place count (replicate count 5) (count - 1) (map flag_item flags) nodes n × LieIn from to nodes}
       (judge_flags count bytes) _ (map flag_item)
       (found_of (agree_of (judge_flags count bytes) (λ flags n. listed_bits place flags) (λ flags n e.
-      let byte = bind_took (judge_number bytes1 bytes) _ flags n e in
-      let size : length flags ≡ count = ap length (sym (value_took _ flags byte.1 n byte.3)) ∙ flags_length count 0 byte.0 in
-      let took_one = number_took bytes1 bytes byte.0 byte.1 byte.2 in
-      let used = count_took _ flags byte.1 n byte.3 in
+      let byte = bind_took (judge_number bytes1 bytes) _ _ _ e in
+      let size : length flags ≡ count = ap length (sym (value_took _ _ _ _ byte.3)) ∙ flags_length count 0 byte.0 in
+      let took_one = number_took bytes1 bytes _ _ byte.2 in
+      let used = count_took _ _ _ _ byte.3 in
       let bits = bits_found place flags (omega arith) in (
         omega arith,
         (
@@ -225,7 +225,7 @@ module _ (deep : Bool) (payload : List ℕ) (from to : ℕ) where
   number_found place width bytes =
       one_found place (number_form width) (judge_number width bytes) _ number_item
       (agree_of (judge_number width bytes) (λ x n. numbered (placed place (number_form width)) x ∷ []) (λ x n e.
-      let size = number_took width bytes x n e in (
+      let size = number_took width bytes _ _ e in (
         size.1,
         regroup (leaf (label_of place (number_form width)) (no_span width) refl x) (let some = width_some width in omega arith)
             (λ node inside means. means),
@@ -260,10 +260,10 @@ module _ (payload : List ℕ) (from to : ℕ) (bytes : List ℕ) (at : IsAt payl
       let span = span_found place table_form judge_long_string 4 long_part (omega arith) in
       record {
         there = λ items n e.
-            let one = map_took judge_field_table (λ es. entries_item es ∷ []) bytes items n e in
-            let content = bind_took (judge_long_string bytes) _ one.0 n one.1 in
-            let all = all_took content.1 n (read_map settled (filled (judge_entry (judge_value inner_depth)) 0 content.0)) one.0 content.3 in
-            let entries = map_read settled (filled (judge_entry (judge_value inner_depth)) 0 content.0) one.0 all.0 in
+            let one = map_took judge_field_table (λ es. entries_item es ∷ []) bytes _ _ e in
+            let content = bind_took (judge_long_string bytes) _ _ _ one.1 in
+            let all = all_took _ _ (read_map settled (filled (judge_entry (judge_value inner_depth)) 0 content.0)) _ content.3 in
+            let entries = map_read settled (filled (judge_entry (judge_value inner_depth)) 0 content.0) _ all.0 in
             let listed = span.there content.0 content.1 content.2 in
             let table =
             one_field content.1 place table_form (entries_item one.0) (regroup listed.3 (omega arith) (λ node inside means. (
@@ -295,13 +295,13 @@ module _ (payload : List ℕ) (from to : ℕ) (bytes : List ℕ) (at : IsAt payl
   form_found deep place (number_form width) room = number_found deep payload from to place width bytes
   form_found deep place (flags_form count) room = flags_found deep payload from to place count bytes room
   form_found deep place short_string_form room =
-      one_found deep payload from to place short_string_form (judge_short_string bytes) _ text_item
+      one_found _ _ _ _ _ short_string_form _ _ text_item
       (span_found place short_string_form judge_short_string 1 short_part (omega arith))
   form_found deep place long_string_form room =
-      one_found deep payload from to place long_string_form (judge_long_string bytes) _ bytes_item
+      one_found _ _ _ _ _ long_string_form _ _ bytes_item
       (span_found place long_string_form judge_long_string 4 long_part (omega arith))
   form_found true place table_form room =
-      one_found true payload from to place table_form (judge_field_table bytes) _ entries_item
+      one_found _ _ _ _ _ table_form _ _ entries_item
       (table_found inner_depth (value_found inner_depth) at (label_of place table_form))
   form_found false place table_form room = alone_found place
 

@@ -82,7 +82,7 @@ module _ {A : Type 0} (judge : Judge A) (listed : Judge (List Node)) (Means : No
             means = one.means;
             rest = others.means;
           };
-          lie = append_lie nodes (joined groups) one.lie others.lie;
+          lie = append_lie _ _ one.lie others.lie;
         }
 
     -- the nodes of things that fill some bytes are listed, a group for each

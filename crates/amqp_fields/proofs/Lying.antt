@@ -1,5 +1,5 @@
 -- Nodes that lie between two places, one after another.
-use Rattle.std.proofs.Common.{length-append, ◌≡◌, ◌⊎◌, inl, inr, ℕ, ◌+◌, ◌≤◌, List, [], ◌∷◌, ◌++◌, arith}
+use Rattle.std.proofs.Common.{length-append, ◌≡◌, ◌⊎◌, inl, inr, ℕ, ◌≤◌, List, [], ◌∷◌, ◌++◌, arith}
 use Rattle.std.specs.List.{AllByRecursion}
 use Rattle.amqp_fields.proofs.Names.{take-append-le, Node, HasNoKey, AreNested, LieIn, LiesIn, SpansLieIn}
 

@@ -2,7 +2,7 @@
 pub use Rattle.std.proofs.lemmas.List.{length-map, length-replicate, take-set-le, nil_from_length, drop-take, take_rest, get_or-map, set_comm, take_more_set}
 pub use Rattle.std.proofs.lemmas.List.{take-append-le}
 pub use Rattle.amqp_types.proofs.Took.{bind_took, value_took, count_took, guard_took, test_took}
-pub use Rattle.amqp_types.specs.Judging.{Judge, Fault, took, ◌>>=◌, Judged, unknown_class, unknown_method, IsBytes, fault, past, not_utf8, IsExact}
+pub use Rattle.amqp_types.specs.Judging.{Judge, Fault, took, ◌>>=◌, Judged, unknown_class, unknown_method, IsBytes, fault, past, IsExact}
 pub use Rattle.amqp_types.specs.Sequences.{judge_both, judge_map}
 pub use Rattle.amqp_types.specs.Numbers.{NumberWidth, bytes1, bytes2, bytes4, bytes8, judge_number, byte_count, number_limit, width_of}
 unfoldable pub use Rattle.amqp_types.specs.Strings.{judge_short_string, judge_long_string}
@@ -15,7 +15,7 @@ pub use Rattle.amqp_types.specs.Settling.{settled, value_at}
 pub use Rattle.amqp_types.specs.Tags.{tag_at, tag_byte, tag_of}
 pub use Rattle.amqp_types.specs.declared.tag.FieldTag.{FieldTag}
 pub use Rattle.amqp_fields.specs.declared.node.Node.{Node}
-pub use Rattle.amqp_fields.specs.Nodes.{blank, held, keyed, numbered, spanned, cut_byte, PassesEnd, StandsFirst}
+pub use Rattle.amqp_fields.specs.Nodes.{blank, held, keyed, numbered, spanned, cut_byte}
 pub use Rattle.amqp_fields.specs.Listed.{end_before, holding, joined, listed_after, listed_array, listed_table, of_kind, scaled, field_count, kept_count}
 pub use Rattle.amqp_fields.specs.Listed.{listed_bits, next_place, placed, listed_known, entries_nodes, nodes_in, values_nodes, payload_nodes, version_slots}
 pub use Rattle.amqp_fields.specs.Listed.{listed_number, nodes_of}
@@ -41,7 +41,7 @@ pub use Rattle.amqp_canonical.specs.Writes.{IsFilled, IsRead, after_key, key_in}
 pub use Rattle.amqp_fields.specs.declared.listing.Filled.{Filled}
 pub use Rattle.amqp_fields.specs.Finding.{ListsAll, Counts, Lists, key_label}
 pub use Rattle.amqp_wire.specs.declared.frame_type.AMQPFrameType.{AMQPFrameType}
-pub use Rattle.amqp_wire.specs.Frames.{Frame, Proto, Meth, Head, Body, Beat, BadBeat, beat_on, Raw, raw_of}
+pub use Rattle.amqp_wire.specs.Frames.{Frame, Proto, Meth, Head, Body, Beat, BadBeat, beat_on, Raw}
 pub use Rattle.amqp_wire.specs.Outlines.{outline_of}
 pub use Rattle.amqp_fields.specs.Listing.{Grows, Listing, listing, pushed_all}
 unfoldable pub use Rattle.amqp_fields.specs.Listing.{pushed}
@@ -50,5 +50,5 @@ pub use Rattle.amqp_fields.specs.declared.listing.Step.{Step}
 pub use Rattle.amqp_canonical.specs.declared.shapes.Form.{Form}
 pub use Rattle.amqp_canonical.specs.declared.shapes.Slot.{Slot}
 pub use Rattle.amqp_types.specs.declared.errors.ParserError.{ParserError}
-pub use Rattle.std.proofs.lemmas.Bool.{cases_lt, cases_Bool}
+pub use Rattle.std.proofs.lemmas.Bool.{cases_lt}
 pub use Rattle.amqp_fields.specs.declared.frames.FramesRead.{FramesRead}

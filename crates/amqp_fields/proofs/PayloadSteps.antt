@@ -5,7 +5,6 @@ use Rattle.amqp_fields.proofs.Names.{Fault, IsBytes, took, bytes2, judge_number,
 use Rattle.amqp_fields.proofs.Names.{AMQPFrameType, Frame, Meth, slots_of, Node, listed_method, listed_slots, Counts}
 use Rattle.amqp_types.specs.Methods.{Method, judge_payload, payload_bytes}
 use Rattle.amqp_types.specs.Tidiness.{is_tidy_payload}
-use Rattle.amqp_types.specs.declared.errors.ParserError.TheVariants as errors
 use Rattle.amqp_types.specs.Slots as meant
 use Rattle.amqp_canonical.specs.declared.slots.Judgement.{Judgement}
 use Rattle.amqp_canonical.specs.SlotJudgements.{JudgesSlots}
@@ -80,8 +79,8 @@ pub no_method : (payload : List ℕ) (class id : ℕ) (shapes : Option (Bor (Lis
     → judge_number bytes2 (drop 2 payload) ≡ took id 2 → option_map slots_of (option_copied shapes) ≡ slots_at class id → shapes ≡ None → IsNoMethod payload
 no_method payload class id shapes one two at is =
     none_of payload (λ m p.
-    let a : p.class ≡ class = value_took p.class class 2 2 (sym p.class_is ∙ one) in
-    let b : p.id ≡ id = value_took p.id id 2 2 (sym p.id_is ∙ two) in
+    let a : p.class ≡ class = value_took _ _ _ _ (sym p.class_is ∙ one) in
+    let b : p.id ≡ id = value_took _ _ _ _ (sym p.id_is ∙ two) in
     let none : option_map slots_of (option_copied shapes) ≡ None = ap (λ o. option_map slots_of (option_copied o)) is in
     let there : None ≡ Some p.slots = sym none ∙ at ∙ ap₂ slots_at (sym a) (sym b) ∙ p.at in
     absurd cc)
@@ -89,8 +88,8 @@ no_method payload class id shapes one two at is =
 same_fields : {payload fields : List ℕ} {slots : List meant.Slot} {m : Method} {n : ℕ} → IsMethodAt payload slots fields
     → (p : MethodParts payload m n) → judge_slots slots fields ≡ took p.items p.used
 same_fields at p =
-    let a : at.class ≡ p.class = value_took at.class p.class 2 2 (sym at.class_is ∙ p.class_is) in
-    let b : at.id ≡ p.id = value_took at.id p.id 2 2 (sym at.id_is ∙ p.id_is) in
+    let a : at.class ≡ p.class = value_took _ _ _ _ (sym at.class_is ∙ p.class_is) in
+    let b : at.id ≡ p.id = value_took _ _ _ _ (sym at.id_is ∙ p.id_is) in
     let same : Some _ ≡ Some p.slots = sym at.at ∙ ap₂ slots_at a b ∙ p.at in
     ap₂ judge_slots (cc (same)) at.fields_are ∙ p.fields
 
@@ -107,7 +106,7 @@ more_fields payload fields slots j at less h =
     none_of payload (λ m p. omega (
       arith,
       less,
-      count_took h.thing p.items j.used p.used (sym h.is ∙ same_fields at p),
+      count_took _ _ _ _ (sym h.is ∙ same_fields at p),
       p.size,
       rest_size at,
     ))

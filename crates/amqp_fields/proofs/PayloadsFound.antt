@@ -105,31 +105,31 @@ pub properties_found : (deep : Bool) (payload : List ℕ) (from to : ℕ) (bytes
 unfolding judge_properties listed_properties
 properties_found deep payload from to bytes at = record {
   there = λ options n e.
-      let mask = bind_took (judge_number bytes2 bytes) _ options n e in
-      let set = bind_took (judge_set mask.0 properties (drop mask.1 bytes)) _ options n mask.3 in
-      let used = count_took set.0 options (mask.1 + set.1) n set.3 in
+      let mask = bind_took (judge_number bytes2 bytes) _ _ _ e in
+      let set = bind_took (judge_set mask.0 properties (drop mask.1 bytes)) _ _ _ mask.3 in
+      let used = count_took _ _ _ _ set.3 in
       let one = (behind mask.0 mask.1 mask.2).there set.0 set.1 set.2 in (
         one.0,
         ap (λ j. j >>= λ m. listed_set m.0 deep to 0 properties (drop m.1 bytes) >>= λ s. took s.0 (m.1 + s.1)) mask.2
             ∙ ap (λ j. j >>= λ s. took s.0 (mask.1 + s.1)) one.1 ∙ ap (took one.0) used,
         omega (arith, (front mask.0 mask.1 mask.2).1, length-drop mask.1 bytes),
         subst (λ os. AreSet deep payload (set_fields 0 properties os) (set_at (judge_number bytes2 bytes)) one.0 n)
-            (value_took set.0 options (mask.1 + set.1) n set.3)
+            (value_took _ _ _ _ set.3)
             (record {
               number = one.3.number ∙ sym (ap set_at mask.2);
               nodes_are = record { means = one.3.nodes_are.means; few = omega arith };
             }),
       );
   lies = λ nodes n e.
-      let mask = bind_took (judge_number bytes2 bytes) _ nodes n e in
-      let set = bind_took (listed_set mask.0 deep to 0 properties (drop mask.1 bytes)) _ nodes n mask.3 in
-      let used = count_took set.0 nodes (mask.1 + set.1) n set.3 in
+      let mask = bind_took (judge_number bytes2 bytes) _ _ _ e in
+      let set = bind_took (listed_set mask.0 deep to 0 properties (drop mask.1 bytes)) _ _ _ mask.3 in
+      let used = count_took _ _ _ _ set.3 in
       let one = (behind mask.0 mask.1 mask.2).lies set.0 set.1 set.2 in
-      (subst (LieIn from to) (value_took set.0 nodes (mask.1 + set.1) n set.3) one.0, omega (arith, (front mask.0 mask.1 mask.2).1, length-drop mask.1 bytes));
+      (subst (LieIn from to) (value_took _ _ _ _ set.3) one.0, omega (arith, (front mask.0 mask.1 mask.2).1, length-drop mask.1 bytes));
 }
   where
     front : (mask n : ℕ) → judge_number bytes2 bytes ≡ took mask n → (n ≡ 2) × (n ≤ length bytes)
-    front mask n e = number_took bytes2 bytes mask n e
+    front mask n e = number_took bytes2 bytes _ _ e
 
     behind : (mask n : ℕ) → judge_number bytes2 bytes ≡ took mask n
         → Found (λ options. AreSet deep payload (set_fields 0 properties options) (set_count mask properties)) from to (length (drop n bytes))
@@ -144,8 +144,8 @@ number_form_took : (width : NumberWidth) (bytes : List ℕ) (items : List Item) 
     → (x : ℕ) × (items ≡ number_item x ∷ []) × (n ≡ byte_count width) × (n ≤ length bytes)
 unfolding judge_form
 number_form_took width bytes items n h =
-    let one = map_took (judge_number width) (λ x. number_item x ∷ []) bytes items n h in
-    let size = number_took width bytes one.0 n one.1 in
+    let one = map_took (judge_number width) (λ x. number_item x ∷ []) bytes _ _ h in
+    let size = number_took width bytes _ _ one.1 in
     (one.0, sym one.2, size.0, size.1)
 
 two_items : (a c : ℕ) {x y none z last empty items : List Item} → x ++ y ≡ items → x ≡ number_item a ∷ [] → none ++ z ≡ y → [] ≡ none
@@ -160,21 +160,21 @@ front_used bytes items n h =
     let join : List Item → List Item → List Item = λ xs ys. xs ++ ys in
     let size : List Slot = kept_slot (number_form bytes8) ∷ [] in
     let weight : List Slot = reserved_slot (number_form bytes2) (number_item 0 ∷ []) ∷ size in
-    let one = both_took (judge_form (number_form bytes2)) (judge_slots weight) join bytes items n h in
+    let one = both_took (judge_form (number_form bytes2)) (judge_slots weight) join bytes _ _ h in
     let a = number_form_took bytes2 bytes one.0 one.1 one.4 in
     let behind = drop one.1 bytes in
-    let two = both_took (judge_dropped (number_form bytes2)) (judge_slots size) join behind one.2 one.3 one.5 in
-    let dropped = map_took (judge_form (number_form bytes2)) (λ xs. []) behind two.0 two.1 two.4 in
+    let two = both_took (judge_dropped (number_form bytes2)) (judge_slots size) join behind _ _ one.5 in
+    let dropped = map_took (judge_form (number_form bytes2)) (λ xs. []) behind _ _ two.4 in
     let b = number_form_took bytes2 behind dropped.0 two.1 dropped.1 in
     let last = drop two.1 behind in
-    let three = both_took (judge_form (number_form bytes8)) (judge_slots []) join last two.2 two.3 two.5 in
+    let three = both_took (judge_form (number_form bytes8)) (judge_slots []) join last _ _ two.5 in
     let c = number_form_took bytes8 last three.0 three.1 three.4 in
-    let zero : 0 ≡ three.3 = count_took [] three.2 0 three.3 three.5 in
+    let zero : 0 ≡ three.3 = count_took _ _ _ _ three.5 in
     let front = length-drop one.1 bytes in
     let left = length-drop two.1 behind in (
       omega (arith, one.7, two.7, three.7, a.2, b.2, c.2),
       omega (arith, one.7, two.7, three.7, a.2, b.2, c.2, a.3, b.3, c.3),
-      two_items a.0 c.0 one.6 a.1 two.6 dropped.2 three.6 c.1 (value_took [] three.2 0 three.3 three.5),
+      two_items a.0 c.0 one.6 a.1 two.6 dropped.2 three.6 c.1 (value_took _ _ _ _ three.5),
     )
 
 -- the nodes that are listed of a content header are those of its properties that are set
@@ -184,10 +184,10 @@ pub header_found : (deep : Bool) (bytes : List ℕ) (from to : ℕ) (payload : L
     (set_fields 0 properties header.options) (set_at (judge_number bytes2 (drop 12 payload)))
 unfolding judge_content_header listed_header
 header_found deep bytes from to payload n header at h =
-    let front = bind_took (judge_slots header_slots payload) _ header n h in
+    let front = bind_took (judge_slots header_slots payload) _ _ _ h in
     let parts = front_used payload front.0 front.1 front.2 in
-    let set = bind_took (judge_properties (drop front.1 payload)) _ header n front.3 in
-    let is : header_of_parts front.0 set.0 ≡ header = value_took (header_of_parts front.0 set.0) header (front.1 + set.1) n set.3 in
+    let set = bind_took (judge_properties (drop front.1 payload)) _ _ _ front.3 in
+    let is : header_of_parts front.0 set.0 ≡ header = value_took _ _ _ _ set.3 in
     let found = (properties_found deep bytes from to (drop front.1 payload) (at_drop payload front.1 at parts.1)).there set.0 set.1 set.2 in
     let options : header.options ≡ set.0 = ap (λ (x : ContentHeader). x.options) (sym is) ∙ parts.2 set.0 in
     let P : List (Option Item) → Type 0 =
@@ -232,7 +232,7 @@ slots_small class id slots h = small_method (lookup (λ k. class == k) classes) 
 -- what is known in a table was looked up there
 pub known_took : {A : Type 0} (unknown : Fault) (o : Option A) (x : A) (n : ℕ) → known unknown o ≡ took x n → (o ≡ Some x) × (n ≡ 0)
 known_took unknown None x n h = absurd cc
-known_took unknown (Some y) x n h = (ap Some (value_took y x 0 n h), sym (count_took y x 0 n h))
+known_took unknown (Some y) x n h = (ap Some (value_took _ _ _ _ h), sym (count_took _ _ _ _ h))
 
 -- a test says that fields are few
 pub small_is : (slots : List Slot) → is_small slots ≡ true → (total slots ≤ 255) × (spare slots ≤ 4)
@@ -267,16 +267,16 @@ pub record MethodParts (payload : List ℕ) (m : Method) (n : ℕ) : Type 0 wher
 pub method_parts : (payload : List ℕ) (m : Method) (n : ℕ) → judge_payload payload ≡ took m n → MethodParts payload m n
 unfolding judge_payload judge_in_class judge_method
 method_parts payload m n h =
-    let class = bind_took (judge_number bytes2 payload) _ m n h in
+    let class = bind_took (judge_number bytes2 payload) _ _ _ h in
     let behind = drop class.1 payload in
-    let inner = bind_took (judge_in_class class.0 behind) _ m n class.3 in
-    let rows = bind_took (known unknown_class (rows_of class.0)) _ inner.0 inner.1 inner.2 in
-    let id = bind_took (judge_number bytes2 behind) _ inner.0 inner.1 rows.3 in
-    let of_class = bind_took (judge_method class.0 id.0 (drop id.1 behind)) _ inner.0 inner.1 id.3 in
-    let slots = bind_took (known unknown_method (slots_at class.0 id.0)) _ of_class.0 of_class.1 of_class.2 in
-    let items = bind_took (judge_slots slots.0 (drop id.1 behind)) _ of_class.0 of_class.1 slots.3 in
-    let one = number_took bytes2 payload class.0 class.1 class.2 in
-    let two = number_took bytes2 behind id.0 id.1 id.2 in
+    let inner = bind_took (judge_in_class class.0 behind) _ _ _ class.3 in
+    let rows = bind_took (known unknown_class (rows_of class.0)) _ _ _ inner.2 in
+    let id = bind_took (judge_number bytes2 behind) _ _ _ rows.3 in
+    let of_class = bind_took (judge_method class.0 id.0 (drop id.1 behind)) _ _ _ id.3 in
+    let slots = bind_took (known unknown_method (slots_at class.0 id.0)) _ _ _ of_class.2 in
+    let items = bind_took (judge_slots slots.0 (drop id.1 behind)) _ _ _ slots.3 in
+    let one = number_took bytes2 payload _ _ class.2 in
+    let two = number_took bytes2 behind _ _ id.2 in
     record {
       class = class.0;
       id = id.0;
@@ -287,13 +287,13 @@ method_parts payload m n h =
       id_is = ap (λ k. judge_number bytes2 (drop k payload)) (sym one.0) ∙ id.2 ∙ ap (took id.0) two.0;
       at = (known_took unknown_method (slots_at class.0 id.0) slots.0 slots.1 slots.2).0;
       fields = ap₂ (λ a b. judge_slots slots.0 (drop b (drop a payload))) (sym one.0) (sym two.0) ∙ items.2;
-      is = sym (value_took _ of_class.0 items.1 of_class.1 items.3 ∙ value_took of_class.0 inner.0 (id.1 + of_class.1) inner.1 of_class.3
-          ∙ value_took inner.0 m (class.1 + inner.1) n inner.3);
+      is = sym (value_took _ _ _ _ items.3 ∙ value_took _ _ _ _ of_class.3
+          ∙ value_took _ _ _ _ inner.3);
       size = omega (
         arith,
-        count_took _ of_class.0 items.1 of_class.1 items.3,
-        count_took of_class.0 inner.0 (id.1 + of_class.1) inner.1 of_class.3,
-        count_took inner.0 m (class.1 + inner.1) n inner.3,
+        count_took _ _ _ _ items.3,
+        count_took _ _ _ _ of_class.3,
+        count_took _ _ _ _ inner.3,
         one.0,
         two.0,
       );

@@ -18,7 +18,7 @@ use Rattle.amqp_fields.proofs.Pushing.{grows_more, grows_none}
 -- where no flags are left, nothing more is put
 pub no_bits : (place flags k byte count : ℕ) (old : List Node) → flags ≡ 0
     → Grows (listing old count) (listing old count) (listed_bits place (flags_from flags k byte))
-no_bits place zero k byte count old h = grows_none (listing old count)
+no_bits place zero k byte count old h = grows_none _
 no_bits place (suc flags) k byte count old h = absurd (omega arith)
 
 -- from a bit on, and by the half from the bit before it on
@@ -45,7 +45,7 @@ bits_more place next (suc flags) byte half count more total node old mid new som
 
 dropped : {A : Type 0} (j : Judged A) (old : List Node) (count n : ℕ) → (IsRead j → n ≡ used_by j)
     → Lists (j >>= λ x. took [] x.1) old count old (record { used = n; count = count })
-dropped (took x used) old count n h = (h tt, grows_none (listing old count))
+dropped (took x used) old count n h = (h tt, grows_none _)
 dropped j old count n h = tt
 
 -- ---- fields, one after another
@@ -53,7 +53,7 @@ dropped j old count n h = tt
 second : (j : Judged (List Node)) (added : List Node) (used : ℕ) (old mid new : List Node) (count more total : ℕ)
     → Grows (listing old count) (listing mid more) added → Counts j mid more new total
     → Counts (j >>= λ y. took (added ++ y.0) (used + y.1)) old count new total
-second (took others n) added used old mid new count more total one h = grows_more (listing old count) (listing mid more) (listing new total) added others one h
+second (took others n) added used old mid new count more total one h = grows_more _ _ _ _ _ one h
 second j added used old mid new count more total one h = tt
 
 -- what is listed of the front, and then of the rest, is listed of both
@@ -68,7 +68,7 @@ first j others i rest old mid new count total step one e h = tt
 pub no_slots : (deep : Bool) (end place : ℕ) (shapes : List Slot) (i : List ℕ) (old : List Node) (count : ℕ)
     → length shapes < 1 → Counts (listed_slots deep end place (slots_of shapes) i) old count old count
 unfolding listed_slots
-no_slots deep end place [] i old count h = grows_none (listing old count)
+no_slots deep end place [] i old count h = grows_none _
 no_slots deep end place (shape ∷ shapes) i old count h = absurd (omega arith)
 
 -- the first field is listed, and then those after it

@@ -75,20 +75,20 @@ part_stands payload bytes content end front used h part =
 
 -- a number takes as many bytes as its width
 pub number_took : (width : NumberWidth) (bytes : List ℕ) (x n : ℕ) → judge_number width bytes ≡ took x n → (n ≡ byte_count width) × (n ≤ length bytes)
-number_took width bytes x n h =
-    let one = guard_took (nat_lt (length bytes) (byte_count width)) _ x n h in
-    let size = count_took _ x (byte_count width) n one.1 in
+number_took width bytes _ _ h =
+    let one = guard_took (nat_lt (length bytes) (byte_count width)) _ _ _ h in
+    let size = count_took _ _ _ _ one.1 in
     (sym size, let e = one.0 in grind (arith, nat_tests))
 
 -- a long string stands behind a length of 4 bytes
 pub long_part : (bytes content : List ℕ) (used : ℕ) → judge_long_string bytes ≡ took content used → IsPart bytes content 4 used
 unfolding judge_long_string
 long_part bytes content used h =
-    let one = bind_took (judge_number bytes4 bytes) _ content used h in
-    let front = number_took bytes4 bytes one.0 one.1 one.2 in
-    let test = guard_took (nat_lt (length (drop one.1 bytes)) one.0) _ content used one.3 in
-    let is : take one.0 (drop one.1 bytes) ≡ content = value_took _ content (one.1 + one.0) used test.1 in
-    let count : one.1 + one.0 ≡ used = count_took _ content (one.1 + one.0) used test.1 in
+    let one = bind_took (judge_number bytes4 bytes) _ _ _ h in
+    let front = number_took bytes4 bytes _ _ one.2 in
+    let test = guard_took (nat_lt (length (drop one.1 bytes)) one.0) _ _ _ one.3 in
+    let is : take one.0 (drop one.1 bytes) ≡ content = value_took _ _ _ _ test.1 in
+    let count : one.1 + one.0 ≡ used = count_took _ _ _ _ test.1 in
     let room : one.0 ≤ length (drop one.1 bytes) = let e = test.0 in grind (arith, nat_tests) in
     let size : length content ≡ one.0 = ap length (sym is) ∙ length-take-le one.0 (drop one.1 bytes) room in
     record {

@@ -1,5 +1,5 @@
 -- The spans of nodes lie in the bytes of their frame, and those of what lies inside a table or an array in its own.
-use Rattle.std.proofs.Common.{replicate, length-append, length-drop, take_all, ◌≡◌, ℕ, ◌+◌, ◌-◌, Bool, List, [], ◌++◌, length, take, drop, Option, Some, None}
+use Rattle.std.proofs.Common.{replicate, length-append, length-drop, take_all, ◌≡◌, ℕ, ◌+◌, Bool, List, ◌++◌, length, take, drop, Option, Some, None}
 use Rattle.std.proofs.Common.{refl, sym, ap, subst, ◌∙◌, arith}
 use Rattle.std.proofs.Math.Seq.{drop-append_seam}
 use Rattle.amqp_fields.proofs.Names.{length-replicate, bind_took, value_took, Judged, fault, past, took, bytes2, judge_number, slots_at, AMQPFrameType, Node}
@@ -31,18 +31,18 @@ module _ (deep : Bool) (bytes : List ℕ) (from to : ℕ) where
   unfolding listed_payload listed_method listed_header listed_properties
   payload_lies kinds.ProtocolHeader payload nodes n at h = ((slots_found deep bytes from to version_slots payload 0 (omega arith) at).lies nodes n h).0
   payload_lies kinds.Method payload nodes n at h =
-      let class = bind_took (judge_number bytes2 payload) _ nodes n h in
+      let class = bind_took (judge_number bytes2 payload) _ _ _ h in
       let behind = drop class.1 payload in
-      let id = bind_took (judge_number bytes2 behind) _ nodes n class.3 in
-      let inner = at_drop payload class.1 at (number_took bytes2 payload class.0 class.1 class.2).1 in
+      let id = bind_took (judge_number bytes2 behind) _ _ _ class.3 in
+      let inner = at_drop payload class.1 at (number_took bytes2 payload _ _ class.2).1 in
       known_lies class.0 id.0 (slots_at class.0 id.0) (drop id.1 behind) nodes n refl
-      (at_drop behind id.1 inner (number_took bytes2 behind id.0 id.1 id.2).1) id.3
+      (at_drop behind id.1 inner (number_took bytes2 behind _ _ id.2).1) id.3
   payload_lies kinds.Header payload nodes n at h =
-      let mask = bind_took (judge_number bytes2 (drop 12 payload)) _ nodes n h in
-      let two = number_took bytes2 (drop 12 payload) mask.0 mask.1 mask.2 in
+      let mask = bind_took (judge_number bytes2 (drop 12 payload)) _ _ _ h in
+      let two = number_took bytes2 (drop 12 payload) _ _ mask.2 in
       ((properties_found deep bytes from to (drop 12 payload) (at_drop payload 12 at (omega (arith, length-drop 12 payload)))).lies nodes n h).0
-  payload_lies kinds.Body payload nodes n at h = subst (LieIn from to) (value_took [] nodes 0 n h) none_lie
-  payload_lies kinds.Heartbeat payload nodes n at h = subst (LieIn from to) (value_took [] nodes 0 n h) none_lie
+  payload_lies kinds.Body payload nodes n at h = subst (LieIn from to) (value_took _ _ _ _ h) none_lie
+  payload_lies kinds.Heartbeat payload nodes n at h = subst (LieIn from to) (value_took _ _ _ _ h) none_lie
 
 -- ---- what is given to a caller
 

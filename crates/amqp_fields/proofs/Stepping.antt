@@ -3,7 +3,7 @@ use Rattle.std.proofs.Common.{drop-drop, get_or-drop, length-drop, length-take-l
 use Rattle.std.proofs.Common.{take, set, Some, None, Result, Ok, Err, refl, sym, ap, subst, ◌∙◌, arith}
 use Rattle.amqp_fields.proofs.Names.{nil_from_length, Judged, Judge, Fault, took, ◌>>=◌, judge_short_string, judge_long_string, filled, next_item, read_map}
 use Rattle.amqp_fields.proofs.Names.{took_all, tag_at, tag_byte, FieldTag, IsRead, after_key, Node, Step, Filled, blank, held, keyed, spanned, Grows, listing}
-use Rattle.amqp_fields.proofs.Names.{end_before, holding, joined, listed_behind, listed_entry, listed_items, listed_nested, listed_tagged, listed_value}
+use Rattle.amqp_fields.proofs.Names.{end_before, holding, listed_behind, listed_entry, listed_items, listed_nested, listed_tagged, listed_value}
 use Rattle.amqp_fields.proofs.Names.{of_kind, Lists, ListsAll, key_label}
 use Rattle.amqp_fields.proofs.Pushing.{grows_held, grows_more, grows_none}
 use Rattle.amqp_fields.proofs.Strings.{IsKey, is_key, long_size}
@@ -41,7 +41,7 @@ pub value_listed : (depth_left end : ℕ) (label mark : Node) (i : List ℕ) (t 
 unfolding listed_value listed_tagged
 value_listed depth_left end label mark [] t old new count step some is e h = tt
 value_listed depth_left end label mark (byte ∷ bytes) t old new count step some is e h =
-    rw is (more_used (listed_behind (listed_nested depth_left) end (of_kind label (tag_byte t)) t bytes) 1 step.used step.count old new count (rw e at h))
+    rw is (more_used (listed_behind (listed_nested depth_left) end (of_kind label (tag_byte t)) t bytes) 1 _ _ _ _ _ (rw e at h))
 
 -- ---- what fills an array or a table
 
@@ -52,7 +52,7 @@ closed : (groups : Result (List (List Node)) Fault) (used count begun : ℕ) (no
     → Lists (took_all used (read_map (holding node) groups)) a count d (record { used = used; count = filling.count })
 closed (Err bad) used count begun node filling a b c d one all last = tt
 closed (Ok groups) used count begun node filling a b c d one all last =
-    (refl, grows_held groups count begun filling.count filling.items node a b c d one all.0 all.1 last)
+    (refl, grows_held _ _ _ _ _ _ _ _ _ _ one all.0 all.1 last)
 
 -- a node with a span, what fills it, and then how many that is, are listed
 pub items_listed : (item : ℕ → Judge (List Node)) (end : ℕ) (label node : Node)
@@ -67,8 +67,7 @@ items_listed item end label node i content rest used inner count begun filling a
     let at : inner ≡ end_before end (drop used i) = place ∙ ap (λ (xs : List ℕ). end - length xs) behind in
     let front : end - (length i - (4 + length content)) ≡ inner = omega (arith, long_size i content used is, length-drop used i) in
     let it : node ≡ spanned label inner content = one_is ∙ ap (λ e. spanned label e content) front in
-    listed_next (judge_long_string i) _ a d count (record { used = used; count = filling.count }) content used is
-    (rw (← at, ← it) (closed (filled (item inner) 0 content) used count begun node filling a b c d one all last))
+    listed_next _ _ _ _ _ _ _ _ is (rw (← at, ← it) (closed (filled (item inner) 0 content) _ _ _ _ filling _ _ _ _ one all last))
 
 -- ---- things that fill some bytes, one after another
 
@@ -97,7 +96,7 @@ next_listed item (byte ∷ bytes) next now mid new k more total step some one up
         → ListsAll (read_map (λ gs. group ∷ gs) r) now k new (record { items = 1 + more; count = total })
     by_others group grows (Err bad) h = tt
     by_others group grows (Ok groups) h =
-        (omega arith, grows_more (listing now k) (listing mid step.count) (listing new total) group (joined groups) grows h.1)
+        (omega arith, grows_more _ _ _ _ _ grows h.1)
 
     by_item : (j : Judged (List Node)) → Lists j now k mid step
         → ListsAll (next_item j (λ n. filled item (n - 1) bytes)) now k new (record { items = 1 + more; count = total })
@@ -138,7 +137,7 @@ pub done : {item : Judge (List Node)} {content rest : List ℕ} {old now : List 
     → length rest ≡ 0 → ListsAll (filled item 0 content) old count now (record { items = items; count = k })
 unfolding filled
 done {item = item} {rest = rest} {now = now} {k = k} h none =
-    ends h (rw (nil_from_length rest none) (refl, grows_none (listing now k)))
+    ends h (rw (nil_from_length rest none) (refl, grows_none _))
 
 -- where the next thing is not read, nothing is promised
 pub stops : {item : Judge (List Node)} {content rest : List ℕ} {old now : List Node} {count k items : ℕ} → GoesOn item content old count rest now k items
@@ -209,7 +208,7 @@ entry_goes depth_left end mark t (n ∷ bytes) behind old new count step some wi
         let one = each key m refl in
         let size : 2 + n + step.used ≡ m + (1 + step.used) = omega (arith, one.used_is, ap length one.key_is, length-take-le n bytes few) in
         rw (one.rest_is, one.key_is, size)
-        (more_used (listed_value depth_left end label (drop n bytes)) m (1 + step.used) step.count old new count value)
+        (more_used (listed_value depth_left end label (drop n bytes)) m _ _ _ _ _ value)
     by_key j each = tt
 
 -- an entry without a known tag is not read

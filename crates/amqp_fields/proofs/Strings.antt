@@ -2,7 +2,7 @@
 use Rattle.std.proofs.Common.{nat_lt, length-drop, length-take-le, ◌≡◌, ℕ, ◌+◌, ◌-◌, ◌≤◌, ◌<◌, Bool, true, false, cond, List, [], ◌∷◌, length, get_or, take}
 use Rattle.std.proofs.Common.{drop, refl, sym, ap, ◌∙◌, one-add, arith}
 use Rattle.std.specs.Str.{is_utf8}
-use Rattle.amqp_fields.proofs.Names.{nat_tests, guard_took, test_took, value_took, count_took, Judge, Judged, took, past, fault, not_utf8, ◌>>=◌}
+use Rattle.amqp_fields.proofs.Names.{nat_tests, guard_took, test_took, value_took, count_took, Judge, Judged, took, past, fault, ◌>>=◌}
 use Rattle.amqp_fields.proofs.Names.{judge_short_string, judge_long_string, IsRead, key_in, after_key, Node, Step, spanned, Grows, listing, listed_span}
 use Rattle.amqp_fields.proofs.Names.{end_before, Lists}
 use Rattle.amqp_fields.proofs.Spans.{long_part}
@@ -16,11 +16,11 @@ pub record IsKey (i key : List ℕ) (used : ℕ) : Type 0 where
 key_took : (n : ℕ) (bytes key : List ℕ) (used : ℕ) → judge_short_string (n ∷ bytes) ≡ took key used → IsKey (n ∷ bytes) key used
 unfolding judge_short_string
 key_took n bytes key used h =
-    let within = guard_took (nat_lt (length bytes) n) _ key used h in
+    let within = guard_took (nat_lt (length bytes) n) _ _ _ h in
     let few : n ≤ length bytes = let e = within.0 in grind (arith, nat_tests) in
-    let text = test_took (is_utf8 (take n bytes)) _ not_utf8 key used within.1 in
-    let is = value_took (take n bytes) key (1 + n) used text.1 in
-    let count = count_took (take n bytes) key (1 + n) used text.1 in
+    let text = test_took (is_utf8 (take n bytes)) _ _ _ _ within.1 in
+    let is = value_took _ _ _ _ text.1 in
+    let count = count_took _ _ _ _ text.1 in
     record {
       key_is = sym is;
       used_is = sym count ∙ ap (λ k. 1 + k) (sym (length-take-le n bytes few) ∙ ap length is);
@@ -54,26 +54,25 @@ too_short (n ∷ bytes) some far read = guarded (nat_lt (length bytes) n) _ (gri
 -- ---- what is listed
 
 -- a short string is listed by its span
-pub short_listed : (end : ℕ) (label node : Node) (i text rest : List ℕ) (at count more : ℕ) (old new : List Node)
-    → text ≡ key_in i → rest ≡ after_key i → at ≡ end - length rest → node ≡ spanned label at text
+pub short_listed : (end at count more : ℕ) (label node : Node) (i : List ℕ) (old new : List Node) → 1 ≤ length i → get_or i 0 0 ≤ length (drop 1 i)
+    → at ≡ end - length (drop (get_or i 0 0) (drop 1 i)) → node ≡ spanned label at (take (get_or i 0 0) (drop 1 i))
     → Grows (listing old count) (listing new more) (node ∷ [])
-    → Lists (listed_span judge_short_string end label i) old count new (record { used = 1 + length text; count = more })
+    → Lists (listed_span judge_short_string end label i) old count new (record { used = 1 + get_or i 0 0; count = more })
 unfolding listed_span
-short_listed end label node i text rest at count more old new is after place one h = by_key (judge_short_string i) (is_key i)
+short_listed end at count more label node [] old new some few place one h = absurd (omega arith)
+short_listed end at count more label node (n ∷ bytes) old new some few place one h = by_key (judge_short_string (n ∷ bytes)) (is_key (n ∷ bytes))
   where
-    by_key : (j : Judged (List ℕ)) → ((key : List ℕ) (n : ℕ) → j ≡ took key n → IsKey i key n)
-        → Lists (j >>= λ x. took (spanned label (end_before end (drop x.1 i)) x.0 ∷ []) x.1) old count new (record { used = 1 + length text; count = more })
-    by_key (took key n) each =
-        let k = each key n refl in
-        let same : text ≡ key = is ∙ sym k.key_is in
-        let it : node ≡ spanned label (end_before end (drop n i)) key =
-        one ∙ rw (place, after, ← k.rest_is, same) refl in
-        (omega (arith, ap length same), rw it at h)
+    by_key : (j : Judged (List ℕ)) → ((key : List ℕ) (m : ℕ) → j ≡ took key m → IsKey (n ∷ bytes) key m)
+        → Lists (j >>= λ x. took (spanned label (end_before end (drop x.1 (n ∷ bytes))) x.0 ∷ []) x.1) old count new (record { used = 1 + n; count = more })
+    by_key (took key m) each =
+        let k = each key m refl in
+        let it : node ≡ spanned label (end_before end (drop m (n ∷ bytes))) key = one ∙ rw (place, ← k.rest_is, ← k.key_is) refl in
+        (omega (arith, k.used_is, ap length k.key_is, length-take-le n bytes few), rw it at h)
     by_key j each = tt
 
 -- a long string takes 4 bytes more than it has
 pub long_size : (i content : List ℕ) (used : ℕ) → judge_long_string i ≡ took content used → used ≡ 4 + length content
-long_size i content used h = let part = long_part i content used h in part.used_is
+long_size i content used h = let part = long_part i _ _ h in part.used_is
 
 -- a long string is listed by its span
 pub long_listed : (end : ℕ) (label node : Node) (i content : List ℕ) (used count more : ℕ) (old new : List Node)

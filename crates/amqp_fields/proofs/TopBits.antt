@@ -3,7 +3,7 @@ use Rattle.std.proofs.Common.{◌≡◌, ℕ, zero, suc, ◌+◌, ◌-◌, ◌*�
 use Rattle.std.proofs.Common.{sym, ap, subst, ◌∙◌, arith}
 use Rattle.std.proofs.lemmas.Nat.Bits.{bit_at_above, bit_at_cat_high, bit_at_cat_low}
 use Rattle.amqp_fields.proofs.Names.{get_or-map, Form, form_of, property_of, Judged, took, past, fault, ◌>>=◌, flag_at, Property, properties, later_properties}
-use Rattle.amqp_fields.proofs.Names.{Node, Step, listed_form, listed_option, listed_set, next_place, Counts, Lists, listing}
+use Rattle.amqp_fields.proofs.Names.{Node, Step, listed_form, listed_option, listed_set, next_place, Counts, Lists}
 use Rattle.amqp_fields.proofs.Counted.{shapes_few}
 use Rattle.amqp_fields.proofs.PayloadsFound.{fourteen}
 use Rattle.amqp_fields.proofs.Pushing.{grows_none}
@@ -133,4 +133,4 @@ pub none_listed : (mask : ℕ) (deep : Bool) (end : ℕ) (i : List ℕ) (old : L
     → mask < 4 → Counts (listed_set mask deep end 0 properties i) old count old count
 none_listed mask deep end i old count small =
     rw (none_set mask deep end 0 16 properties i all_fall (omega (arith, fourteen))
-    (λ b far. ap (λ n. eqb n 1) (bit_at_above mask 2 b small (omega (arith, fourteen))))) (grows_none (listing old count))
+    (λ b far. ap (λ n. eqb n 1) (bit_at_above mask 2 b small (omega (arith, fourteen))))) (grows_none _)

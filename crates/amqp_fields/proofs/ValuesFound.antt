@@ -56,26 +56,26 @@ IsBounded {A} judge = (bytes : List ℕ) (x : A) (n : ℕ) → judge bytes ≡ t
 -- what a mapped judgement took is made of what the judgement took
 pub map_took : {A B : Type 0} (judge : Judge A) (make : A → B) (bytes : List ℕ) (y : B) (n : ℕ)
     → judge_map make judge bytes ≡ took y n → (x : A) × (judge bytes ≡ took x n) × (make x ≡ y)
-map_took judge make bytes y n h =
-    let one = bind_took (judge bytes) _ y n h in
-    (one.0, one.2 ∙ ap (took one.0) (count_took _ y one.1 n one.3), value_took _ y one.1 n one.3)
+map_took judge make bytes _ _ h =
+    let one = bind_took (judge bytes) _ _ _ h in
+    (one.0, one.2 ∙ ap (took one.0) (count_took _ _ _ _ one.3), value_took _ _ _ _ one.3)
 
 -- what two judgements took, one after the other
 pub both_took : {A B C : Type 0} (first : Judge A) (second : Judge B) (join : A → B → C) (bytes : List ℕ) (z : C) (k : ℕ)
     → judge_both first second join bytes ≡ took z k → (x : A) × (n : ℕ) × (y : B) × (m : ℕ) × (first bytes ≡ took x n)
     × (second (drop n bytes) ≡ took y m) × (join x y ≡ z) × (n + m ≡ k)
-both_took first second join bytes z k h =
-    let one = bind_took (first bytes) _ z k h in
-    let two = bind_took (second (drop one.1 bytes)) _ z k one.3 in
-    (one.0, one.1, two.0, two.1, one.2, two.2, value_took _ z _ k two.3, count_took _ z _ k two.3)
+both_took first second join bytes _ _ h =
+    let one = bind_took (first bytes) _ _ _ h in
+    let two = bind_took (second (drop one.1 bytes)) _ _ _ one.3 in
+    (one.0, one.1, two.0, two.1, one.2, two.2, value_took _ _ _ _ two.3, count_took _ _ _ _ two.3)
 
 -- what is made of it takes no more
 pub map_bounded : {A B : Type 0} {judge : Judge A} (make : A → B) → IsBounded judge → IsBounded (judge_map make judge)
-map_bounded {judge = judge} make bounded bytes y n h = let one = map_took judge make bytes y n h in bounded bytes one.0 n one.1
+map_bounded {judge = judge} make bounded bytes y n h = let one = map_took judge make bytes _ _ h in bounded bytes one.0 n one.1
 
 -- a number takes no more bytes than there are
 pub number_bounded : (width : NumberWidth) → IsBounded (judge_number width)
-number_bounded width bytes x n h = (number_took width bytes x n h).1
+number_bounded width bytes x n h = (number_took width bytes _ _ h).1
 
 signed_bounded : (width : NumberWidth) → IsBounded (judge_signed width)
 signed_bounded width = map_bounded _ (number_bounded width)
@@ -87,18 +87,18 @@ boolean_bounded (byte ∷ bytes) x n h = let count : 1 ≡ n = cc in omega (arit
 decimal_bounded : IsBounded judge_decimal
 unfolding judge_decimal
 decimal_bounded bytes x n h =
-    let p = both_took (judge_number bytes1) (judge_number bytes4) _ bytes x n h in
+    let p = both_took (judge_number bytes1) (judge_number bytes4) _ bytes _ _ h in
     omega (arith, number_bounded bytes1 bytes p.0 p.1 p.4, number_bounded bytes4 (drop p.1 bytes) p.2 p.3 p.5, length-drop p.1 bytes, p.7)
 
 -- what is taken out of all bytes was read
 pub all_took : {A : Type 0} (used n : ℕ) (r : Result A Fault) (x : A) → took_all used r ≡ took x n → (r ≡ Ok x) × (used ≡ n)
-all_took used n (Ok y) x h = (ap Ok (value_took y x used n h), count_took y x used n h)
-all_took used n (Err bad) x h = absurd cc
+all_took _ _ (Ok y) _ h = (ap Ok (value_took _ _ _ _ h), count_took _ _ _ _ h)
+all_took _ _ (Err bad) _ h = absurd cc
 
 -- what is made of a result was read
 pub map_read : {A B : Type 0} (f : A → B) (r : Result A Fault) (y : B) → read_map f r ≡ Ok y → (x : A) × (r ≡ Ok x) × (f x ≡ y)
-map_read f (Ok x) y h = (x, refl, cc)
-map_read f (Err bad) y h = absurd cc
+map_read f (Ok x) _ h = (x, refl, cc)
+map_read f (Err bad) _ h = absurd cc
 
 -- all bytes are taken, and something is made of what fills them
 agree_all : {A B C : Type 0} {Q : A → B → Type 0} {R : A → C → ℕ → Type 0} {size : ℕ} (n : ℕ) (r : Result A Fault) (s : Result B Fault) (hold : B → C)
@@ -165,7 +165,7 @@ module _ {payload : List ℕ} {from to : ℕ} {bytes : List ℕ} (at : IsAt payl
   unfolding listed_items
   content_found judge listed Means More read make each was gives more =
       agree_same (judge_long_string bytes) _ _ (λ content n e.
-      let part = long_part bytes content n e in
+      let part = long_part bytes _ _ e in
       let inner = end_before to (drop n bytes) in
       let low = inner - length content in
       let inside = at_part bytes content 4 n at part in
@@ -239,7 +239,7 @@ module _ (depth_left : ℕ) (value : ValueIsFound depth_left) where
     unfolding judge_entry listed_entry
     entry_found =
         agree_same (judge_short_string bytes) _ _ (λ key n e.
-        let part = short_part bytes key n e in
+        let part = short_part bytes _ _ e in
         let rest = drop n bytes in
         let left = length-drop n bytes in
         let end = end_before to rest in
@@ -323,7 +323,7 @@ module _ {payload : List ℕ} {from to : ℕ} {bytes : List ℕ} (at : IsAt payl
   unfolding listed_span
   bytes_behind t kind says =
       agree_same (judge_long_string bytes) _ _ (λ x n e.
-      let part = long_part bytes x n e in
+      let part = long_part bytes _ _ e in
       agree_took (bytes_value kind x) _ n part.within (regroup (span_group at (of_tag t) x 4 n part (omega (arith, part.used_is))) (omega arith) (says x)))
 
   -- arrays and tables, where one more level may be nested

@@ -1,8 +1,7 @@
 -- What calls that walk over bytes return.
 use Rattle.std.specs.Prelude.{◌≡◌, ℕ, ◌+◌, ◌-◌, List, length, get_or}
-use Rattle.std.specs.Prelude.{Option, Some, None, Result, Ok, Err}
+use Rattle.std.specs.Prelude.{Result, Ok, Err}
 use Rattle.amqp_types.specs.Judging.{Judged, Fault, took}
-use Rattle.amqp_canonical.specs.Writes.{IsRead}
 use Rattle.amqp_fields.specs.declared.node.Node.{Node}
 use Rattle.amqp_fields.specs.declared.listing.Step.{Step}
 use Rattle.amqp_fields.specs.declared.listing.Filled.{Filled}
@@ -29,11 +28,6 @@ ListsAll (Err bad) old count new filled = Unit {0}
 abbrev pub Counts : Judged (List Node) → List Node → ℕ → List Node → ℕ → Type 0
 Counts (took added used) old count new result = Grows (listing old count) (listing new result) added
 Counts listed old count new result = Unit {0}
-
--- what a length covers at the front, and how many bytes both are
-abbrev pub FindsContent : {K : Type 0} → (K → List ℕ) → Option (ℕ × K) → Judged (List ℕ) → Type 0
-FindsContent view (Some found) judged = judged ≡ took (view found.1) found.0
-FindsContent view None judged = IsRead judged → ⊥
 
 -- what is known of the node of an entry before its tag: its key stands after a length of one byte
 abbrev pub key_label : ℕ → List ℕ → Node

@@ -235,6 +235,7 @@ pub(crate) fn list_fields(
 }
 
 /// The properties that the mask has: it goes from bit to bit, from the highest on. None has bit 1 or 0.
+#[tactic(auto, using(crate::proofs::TopBits::none_listed, crate::proofs::TopBits::shape_there))]
 fn list_set(nodes: &mut [Node], count: u32, deep: bool, end: u32, mask: u16, i: &[u8]) -> u32
     requires within { length i.now ≤ end }
     ensures { Counts (listed_set mask deep end 0 properties i.now)

@@ -1,5 +1,5 @@
 //! The nodes of values, arrays and tables, and of all that lies inside them.
-#![tactic(auto, using(crate::proofs::Stepping::listed_next), unfolding(crate::specs::Listed::listed_behind))]
+#![tactic(auto, using(crate::proofs::Strings::long_size, crate::proofs::Strings::not_listed, crate::proofs::Stepping::done, std::proofs::lemmas::Bool::Decides::nat_tests), unfolding(crate::specs::Listed::listed_items))]
 
 ghost use Rattle.std.specs.Prelude.{◌≡◌, ◌≤◌, ◌<◌, ◌+◌, None, Some, IfSome, drop, get_or, length};
 ghost use Rattle.amqp_types.specs.Tags.{tag_at, tag_byte};
@@ -11,16 +11,12 @@ ghost use Rattle.amqp_fields.specs.Listed.{listed_nested, listed_table, listed_v
 
 use crate::listing::{Filled, Step, close, push};
 use crate::node::{Node, before, covered};
-use crate::numbers::{
-    list_boolean, list_decimal, list_long, list_long_long, list_long_string, list_octet,
-    list_short, list_signed_long, list_signed_long_long, list_signed_octet, list_signed_short,
-    split_long,
-};
+use crate::numbers::list_leaf;
 use amqp_types::{
     FieldTag, TAG_BOOLEAN, TAG_BYTE_ARRAY, TAG_DECIMAL_VALUE, TAG_DOUBLE, TAG_FIELD_ARRAY,
     TAG_FIELD_TABLE, TAG_FLOAT, TAG_LONG_INT, TAG_LONG_LONG_INT, TAG_LONG_LONG_INT_READ,
     TAG_LONG_STRING, TAG_LONG_UINT, TAG_SHORT_INT, TAG_SHORT_INT_READ, TAG_SHORT_SHORT_INT,
-    TAG_SHORT_SHORT_UINT, TAG_SHORT_UINT, TAG_TIMESTAMP, TAG_VOID,
+    TAG_SHORT_SHORT_UINT, TAG_SHORT_UINT, TAG_TIMESTAMP, TAG_VOID, parse_long_bytes,
 };
 
 /// The kind that a tag byte stands for. `FieldTag::from_byte` returns the same, and is not inlined: here one jump goes from the
@@ -127,6 +123,7 @@ fn split_entry(end: u32, i: &[u8]) -> Option<Tagged<'_>>
 
 /// The value after a tag.
 #[inline(always)]
+#[tactic(auto, using(crate::proofs::Stepping::nested_none, crate::proofs::Stepping::nested_more), unfolding(crate::specs::Listed::listed_behind))]
 #[cycle(list)]
 fn list_after_tag(
     nodes: &mut [Node],
@@ -142,30 +139,11 @@ fn list_after_tag(
         nodes.old count nodes.new result }
     ensures used { result.used ≤ length i.now }
 {
-    // Kinds that are encoded alike have an arm each, in which the kind is a constant.
     match tag {
-        FieldTag::Boolean => list_boolean(nodes, count, label, i),
-        FieldTag::ShortShortInt => list_signed_octet(nodes, count, label, i),
-        FieldTag::ShortShortUInt => list_octet(nodes, count, label, i),
-        FieldTag::ShortInt => list_signed_short(nodes, count, label, i),
-        FieldTag::ShortUInt => list_short(nodes, count, label, i),
-        FieldTag::LongInt => list_signed_long(nodes, count, label, i),
-        FieldTag::LongUInt => list_long(nodes, count, label, i),
-        FieldTag::Float => list_long(nodes, count, label, i),
-        FieldTag::LongLongInt => list_signed_long_long(nodes, count, label, i),
-        FieldTag::Double => list_long_long(nodes, count, label, i),
-        FieldTag::Timestamp => list_long_long(nodes, count, label, i),
-        FieldTag::DecimalValue => list_decimal(nodes, count, label, i),
-        FieldTag::LongString => list_long_string(nodes, count, end, label, i),
-        FieldTag::ByteArray => list_long_string(nodes, count, end, label, i),
-        FieldTag::FieldArray if depth_left == 0 => Step { used: 0, count },
+        FieldTag::FieldArray | FieldTag::FieldTable if depth_left == 0 => Step { used: 0, count },
         FieldTag::FieldArray => list_array(nodes, count, end, label, i, depth_left - 1),
-        FieldTag::FieldTable if depth_left == 0 => Step { used: 0, count },
         FieldTag::FieldTable => list_table(nodes, count, end, label, i, depth_left - 1),
-        FieldTag::Void => Step {
-            used: 0,
-            count: push(nodes, count, label),
-        },
+        _ => list_leaf(nodes, count, end, label, tag, i),
     }
 }
 
@@ -185,8 +163,8 @@ fn list_array(
         nodes.old count nodes.new result }
     ensures used { result.used ≤ length i.now }
 {
-    match split_long(i) {
-        Some((used, content)) => {
+    match parse_long_bytes(i) {
+        Ok((used, content)) => {
             let inner = before(end, &i[used..]);
             let node = covered(label, end, i, content);
             let begun = push(nodes, count, node);
@@ -197,7 +175,7 @@ fn list_array(
                 count: filled.count,
             }
         }
-        None => Step { used: 0, count },
+        Err(_) => Step { used: 0, count },
     }
 }
 
@@ -217,8 +195,8 @@ pub(crate) fn list_table(
         nodes.old count nodes.new result }
     ensures used { result.used ≤ length i.now }
 {
-    match split_long(i) {
-        Some((used, content)) => {
+    match parse_long_bytes(i) {
+        Ok((used, content)) => {
             let inner = before(end, &i[used..]);
             let node = covered(label, end, i, content);
             let begun = push(nodes, count, node);
@@ -229,7 +207,7 @@ pub(crate) fn list_table(
                 count: filled.count,
             }
         }
-        None => Step { used: 0, count },
+        Err(_) => Step { used: 0, count },
     }
 }
 

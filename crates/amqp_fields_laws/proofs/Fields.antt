@@ -1,22 +1,24 @@
 -- Fields that were read are made, those that are reserved as their constants, and are read again as the same nodes.
-use Rattle.std.proofs.Common.{◌≡◌, ℕ, suc, ◌+◌, ◌-◌, ◌<◌, ◌≤◌, ◌==◌, nat_lt, nat_le, Bool, true, false, not, List, [], ◌∷◌, ◌++◌, length, map, take}
-use Rattle.std.proofs.Common.{drop, Ok, inl, refl, sym, ap, subst, ◌∙◌, arith}
+use Rattle.amqp_fields_laws.proofs
+use Rattle.amqp_types.specs as types
+use Rattle.std.proofs.Common.{◌≡◌, ℕ, suc, ◌+◌, ◌-◌, ◌<◌, ◌≤◌, ◌==◌, nat_lt, nat_le, Bool, true, false, not, List, [], ◌∷◌, ◌++◌, length, map, take, drop, Ok}
+use Rattle.std.proofs.Common.{inl, refl, sym, ap, subst, ◌∙◌, arith}
 use Rattle.std.proofs.lemmas.Bool.Decides.{nat_tests}
 use Rattle.std.proofs.lemmas.List.{drop_at, length-append, length-take-le, take_at}
-use Rattle.amqp_types.specs.Levels.{plain, strict}
-use Rattle.amqp_types.specs.Judging.{Judge, Judged, IsBytes, took, ◌>>=◌}
-use Rattle.amqp_types.specs.FormLaws.{IsLawful}
-use Rattle.amqp_types.specs.Numbers.{judge_number}
-use Rattle.amqp_types.specs.Flags.{bit_of, flags_bytes, judge_flags, SpellsFlags}
-use Rattle.amqp_types.specs.Strings.{judge_long_string, judge_short_string}
-use Rattle.amqp_types.specs.ValueJudging.{filled, judge_entry, judge_field_table, judge_value}
-use Rattle.amqp_types.specs.Constants.{inner_depth}
-use Rattle.amqp_types.specs.Slots.{Item, number_item, flag_item, text_item, bytes_item, entries_item, Form, number_form, flags_form, short_string_form}
-use Rattle.amqp_types.specs.Slots.{long_string_form, table_form, Slot, kept_slot, reserved_slot}
-use Rattle.amqp_types.specs.SlotBytes.{form_bytes}
-use Rattle.amqp_types.specs.SlotJudging.{judge_dropped, judge_form, judge_slot, judge_slots}
-use Rattle.amqp_types.specs.SlotLaws.{are_least, is_least}
-use Rattle.amqp_types.specs.SlotSpelling.{SpellsForm}
+use types.Levels.{plain, strict}
+use types.Judging.{Judge, Judged, IsBytes, took, ◌>>=◌}
+use types.FormLaws.{IsLawful}
+use types.Numbers.{judge_number}
+use types.Flags.{bit_of, flags_bytes, judge_flags, SpellsFlags}
+use types.Strings.{judge_long_string, judge_short_string}
+use types.ValueJudging.{filled, judge_entry, judge_field_table, judge_value}
+use types.Constants.{inner_depth}
+use types.Slots.{Item, number_item, flag_item, text_item, bytes_item, entries_item, Form, number_form, flags_form, short_string_form, long_string_form}
+use types.Slots.{table_form, Slot, kept_slot, reserved_slot}
+use types.SlotBytes.{form_bytes}
+use types.SlotJudging.{judge_dropped, judge_form, judge_slot, judge_slots}
+use types.SlotLaws.{are_least, is_least}
+use types.SlotSpelling.{SpellsForm}
 use Rattle.amqp_types.proofs.FormLaws.{flags_lawful}
 use Rattle.amqp_types.proofs.Took.{bind_took, count_took}
 use Rattle.amqp_laws.proofs.SlotForms.{forms_lawful}
@@ -25,17 +27,15 @@ use Rattle.amqp_fields.specs.declared.node.Node.{Node}
 use Rattle.amqp_fields.specs.Nodes.{numbered}
 use Rattle.amqp_fields.specs.Listed.{kept_count, listed_bits, listed_entry, listed_form, listed_slot, listed_slots, listed_value, next_place, placed}
 use Rattle.amqp_fields_write.specs.Made.{made_given, made_items, made_long, own_index}
-use Rattle.amqp_fields_write.specs.MadeFields.{flags_in, is_next, flags_made, group_size, is_field, is_flag, made_field, made_form, made_kept}
-use Rattle.amqp_fields_write.specs.MadeFields.{made_plain, made_slot, made_slots, node_count}
+use Rattle.amqp_fields_write.specs.MadeFields.{flags_in, is_next, flags_made, group_size, is_field, is_flag, made_field, made_form, made_kept, made_plain}
+use Rattle.amqp_fields_write.specs.MadeFields.{made_slot, made_slots, node_count}
 use Rattle.amqp_fields.proofs.FieldsFound.{flags_length, spare}
 use Rattle.amqp_fields_write.proofs.MeantFieldsMade.{IsOne}
 use Rattle.amqp_fields.proofs.Spans.{Stands, stands_drop}
 use Rattle.amqp_fields.proofs.ValuesFound.{IsFresh, Keeps, map_took}
-use Rattle.amqp_fields_laws.proofs.Values.{items_round}
-use Rattle.amqp_fields_laws.proofs.Twins.{long_round, number_round, same_number, short_round, span_made}
-use Rattle.amqp_fields_laws.proofs.Twins.{AreSame, IsMade, IsRound, alike_itself, as_made, both_made, made_into, both_same, none_made, none_same, one_same}
-use Rattle.amqp_fields_laws.proofs.Twins.{stands_fit}
-use Rattle.amqp_fields_laws.proofs.Values.{entry_round, table_content, value_round}
+use proofs.Values.{items_round, entry_round, table_content, value_round}
+use proofs.Twins.{long_round, number_round, same_number, short_round, span_made, AreSame, IsMade, IsRound, alike_itself, as_made, both_made, made_into}
+use proofs.Twins.{both_same, none_made, none_same, one_same, stands_fit}
 
 -- a field that is not read yet is fresh
 pub fresh_field : (place : ℕ) (form : Form) → IsFresh (placed place form)

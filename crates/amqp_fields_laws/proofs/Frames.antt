@@ -1,10 +1,14 @@
 -- A head and its nodes that were read are made to a frame, whose bytes are found by the header scan.
+use Rattle.amqp_fields_laws.proofs
+use Rattle.amqp_types.specs as types
+use Rattle.amqp_fields_write.specs as writing
+use Rattle.amqp_fields.specs as reading
 use Rattle.std.proofs.Common.{◌≡◌, ◌≢◌, ℕ, ◌+◌, ◌≤◌, ◌<◌, ◌^◌, true, List, [], ◌∷◌, ◌++◌, length, take, drop, Some, Ok, Err, refl, sym, ap, subst, ◌∙◌}
 use Rattle.std.proofs.Common.{append_assoc, arith, ◌==◌, ◌&&◌, nat_lt, nat_le, Bool, false, not, cond, None, if◌then◌else◌}
 use Rattle.std.proofs.lemmas.List.{take_at}
-use Rattle.amqp_types.specs.Judging.{took, IsBytes}
-use Rattle.amqp_types.specs.Levels.{plain}
-use Rattle.amqp_types.specs.Constants.{body_byte, protocol_byte, protocol_mark}
+use types.Judging.{took, IsBytes}
+use types.Levels.{plain}
+use types.Constants.{body_byte, protocol_byte, protocol_mark}
 use Rattle.amqp_wire.specs.declared.frame_type.AMQPFrameType.{AMQPFrameType}
 use Rattle.amqp_wire.specs.declared.frame_type.AMQPFrameType.TheVariants as kinds
 use Rattle.amqp_wire.specs.Frames.{Frame, Proto, Meth, Head, Body, Beat, BadBeat, Raw, length_around, raw_as, beat_on}
@@ -15,30 +19,30 @@ use Rattle.amqp_wire.specs.Verdicts.{judge_scanned, judge_frame, decode_raw, all
 use Rattle.amqp_wire.proofs.Encoded.{judge_decoded-is, read_as}
 use Rattle.amqp_wire.proofs.Sizes.{framed_length}
 use Rattle.amqp_wire.proofs.Spelled.{scan-beat, scan-body, scan-header, scan-method}
-use Rattle.amqp_fields.specs.declared.head.Head as given
-use Rattle.amqp_fields.specs.declared.node.Node.{Node}
-use Rattle.amqp_fields_write.specs.declared.refusals.Refusal.{Refusal}
-use Rattle.amqp_fields_write.specs.Made.{Made, after, misfit_head, refuse_head}
-use Rattle.amqp_fields_write.specs.Meant.{TellsTyped}
-use Rattle.amqp_fields_write.proofs.HeadsTold.{scan_version}
+use reading.declared.head.Head as given
+use reading.declared.node.Node.{Node}
+use writing.declared.refusals.Refusal.{Refusal}
+use writing.Made.{Made, after, misfit_head, refuse_head}
+use writing.Meant.{TellsTyped}
+use proofs.HeadsTold.{scan_version}
 use Rattle.amqp_fields_write.proofs.MeantValuesMade.{Fits}
 use Rattle.std.proofs.lemmas.Bool.Decides.{nat_tests}
-use Rattle.amqp_types.specs.Numbers.{bytes2, number_bytes}
-use Rattle.amqp_types.specs.Methods.{Method, judge_payload}
-use Rattle.amqp_types.specs.ContentHeaders.{ContentHeader, judge_content_header}
+use types.Numbers.{bytes2, number_bytes}
+use types.Methods.{Method, judge_payload}
+use types.ContentHeaders.{ContentHeader, judge_content_header}
 use Rattle.amqp_wire.specs.Outlines.{outline_of}
-use Rattle.amqp_fields_write.specs.declared.refusals.WriteRefusal.TheVariants as whys
-use Rattle.amqp_fields.specs.Heads.{head_of}
-use Rattle.amqp_fields.specs.Listed.{listed_payload, nodes_of, payload_nodes, version_slots}
-use Rattle.amqp_fields_write.specs.MadeFields.{made_properties, made_slots}
-use Rattle.amqp_fields_write.specs.MadeFrames.{has_no_ids, header_front, made_around, made_beat, made_body, made_bytes, made_payload, made_typed, nodes_in}
-use Rattle.amqp_fields.specs.Meaning.{IsSpan}
+use writing.declared.refusals.WriteRefusal.TheVariants as whys
+use reading.Heads.{head_of}
+use reading.Listed.{listed_payload, nodes_of, payload_nodes, version_slots}
+use writing.MadeFields.{made_properties, made_slots}
+use writing.MadeFrames.{are_beyond, given_length, has_no_ids, header_front, made_around, made_beat, made_body, made_bytes, made_payload, made_typed, nodes_in}
+use reading.Meaning.{IsSpan}
 use Rattle.amqp_fields.proofs.Answering.{filled_took, span_stands}
 use Rattle.amqp_fields_write.proofs.FramesMade.{header_parts, method_parts, version_parts}
-use Rattle.amqp_fields_write.proofs.GivenLengths.{given_within, typed_around}
+use Rattle.amqp_fields_write.proofs.MeantFramesMade.{given_within}
 use Rattle.amqp_fields.proofs.Spans.{Stands}
-use Rattle.amqp_fields_laws.proofs.Twins.{AreSame, none_same}
-use Rattle.amqp_fields_laws.proofs.Payloads.{header_round, method_round, version_round}
+use proofs.Twins.{AreSame, none_same}
+use proofs.Payloads.{header_round, method_round, version_round}
 
 -- a frame is as long as its payload and what stands around it
 pub around_fits : (kind : AMQPFrameType) (p n : ℕ) → 8 ≤ n → (kind ≢ kinds.ProtocolHeader → p + 8 ≤ n) → length_around kind p ≤ n
@@ -47,6 +51,16 @@ around_fits kinds.Method p n least beside = beside (λ e. absurd cc)
 around_fits kinds.Header p n least beside = beside (λ e. absurd cc)
 around_fits kinds.Body p n least beside = beside (λ e. absurd cc)
 around_fits kinds.Heartbeat p n least beside = beside (λ e. absurd cc)
+
+-- where contents that nodes have as bytes are no longer than the limit, a frame that is no protocol header is made around its payload
+typed_around : (pool : List ℕ) (nodes : List Node) (m : ℕ) (head : given.Head) → (head.frame_type ≡ protocol_byte → ⊥)
+    → given_length (take head.nodes (drop head.first nodes)) ≤ m
+    → made_typed pool nodes m head ≡ made_around m head (made_payload pool nodes head)
+unfolding made_typed
+typed_around pool nodes m head differs few =
+    let other : (head.frame_type == protocol_byte) ≡ false = grind (arith, nat_tests) in
+    let within : are_beyond m nodes head ≡ false = grind (arith, nat_tests) in
+    rw (other, within)
 
 -- the length of what is encoded is written in four bytes
 pub spelled_few : (frame : Frame) (bytes : List ℕ) → Spells plain bytes frame → length bytes < 2 ^ 32 + 8

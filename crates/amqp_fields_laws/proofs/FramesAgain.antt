@@ -1,6 +1,9 @@
 -- Heads and nodes that were read make frames, one after another, which are read again as the same.
-use Rattle.std.proofs.Common.{◌≡◌, ℕ, suc, ◌+◌, ◌-◌, ◌≤◌, ◌<◌, ◌^◌, nat_le, Bool, true, not, List, [], ◌∷◌, ◌++◌, length, take, drop, Some, None, Result}
-use Rattle.std.proofs.Common.{Ok, refl, sym, ap, ap₂, subst, ◌∙◌, append_assoc, arith, if◌then◌else◌}
+use Rattle.amqp_fields_laws.proofs
+use Rattle.amqp_fields_write.specs as writing
+use Rattle.amqp_fields.specs as reading
+use Rattle.std.proofs.Common.{◌≡◌, ℕ, suc, ◌+◌, ◌-◌, ◌≤◌, ◌<◌, ◌^◌, nat_le, Bool, true, not, List, [], ◌∷◌, ◌++◌, length, take, drop, Some, None, Result, Ok}
+use Rattle.std.proofs.Common.{refl, sym, ap, ap₂, subst, ◌∙◌, append_assoc, arith, if◌then◌else◌}
 use Rattle.std.proofs.lemmas.Bool.Decides.{nat_tests}
 use Rattle.std.proofs.lemmas.List.{drop-drop, drop_at, length-append, length-take-le, take_all, take_at}
 use Rattle.amqp_types.specs.Judging.{IsBytes, took}
@@ -9,7 +12,6 @@ use Rattle.amqp_types.proofs.Bytes.{IsBytes-drop}
 use Rattle.amqp_wire.specs.declared.frame_type.AMQPFrameType.{AMQPFrameType}
 use Rattle.amqp_wire.specs.declared.frame_type.AMQPFrameType.TheVariants as kinds
 use Rattle.amqp_wire.specs.Frames.{Frame, length_around, raw_as}
-use Rattle.amqp_wire.specs.Fronts.{front}
 use Rattle.amqp_wire.specs.Looks.{payload_place}
 use Rattle.amqp_wire.specs.HeaderScan.{scan}
 use Rattle.amqp_wire.specs.Outlines.{outline_of}
@@ -17,27 +19,25 @@ use Rattle.amqp_wire.specs.Spelling.{IsWithin, Spells, byte_of, bytes_as}
 use Rattle.amqp_wire.proofs.Encoded.{scan-beside, verdict-spells}
 use Rattle.amqp_wire.proofs.HeaderScan.{scan-exact, scan-in_bounds}
 use Rattle.amqp_wire.proofs.Spelled.{verdict-spelled}
-use Rattle.amqp_fields.specs.declared.head.Head as given
-use Rattle.amqp_fields.specs.declared.node.Node.{Node}
-use Rattle.amqp_fields_write.specs.declared.refusals.WriteError.{WriteError}
-use Rattle.amqp_fields.specs.Heads.{SayFrames, SaysFrame, head_of, nodes_at}
-use Rattle.amqp_fields.specs.Listed.{payload_nodes}
-use Rattle.amqp_fields_write.specs.Made.{after, misfit_head}
-use Rattle.amqp_fields_write.specs.MadeFrames.{at_head, made_frame, made_frames, made_typed, nodes_in}
-use Rattle.amqp_fields.specs.Meaning.{IsSpan}
-use Rattle.amqp_fields_write.specs.Meant.{TellsFrame}
+use reading.declared.head.Head as given
+use reading.declared.node.Node.{Node}
+use writing.declared.refusals.WriteError.{WriteError}
+use reading.Heads.{SayFrames, SaysFrame, head_of, nodes_at}
+use reading.Listed.{payload_nodes}
+use writing.Made.{after, misfit_head}
+use writing.MadeFrames.{at_head, made_frame, made_frames, made_typed, nodes_in}
+use reading.Meaning.{IsSpan}
+use writing.Meant.{TellsFrame}
 use Rattle.amqp_fields.proofs.FramesGiven.{verdict_whole}
-use Rattle.amqp_fields_write.proofs.HeadsTold.{frame_told}
-use Rattle.amqp_fields_write.proofs.SameNodes.{same_length}
+use proofs.HeadsTold.{frame_told}
+use proofs.SameNodes.{same_length}
 use Rattle.amqp_fields_write.proofs.MeantFramesMade.{frame_fits}
 use Rattle.amqp_fields_write.proofs.Ordered.{plain_order}
 use Rattle.amqp_fields.proofs.Spans.{Stands}
 use Rattle.amqp_fields.proofs.Answering.{span_stands}
 use Rattle.amqp_fields_laws.specs.RoundTrips.{IsReadAgain, IsSameHead, SameHeads, ReadAgainHasSameNodes, ReadIsAccepted}
-use Rattle.amqp_fields_laws.proofs.Frames.{HeadOf, frame_round}
-use Rattle.amqp_fields_laws.proofs.Twins.{AreSame, both_same, none_same}
-use Rattle.amqp_fields_laws.proofs.Frames.{around_fits, body_kind, made_as, made_frame_is, scan_made, spelled_few}
-use Rattle.amqp_fields_laws.proofs.Frames.{version_size, version_told, whole_is}
+use proofs.Frames.{HeadOf, frame_round, around_fits, body_kind, made_as, made_frame_is, scan_made, spelled_few, version_size, version_told, whole_is}
+use proofs.Twins.{AreSame, both_same, none_same}
 
 -- ---- one frame
 

@@ -1,4 +1,6 @@
 -- The lemmas of amqp_fields_laws.
+mod SameNodes
+mod HeadsTold
 mod Twins
 mod Values
 mod Fields

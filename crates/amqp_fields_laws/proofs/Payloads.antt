@@ -1,19 +1,21 @@
 -- The payloads of frames that were read, and their properties, are made, and are read again as the same nodes.
+use Rattle.amqp_fields_laws.proofs
+use Rattle.amqp_types.specs as types
 use Rattle.std.proofs.Common.{◌≡◌, ℕ, ◌+◌, ◌<◌, ◌≤◌, Bool, true, false, not, List, [], ◌∷◌, ◌++◌, length, map, drop, None, Ok, refl, sym, ap, ap₂, subst, ◌∙◌}
 use Rattle.std.proofs.Common.{append_assoc, arith, ◌^◌, Some, append-nil}
 use mathlib.Core.Path.{fun_ext}
 use Rattle.std.specs.Prelude.{is_some, Option}
 use Rattle.std.proofs.lemmas.Bool.Decides.{nat_tests}
 use Rattle.std.proofs.lemmas.List.{drop_at, length-append, length-drop}
-use Rattle.amqp_types.specs.Judging.{Judge, Judged, IsBytes, took, unknown_class, unknown_method}
-use Rattle.amqp_types.specs.Sequences.{judge_both}
-use Rattle.amqp_types.specs.Numbers.{bytes2, judge_number, number_bytes}
-use Rattle.amqp_types.specs.Flags.{flag_at}
-use Rattle.amqp_types.specs.Slots.{Item, number_item, Slot}
-use Rattle.amqp_types.specs.SlotJudging.{judge_form, judge_slots}
-use Rattle.amqp_types.specs.Properties.{Property, properties}
-use Rattle.amqp_types.specs.PropertyBytes.{mask_of}
-use Rattle.amqp_types.specs.PropertyJudging.{first_item, judge_optional, judge_properties, judge_set}
+use types.Judging.{Judge, Judged, IsBytes, took, unknown_class, unknown_method}
+use types.Sequences.{judge_both}
+use types.Numbers.{bytes2, judge_number, number_bytes}
+use types.Flags.{flag_at}
+use types.Slots.{Item, number_item, Slot}
+use types.SlotJudging.{judge_form, judge_slots}
+use types.Properties.{Property, properties}
+use types.PropertyBytes.{mask_of}
+use types.PropertyJudging.{first_item, judge_optional, judge_properties, judge_set}
 use Rattle.amqp_types.proofs.Numbers.{number_exact}
 use Rattle.amqp_types.proofs.Took.{bind_took, count_took, value_took}
 use Rattle.amqp_laws.proofs.Masks.{IsMaskOf, flags_mask, flags_mask_is, mask_of-flags, set_flags, set_flags-length}
@@ -26,11 +28,11 @@ use Rattle.amqp_fields_write.proofs.MeantFieldsMade.{IsOne}
 use Rattle.amqp_fields_write.proofs.MeantFramesMade.{AreOne, all_one}
 use Rattle.amqp_fields.proofs.PayloadsFound.{fourteen, few_spare, front_used, known_took}
 use Rattle.amqp_fields.proofs.Spans.{Stands, byte_below, number_took, stands_drop}
-use Rattle.amqp_fields_laws.proofs.Fields.{MakesField, form_round, AreSlots, slots_round}
-use Rattle.amqp_fields_laws.proofs.Twins.{IsMade, both_made, none_made, then_took, AreSame}
-use Rattle.amqp_types.specs.Rows.{rows_of, slots_at}
-use Rattle.amqp_types.specs.Methods.{Method, method, known, judge_in_class, judge_method, judge_payload}
-use Rattle.amqp_types.specs.ContentHeaders.{ContentHeader, header_slots, judge_content_header}
+use proofs.Fields.{MakesField, form_round, AreSlots, slots_round}
+use proofs.Twins.{IsMade, both_made, none_made, then_took, AreSame}
+use types.Rows.{rows_of, slots_at}
+use types.Methods.{Method, method, known, judge_in_class, judge_method, judge_payload}
+use types.ContentHeaders.{ContentHeader, header_slots, judge_content_header}
 use Rattle.amqp_laws.proofs.MethodLaws.{in_table}
 use Rattle.amqp_wire.specs.declared.frame_type.AMQPFrameType.{AMQPFrameType}
 use Rattle.amqp_wire.specs.declared.frame_type.AMQPFrameType.TheVariants as kinds

@@ -1,39 +1,40 @@
 -- Nodes that were read, what they make, and the nodes that are read of it again: parts of them, and single nodes.
-use Rattle.std.proofs.Common.{◌≡◌, ℕ, ◌+◌, ◌-◌, ◌≤◌, Bool, true, List, [], ◌∷◌, ◌++◌, length, take, drop, Ok, refl, sym, ap, subst, ◌∙◌, append_assoc, arith}
-use Rattle.std.proofs.Common.{ℤ}
+use Rattle.amqp_fields_laws.specs
+use Rattle.amqp_types.specs as types
+use Rattle.amqp_fields.specs as reading
+use Rattle.std.proofs.Common.{◌≡◌, ℕ, ◌+◌, ◌-◌, ◌≤◌, Bool, true, List, [], ◌∷◌, ◌++◌, length, take, drop, Ok, refl, sym, ap, subst, ◌∙◌, append_assoc, arith, ℤ}
 use Rattle.std.proofs.Common.{◌<◌, ◌^◌, false, ap₂, nat_lt, nat_le}
 use Rattle.std.proofs.lemmas.List.{drop_at, length-append, length-drop, length-take-le}
-use Rattle.amqp_types.specs.Judging.{Judged, Judge, IsBytes, IsExact, took, ◌>>=◌}
-use Rattle.amqp_types.specs.Sequences.{judge_both, judge_map}
-use Rattle.amqp_fields.specs.declared.node.Node.{Node}
-use Rattle.amqp_fields.specs.Listed.{end_before, listed_span, listed_boolean, listed_decimal, listed_number, listed_signed, scaled}
+use types.Judging.{Judged, Judge, IsBytes, IsExact, took, ◌>>=◌}
+use types.Sequences.{judge_both, judge_map}
+use reading.declared.node.Node.{Node}
+use reading.Listed.{end_before, listed_span, listed_boolean, listed_decimal, listed_number, listed_signed, scaled}
 use Rattle.amqp_fields_write.specs.Made.{Maker, Made, after, made_long, made_number, made_signed, made_span, made_text, made_truth, own_index, span_in}
-use Rattle.amqp_fields.specs.Meaning.{IsSpan}
-use Rattle.amqp_fields.specs.Nodes.{spanned, numbered}
-use Rattle.amqp_fields_write.specs.SameNodes.{IsSameNode, IsSameSpan, SameNodes}
-use Rattle.amqp_fields_write.proofs.SameNodes.{same_append}
+use reading.Meaning.{IsSpan}
+use reading.Nodes.{spanned, numbered}
+use specs.SameNodes.{IsSameNode, IsSameSpan, SameNodes}
+use Rattle.amqp_fields_laws.proofs.SameNodes.{same_append}
 use Rattle.amqp_fields.proofs.Spans.{IsPart, Stands, part_stands, span_of, stands_drop, long_part, short_part}
 use Rattle.amqp_fields.proofs.ValuesFound.{IsFresh, Keeps}
-use Rattle.amqp_fields_write.proofs.Ordered.{span_fits}
-use Rattle.amqp_fields_laws.specs.RoundTrips.{SameSpans}
+use Rattle.amqp_fields_write.proofs.Ordered.{span_fits, truth_at}
+use specs.RoundTrips.{SameSpans}
 use Rattle.std.proofs.lemmas.Bool.Decides.{nat_tests}
 use Rattle.std.proofs.lemmas.Int.{of_z-to_z}
 use Rattle.std.proofs.lemmas.Str.{is_utf8-from_IsUtf8}
 use Rattle.std.specs.Int.{w64, cast_signed, cast_unsigned}
 use Rattle.std.specs.Str.{IsUtf8}
-use Rattle.amqp_types.specs.Levels.{plain}
-use Rattle.amqp_types.specs.Numbers.{NumberWidth, bytes1, bytes4, bytes8, judge_number, number_bytes, number_limit, width_of, SpellsNumber}
-use Rattle.amqp_types.specs.Signed.{judge_signed, SpellsSigned}
-use Rattle.amqp_types.specs.Booleans.{judge_boolean, SpellsBoolean}
-use Rattle.amqp_types.specs.Flags.{bit_of}
-use Rattle.amqp_types.specs.Strings.{is_too_long, judge_long_string, judge_short_string, short_string_bytes, with_length, SpellsLongString, SpellsShortString}
-use Rattle.amqp_types.specs.ValueJudging.{judge_decimal}
-use Rattle.amqp_types.specs.ValueSpelling.{SpellsDecimal}
+use types.Levels.{plain}
+use types.Numbers.{NumberWidth, bytes1, bytes4, bytes8, judge_number, number_bytes, number_limit, width_of, SpellsNumber}
+use types.Signed.{judge_signed, SpellsSigned}
+use types.Booleans.{judge_boolean, SpellsBoolean}
+use types.Flags.{bit_of}
+use types.Strings.{is_too_long, judge_long_string, judge_short_string, short_string_bytes, with_length, SpellsLongString, SpellsShortString}
+use types.ValueJudging.{judge_decimal}
+use types.ValueSpelling.{SpellsDecimal}
 use Rattle.amqp_types.proofs.Booleans.{boolean_laws}
 use Rattle.amqp_types.proofs.Numbers.{number_exact}
 use Rattle.amqp_types.proofs.Texts.{long_string_exact, short_string_exact, signed_exact}
 use Rattle.amqp_laws.proofs.Exactly.{decimal_exact}
-use Rattle.amqp_fields_write.proofs.Ordered.{truth_at}
 use Rattle.amqp_fields_write.proofs.SignedNumbers.{signed_bits}
 use Rattle.amqp_fields_write.proofs.MadeOfParts.{mod_small}
 

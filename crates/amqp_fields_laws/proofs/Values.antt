@@ -1,41 +1,41 @@
 -- Values that were read, and what fills tables and arrays, are made, and are read again as the same nodes.
+use Rattle.amqp_fields_laws.proofs
+use Rattle.amqp_types.specs as types
+use Rattle.amqp_fields.specs as reading
 use Rattle.std.proofs.Common.{◌≡◌, ℕ, zero, suc, ◌-◌, ◌<◌, ◌≤◌, ◌^◌, false, List, [], ◌∷◌, ◌++◌, length, drop, Result, Ok, refl, sym, ap, ap₂, subst, ◌∙◌}
-use Rattle.std.proofs.Common.{arith}
-use Rattle.std.proofs.Common.{◌+◌, Option, Some, None, inl, inr, append_assoc}
+use Rattle.std.proofs.Common.{arith, ◌+◌, Option, Some, None, inl, inr, append_assoc}
 use Rattle.std.proofs.lemmas.List.{drop_at, length-append, nil_from_length, length-drop}
-use Rattle.amqp_types.specs.Judging.{Judged, Judge, Fault, IsBytes, took, past, fault}
-use Rattle.amqp_types.specs.Strings.{judge_long_string, with_length, judge_short_string, short_string_bytes}
-use Rattle.amqp_types.specs.ValueJudging.{filled, next_item, read_map, behind_tag, judge_array, judge_behind, judge_decimal, judge_entry, judge_table}
-use Rattle.amqp_types.specs.ValueJudging.{judge_tagged, judge_value, nested}
+use types.Judging.{Judged, Judge, Fault, IsBytes, took, past, fault}
+use types.Strings.{judge_long_string, with_length, judge_short_string, short_string_bytes}
+use types.ValueJudging.{filled, next_item, read_map, behind_tag, judge_array, judge_behind, judge_decimal, judge_entry, judge_table, judge_tagged, judge_value}
+use types.ValueJudging.{nested}
 use Rattle.amqp_types.proofs.Texts.{long_string_exact, short_string_exact}
 use Rattle.amqp_laws.proofs.Filling.{filled_next}
-use Rattle.amqp_fields.specs.declared.node.Node.{Node}
-use Rattle.amqp_fields.specs.Listed.{holding, joined, listed_items, listed_after, listed_behind, listed_entry, listed_nested, listed_value, listed_tagged}
-use Rattle.amqp_fields.specs.Listed.{of_kind}
+use reading.declared.node.Node.{Node}
+use reading.Listed.{holding, joined, listed_items, listed_after, listed_behind, listed_entry, listed_nested, listed_value, listed_tagged, of_kind}
 use Rattle.amqp_fields_write.specs.Made.{Maker, after, closed, made_each, made_given, made_items, own_index, made_behind, made_entry, made_leaf, made_long}
 use Rattle.amqp_fields_write.specs.Made.{made_nested, made_text, made_value}
-use Rattle.amqp_fields.specs.Meaning.{IsSpan}
-use Rattle.amqp_fields.specs.Nodes.{StandsFirst, held, spanned, blank, keyed}
-use Rattle.amqp_fields_write.specs.SameNodes.{HasInside, SameNodes}
-use Rattle.amqp_fields_write.proofs.EachMade.{each_next, each_none}
-use Rattle.amqp_fields_write.proofs.SameNodes.{same_append, same_length}
+use reading.Meaning.{IsSpan}
+use reading.Nodes.{StandsFirst, held, spanned, blank, keyed}
+use Rattle.amqp_fields_laws.specs.SameNodes.{HasInside, SameNodes}
+use Rattle.amqp_fields_write.proofs.ValuesMade.{each_next, each_none, value_parts}
+use proofs.SameNodes.{same_append, same_length}
 use Rattle.amqp_fields.proofs.Spans.{Stands, long_part, part_stands, span_of, stands_drop, short_part}
 use Rattle.amqp_fields.proofs.ValuesFound.{IsFresh, Keeps, map_read, all_took, keeps_itself, map_took}
-use Rattle.amqp_fields_laws.proofs.Twins.{long_made, span_made, IsMade, IsRound, stands_fit, decimal_round, eight_round, long_round, number_round}
-use Rattle.amqp_fields_laws.proofs.Twins.{signed_round, text_made, truth_round, AreAlike, IsTwin, as_made, no_bytes, one_same, same_span, then_took}
-use Rattle.amqp_types.specs.Numbers.{bytes1, bytes2, bytes4, bytes8, judge_number}
-use Rattle.amqp_types.specs.Signed.{judge_signed}
-use Rattle.amqp_types.specs.Booleans.{judge_boolean}
-use Rattle.amqp_types.specs.Values.{FieldValue, Entry, short_short_int, short_int, long_int, long_long_int, short_short_uint, short_uint, long_uint, float}
-use Rattle.amqp_types.specs.Values.{double, timestamp, long_string, byte_array, boolean_value, signed_value, unsigned_value, decimal_value, bytes_value}
-use Rattle.amqp_types.specs.Values.{array_value, table_value, void_value, values_of, entries_of}
-use Rattle.amqp_types.specs.Settling.{settled}
-use Rattle.amqp_types.specs.Tags.{tag_at, tag_byte}
-use Rattle.amqp_types.specs.declared.tag.FieldTag.{FieldTag}
-use Rattle.amqp_types.specs.declared.tag.FieldTag.TheVariants as tag
+use proofs.Twins.{long_made, span_made, IsMade, IsRound, stands_fit, decimal_round, eight_round, long_round, number_round, signed_round, text_made, truth_round}
+use proofs.Twins.{AreAlike, IsTwin, as_made, no_bytes, one_same, same_span, then_took}
+use types.Numbers.{bytes1, bytes2, bytes4, bytes8, judge_number}
+use types.Signed.{judge_signed}
+use types.Booleans.{judge_boolean}
+use types.Values.{FieldValue, Entry, short_short_int, short_int, long_int, long_long_int, short_short_uint, short_uint, long_uint, float, double, timestamp}
+use types.Values.{long_string, byte_array, boolean_value, signed_value, unsigned_value, decimal_value, bytes_value, array_value, table_value, void_value}
+use types.Values.{values_of, entries_of}
+use types.Settling.{settled}
+use types.Tags.{tag_at, tag_byte}
+use types.declared.tag.FieldTag.{FieldTag}
+use types.declared.tag.FieldTag.TheVariants as tag
 use Rattle.amqp_types.proofs.Took.{bind_took, count_took}
 use Rattle.amqp_laws.proofs.Tags.{tag_read}
-use Rattle.amqp_fields_write.proofs.ValuesMade.{value_parts}
 
 -- groups that were listed again, as many and with the same nodes
 pub record AreTwins (pool other : List ℕ) (groups : List (List Node)) (listed : Result (List (List Node)) Fault) : Type 0 where

@@ -6,7 +6,7 @@ use Rattle.amqp_fields.specs.declared.head.Head.{Head}
 use Rattle.amqp_fields.specs.declared.node.Node.{Node}
 use Rattle.amqp_fields.specs.Heads.{SayFrames}
 use Rattle.amqp_fields_write.specs.MadeFrames.{made_frames}
-use Rattle.amqp_fields_write.specs.SameNodes.{IsSameSpan, SameNodes}
+use Rattle.amqp_fields_laws.specs.SameNodes.{IsSameSpan, SameNodes}
 
 -- Heads and nodes are written at a limit, to no more than so many bytes.
 pub record IsAccepted (k : ℕ) (pool : List ℕ) (nodes : List Node)

@@ -1,26 +1,22 @@
 -- Bytes that are counted one after another.
-use Rattle.std.proofs.Common.{◌≡◌, ℕ, ◌+◌, ◌<◌, ◌≤◌, Bool, true, false, List, [], ◌∷◌, ◌++◌, length, Result, Ok, Err, refl, sym, ap, ◌∙◌, arith, nat_lt}
-use Rattle.std.proofs.Common.{append_assoc, append-nil}
-use Rattle.std.proofs.lemmas.Bool.Decides.{nat_tests}
-use Rattle.std.specs.Prelude.{IsErrAnd}
-use Rattle.std.proofs.lemmas.List.{length-append}
-use Rattle.amqp_fields.specs.declared.node.Node.{Node}
+use Rattle.amqp_fields_write.proofs
+use proofs.Names.{◌≡◌, ℕ, ◌+◌, ◌<◌, ◌≤◌, Bool, true, false, List, [], ◌∷◌, ◌++◌, length, Result, Ok, Err, refl, sym, ap, ◌∙◌, arith, nat_lt, append_assoc}
+use proofs.Names.{append-nil, numbers, IsErrAnd, length-append, Node, IsCounted, Measures, cut_long, made_group, made_item, made_key}
 use Rattle.amqp_fields_write.specs.Made.{after, closed, made_each, made_entry, made_items, made_value, own_index}
-use Rattle.amqp_fields_write.specs.Makes.{IsCounted, Measures, cut_long, made_group, made_item, made_key}
 
 -- the test for less fails where the second number is at most the first
 pub not_lt : (a b : ℕ) → b ≤ a → nat_lt a b ≡ false
-not_lt a b le = grind (arith, nat_tests)
+not_lt a b le = grind numbers
 
 cut_sum : (a b : List ℕ) (n m total : ℕ) → n ≡ cut_long (length a) → m ≡ cut_long (length b) → total ≡ cut_long (n + m) → total ≡ cut_long (length (a ++ b))
-cut_sum a b n m total one two sum = let size = length-append a b in grind (arith, nat_tests, one, two, sum, size)
+cut_sum a b n m total one two sum = let size = length-append a b in grind (numbers, one, two, sum, size)
 
 -- two parts
 pub both_counted : {E : Type 0} {first second : Result (List ℕ) E} {n m total : ℕ} → IsCounted first n → IsCounted second m
     → total ≡ cut_long (n + m) → IsCounted (after first second) total
 both_counted {E} {first} {second} {n} {m} {total} one two sum = record {
   bytes = one.bytes ++ two.bytes;
-  is = ap (λ made. after made second) one.is ∙ ap (after (Ok one.bytes)) two.is;
+  is = rw (one.is, two.is);
   count_is = cut_sum one.bytes two.bytes n m total one.count_is two.count_is sum;
 }
 
@@ -28,12 +24,11 @@ both_counted {E} {first} {second} {n} {m} {total} one two sum = record {
 pub counted_after : {E : Type 0} (first : List ℕ) {second : Result (List ℕ) E} {m total : ℕ} → IsCounted second m
     → total ≡ cut_long (length first + m) → IsCounted (after (Ok first) second) total
 counted_after first {second} {m} {total} two sum =
-    let size = length-append first two.bytes in
-    record { bytes = first ++ two.bytes; is = ap (after (Ok first)) two.is; count_is = grind (arith, nat_tests, two.count_is, sum, size) }
+    record { bytes = first ++ two.bytes; is = rw two.is; count_is = grind (numbers, two.count_is, sum, length-append first two.bytes) }
 
 -- where a first part was made, a refusal of the second is one of the whole
 pub second_refused : {E : Type 0} (first second : Result (List ℕ) E) (n : ℕ) (bad : E) → IsCounted first n → second ≡ Err bad → after first second ≡ Err bad
-second_refused first second n bad one is = ap (λ made. after made second) one.is ∙ ap (after (Ok one.bytes)) is
+second_refused first second n bad one is = rw (one.is, is)
 
 -- a refusal that is passed on
 pub passed : {E : Type 0} {made : Result (List ℕ) E} (bad : E) (result : Result ℕ E) → made ≡ Err bad → IsErrAnd result (λ x. x ≡ bad) → Measures made result
@@ -71,16 +66,16 @@ steps {E} {whole} {rest} {one} {next} {made} {n} {total} h parts given sum = rec
 
 -- a refusal of what is left is one of the whole
 pub stops : {E : Type 0} {whole rest : Result (List ℕ) E} {made : ℕ} (bad : E) → Onward whole rest made → rest ≡ Err bad → whole ≡ Err bad
-stops bad h is = h.so_far ∙ ap (after (Ok h.done)) is
+stops bad h is = h.so_far ∙ rw is
 
 -- a refusal of what is made next is one of the whole
 pub stops_at : {E : Type 0} {whole rest one : Result (List ℕ) E} {made : ℕ} (next : Result (List ℕ) E) (bad : E) → Onward whole rest made
     → rest ≡ after one next → one ≡ Err bad → whole ≡ Err bad
-stops_at next bad h parts is = stops bad h (parts ∙ ap (λ made. after made next) is)
+stops_at next bad h parts is = stops bad h (parts ∙ rw is)
 
 -- where nothing is left, all of it was counted
 pub ends : {E : Type 0} {whole rest : Result (List ℕ) E} {made : ℕ} → Onward whole rest made → rest ≡ Ok [] → IsCounted whole made
-ends h is = record { bytes = h.done; is = h.so_far ∙ ap (after (Ok h.done)) is ∙ ap Ok (append-nil h.done); count_is = h.count_is }
+ends h is = record { bytes = h.done; is = h.so_far ∙ rw (is, append-nil h.done); count_is = h.count_is }
 
 -- ---- tables and arrays
 

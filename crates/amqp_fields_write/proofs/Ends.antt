@@ -1,7 +1,7 @@
 -- Bytes that are put by their first and their last ones, which may overlap.
-use Rattle.std.proofs.Common.{◌≡◌, ℕ, ◌+◌, ◌-◌, ◌≤◌, ◌*◌, List, ◌++◌, length, take, drop, refl, sym, ap, ap₂, ◌∙◌, arith}
-use Rattle.std.proofs.lemmas.List.{take-append-drop, take-take, drop-drop, take_at, drop_at, length-append, length-take-le, length-drop}
-use Rattle.amqp_types.specs.Writing.{written, Puts}
+use Rattle.amqp_fields_write.proofs
+use proofs.Names.{◌≡◌, ℕ, ◌+◌, ◌-◌, ◌≤◌, ◌*◌, List, ◌++◌, length, take, drop, refl, sym, ap, ap₂, ◌∙◌, arith, take-append-drop, take-take, drop-drop, take_at}
+use proofs.Names.{drop_at, length-append, length-take-le, length-drop, written, Puts}
 use Rattle.amqp_types.proofs.WrittenParts.{written-written, written-length}
 
 -- bytes in the place of others that are no more

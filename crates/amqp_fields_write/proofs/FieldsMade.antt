@@ -1,17 +1,9 @@
 -- What fields make, by the parts that are put.
-use Rattle.std.proofs.Common.{◌≡◌, ℕ, zero, suc, ◌+◌, ◌-◌, ◌*◌, ◌<◌, ◌≤◌, ◌^◌, ◌==◌, Bool, true, false, List, [], ◌∷◌, length, get_or, drop, Result, Ok, Err}
-use Rattle.std.proofs.Common.{refl, ap, ◌∙◌, inl, inr, arith}
-use Rattle.std.proofs.lemmas.Bool.Decides.{nat_tests}
-use Rattle.std.proofs.lemmas.Bool.{cases_lt}
-use Rattle.std.proofs.Math.Pow.{pow_mono}
-use Rattle.amqp_types.specs.Flags.{bit_of}
+use Rattle.amqp_fields_write.proofs
+use proofs.Names.{◌≡◌, ℕ, zero, suc, ◌+◌, ◌-◌, ◌*◌, ◌<◌, ◌≤◌, ◌^◌, ◌==◌, Bool, true, false, List, [], ◌∷◌, length, get_or, drop, Result, Ok, Err, refl, ap, ◌∙◌}
+use proofs.Names.{inl, inr, arith, numbers, cases_lt, pow_mono, bit_of, Node, Refusal, next_place, flag_before, flags_in, is_flag, worths, IsFlagsByte}
 use Rattle.amqp_types.specs.Properties.{properties, later_properties}
-use Rattle.amqp_fields.specs.declared.node.Node.{Node}
-use Rattle.amqp_fields_write.specs.declared.refusals.Refusal.{Refusal}
-use Rattle.amqp_fields.specs.Listed.{next_place}
 use Rattle.amqp_fields_write.specs.Made.{misfit}
-use Rattle.amqp_fields_write.specs.MadeFields.{flag_before, flags_in, is_flag, worths}
-use Rattle.amqp_fields_write.specs.Makes.{IsFlagsByte}
 
 -- ---- flags
 
@@ -50,7 +42,7 @@ bit_is (suc (suc n)) few = absurd (omega (arith, few))
 
 -- the number of a flag is below 2
 pub flag_few : (place : ℕ) (node : Node) → is_flag place node ≡ true → node.number < 2
-flag_few place node is = grind (arith, nat_tests, is)
+flag_few place node is = grind (numbers, is)
 
 -- a bit with a number of count - 1 bits above it is a number of count bits
 one_more_bit : (bit count byte : ℕ) → bit ≤ 1 → 0 < count → byte < 2 ^ (count - 1) → bit + 2 * byte < 2 ^ count

@@ -1,23 +1,17 @@
 -- The lemmas of amqp_fields_write.
+pub mod Names
 pub mod Combined
-pub mod EachMade
 pub mod ValuesMade
 pub mod FieldsMade
 pub mod FramesMade
-pub mod HeadsInLoops
 pub mod MadeOfParts
-pub mod GivenLengths
 pub mod SignedNumbers
 pub mod PropertiesMade
 pub mod Ends
 pub mod Quick
-pub mod QuickFields
 pub mod QuickFrames
-pub mod ValuesTold
-pub mod FieldsTold
 pub mod Ordered
 pub mod MeantValuesMade
 pub mod MeantFieldsMade
 pub mod MeantFramesMade
-pub mod SameNodes
-pub mod HeadsTold
+pub mod Encoding

@@ -1,19 +1,11 @@
 -- What was made of parts that were made, and how long it is.
-use Rattle.std.proofs.Common.{◌≡◌, ℕ, zero, suc, ◌+◌, ◌<◌, ◌≤◌, ◌%◌, Bool, true, false, List, [], ◌∷◌, ◌++◌, length, take, drop, Result, Ok, Err, refl, ap, ◌∙◌}
-use Rattle.std.proofs.Common.{◌⊎◌, inl, inr, arith, nat_lt, nat_le, if◌then◌else◌}
-use Rattle.std.proofs.lemmas.Bool.{cases_lt}
-use Rattle.std.proofs.lemmas.Bool.Decides.{nat_tests}
-use Rattle.std.proofs.lemmas.List.{length-append}
+use Rattle.amqp_fields_write.proofs
+use proofs.Names.{◌≡◌, ℕ, zero, suc, ◌+◌, ◌<◌, ◌≤◌, ◌%◌, Bool, true, false, List, [], ◌∷◌, ◌++◌, length, take, drop, Result, Ok, Err, refl, ap, ◌∙◌, ◌⊎◌, inl}
+use proofs.Names.{inr, arith, nat_lt, nat_le, if◌then◌else◌, cases_lt, numbers, length-append, IsUtf8, is_utf8, Fault, NumberWidth, bytes1, number_limit}
+use proofs.Names.{is_too_long, Node, Refusal, given_length, is_given, IsSpan}
 use Rattle.std.proofs.lemmas.Str.{IsUtf8-from_is_utf8}
-use Rattle.std.specs.Str.{IsUtf8, is_utf8}
-use Rattle.amqp_types.specs.Judging.{Fault}
-use Rattle.amqp_types.specs.Numbers.{NumberWidth, bytes1, bytes2, bytes4, bytes8, number_limit}
-use Rattle.amqp_types.specs.Strings.{SpellsLongString, is_too_long, with_length}
-use Rattle.amqp_fields.specs.declared.node.Node.{Node}
-use Rattle.amqp_fields_write.specs.declared.refusals.Refusal.{Refusal}
+use Rattle.amqp_types.specs.Strings.{SpellsLongString, with_length}
 use Rattle.amqp_fields_write.specs.Made.{Made, after, closed, made_alone, made_given, made_if, made_long, made_number, made_span, made_text, span_in}
-use Rattle.amqp_fields_write.specs.MadeFrames.{given_length, is_given}
-use Rattle.amqp_fields.specs.Meaning.{IsSpan}
 
 -- ---- parts
 
@@ -70,19 +62,17 @@ alone_ok index made (first ∷ others) h = absurd cc
 -- a number that its width holds is its own remainder
 pub mod_small : (width : NumberWidth) (n : ℕ) → n < number_limit width → n % number_limit width ≡ n
 mod_small bytes1 n few = omega arith
-mod_small bytes2 n few = omega arith
-mod_small bytes4 n few = omega arith
-mod_small bytes8 n few = omega arith
+mod_small width n few = omega arith
 
 -- a number of which bytes are made is one of its width
 pub number_ok : (node : ℕ) (width : NumberWidth) (n : ℕ) {bytes : List ℕ} → made_number width node n ≡ Ok bytes → n < number_limit width
-number_ok node width n h = let less = if_ok _ _ (nat_lt n (number_limit width)) h in grind (arith, nat_tests)
+number_ok node width n h = let less = if_ok _ _ (nat_lt n (number_limit width)) h in grind numbers
 
 -- bytes that are made of content encode it as a long string
 pub long_spelled : (node : ℕ) (content : List ℕ) {bytes : List ℕ} → made_long node content ≡ Ok bytes → SpellsLongString bytes content
 long_spelled node content h =
     let both = fails (is_too_long content) (Ok (with_length content)) _ _ h in
-    record { fits = grind (arith, nat_tests, both.0); bytes_are = ok_is both.1 }
+    record { fits = grind (numbers, both.0); bytes_are = ok_is both.1 }
 
 -- what is made of content is longer
 pub long_ok : (node : ℕ) (content : List ℕ) {bytes : List ℕ} → made_long node content ≡ Ok bytes → length content ≤ length bytes
@@ -92,7 +82,7 @@ long_ok node content h = let is = ok_is (fails (is_too_long content) (Ok (with_l
 pub text_ok : (node : ℕ) (text : List ℕ) {bytes : List ℕ} → made_text node text ≡ Ok bytes → (length text < 256) × IsUtf8 text
 text_ok node text h =
     let short = fails (nat_lt 255 (length text)) _ _ _ h in
-    (grind (arith, nat_tests), IsUtf8-from_is_utf8 text (holds (is_utf8 text) _ _ _ short.1).0)
+    (grind numbers, IsUtf8-from_is_utf8 text (holds (is_utf8 text) _ _ _ short.1).0)
 
 -- what is made of the bytes of a span
 pub record SpanMade (make : List ℕ → Made) (pool : List ℕ) (start count : ℕ) (bytes : List ℕ) : Type 0 where
@@ -104,9 +94,9 @@ pub record SpanMade (make : List ℕ → Made) (pool : List ℕ) (start count : 
 pub span_ok : (node : ℕ) (make : List ℕ → Made) (pool : List ℕ) (start count : ℕ) {bytes : List ℕ}
     → made_span make node (span_in pool start count) ≡ Ok bytes → SpanMade make pool start count bytes
 span_ok node make pool start count {bytes} h = elim (cases_lt (length pool) (start + count)) [
-  | inl beyond ↦ let no : nat_le (start + count) (length pool) ≡ false = grind (arith, nat_tests) in absurd (let bad = rw no at h in cc)
+  | inl beyond ↦ let no : nat_le (start + count) (length pool) ≡ false = grind numbers in absurd (let bad = rw no at h in cc)
   | inr within ↦
-      let le : nat_le (start + count) (length pool) ≡ true = grind (arith, nat_tests) in
+      let le : nat_le (start + count) (length pool) ≡ true = grind numbers in
       record { content = take count (drop start pool); span = record { within = within; bytes_are = refl }; is = rw le at h }
 ]
 
@@ -134,7 +124,7 @@ given_split (suc k) (node ∷ nodes) = omega (arith, given_split k nodes)
 -- where a node has none, they are those of the others
 pub given_past : (node : Node) (nodes : List Node) → is_given node ≡ false → given_length (node ∷ nodes) ≡ given_length nodes
 unfolding given_length
-given_past node nodes none = ap (λ test. (if test then node.length else 0) + given_length nodes) none ∙ omega arith
+given_past node nodes none = rw none (omega arith)
 
 -- one node has none but its own
 pub given_most : (node : Node) → given_length (node ∷ []) ≤ node.length

@@ -1,44 +1,44 @@
 -- What is made of the nodes of fields is of items that they mean, and fields that are meant are made, unless a content is too long.
-use Rattle.std.proofs.Common.{◌≡◌, ℕ, zero, suc, ◌+◌, ◌-◌, ◌<◌, ◌≤◌, ◌^◌, ◌==◌, Bool, true, false, List, [], ◌∷◌, ◌++◌, length, map, replicate, take, drop, Ok}
-use Rattle.std.proofs.Common.{refl, sym, ap, ap₂, subst, ◌∙◌, arith, nat_lt, nat_le, if◌then◌else◌, inl, Result, Err}
-use Rattle.std.proofs.lemmas.Bool.Decides.{nat_tests}
-use Rattle.std.proofs.lemmas.List.{drop_at, length-append, length-replicate, take-append-drop, take_at, length-map, length-take-le}
-use Rattle.std.proofs.Math.Pow.{pow_mono}
-use Rattle.amqp_types.specs.Levels.{Level}
-use Rattle.amqp_types.specs.Judging.{IsBytes}
-use Rattle.amqp_types.specs.Numbers.{number_limit}
-use Rattle.amqp_types.specs.Flags.{bit_of, flags_byte, flags_bytes, flags_from}
-use Rattle.amqp_types.specs.Constants.{inner_depth}
-use Rattle.amqp_types.specs.Slots.{Item, number_item, flag_item, text_item, bytes_item, entries_item, Form, number_form, flags_form, short_string_form}
-use Rattle.amqp_types.specs.Slots.{long_string_form, table_form, Slot, kept_slot, reserved_slot}
-use Rattle.amqp_types.specs.SlotBytes.{form_bytes}
-use Rattle.amqp_types.specs.SlotLaws.{are_least, is_least}
-use Rattle.amqp_types.specs.SlotSpelling.{SpellsForm, SpellsSlot, SpellsSlots}
+use Rattle.amqp_fields_write.proofs
+use Rattle.amqp_fields_write.specs
+use Rattle.amqp_types.specs as types
+use proofs.Names.{◌≡◌, ℕ, zero, suc, ◌+◌, ◌-◌, ◌<◌, ◌≤◌, ◌^◌, ◌==◌, Bool, true, false, List, [], ◌∷◌, ◌++◌, length, map, replicate, take, drop, Ok, refl, sym}
+use proofs.Names.{ap, ap₂, subst, ◌∙◌, arith, nat_lt, nat_le, if◌then◌else◌, inl, Result, Err, numbers, drop_at, length-append, length-replicate}
+use proofs.Names.{take-append-drop, take_at, length-map, length-take-le, pow_mono, Level, IsBytes, number_limit, bit_of, flags_byte, flags_bytes, flags_from}
+use proofs.Names.{inner_depth, Node, Refusal, StandsFirst, kept_count, next_place, flag_before, flags_in, group_size, is_flag, made_field, made_none, made_slot}
+use proofs.Names.{made_slots, node_count, AreNodes, byte_below, given_length, NumberWidth, bytes1}
+use types.Slots.{Item, number_item, flag_item, text_item, bytes_item, entries_item, Form, number_form, flags_form, short_string_form, long_string_form}
+use types.Slots.{table_form, Slot, kept_slot, reserved_slot}
+use types.SlotBytes.{form_bytes}
+use types.SlotLaws.{are_least, is_least}
+use types.SlotSpelling.{SpellsForm, SpellsSlot, SpellsSlots}
 use Rattle.amqp_types.proofs.FormLaws.{flags_back, flags_byte_below}
 use Rattle.amqp_laws.proofs.SlotForms.{forms_lawful}
 use Rattle.amqp_laws.proofs.SlotLaws.{both_true, constant_strict}
-use Rattle.amqp_fields.specs.declared.node.Node.{Node}
-use Rattle.amqp_fields_write.specs.declared.refusals.Refusal.{Refusal}
 use Rattle.amqp_fields.specs.Kinds.{kind_of}
-use Rattle.amqp_fields.specs.Nodes.{StandsFirst}
-use Rattle.amqp_fields.specs.Listed.{kept_count, next_place}
-use Rattle.amqp_fields_write.specs.Made.{made_long, made_text, made_value, misfit, own_index, made_number, made_span, span_in}
-use Rattle.amqp_fields_write.specs.MadeFields.{flag_before, flags_in, flags_made, group_size, is_field, is_flag, made_field, made_flags, made_form, made_kept}
-use Rattle.amqp_fields_write.specs.MadeFields.{made_none, made_plain, made_slot, made_slots, node_count}
-use Rattle.amqp_fields.specs.Meaning.{AreNodes, Field, IsGroup, field, fields_from, kinds_in}
-use Rattle.amqp_fields_write.specs.Meant.{TellsField, TellsItem, kind_limit}
+use specs.Made.{made_long, made_text, made_value, misfit, own_index, made_number, made_span, span_in}
+use specs.MadeFields.{flags_made, is_field, made_flags, made_form, made_kept, made_plain}
+use Rattle.amqp_fields.specs.Meaning.{Field, IsGroup, field, fields_from, kinds_in}
+use specs.Meant.{TellsField, TellsItem, kind_limit}
 use Rattle.amqp_fields.specs.Counting.{total}
-use Rattle.amqp_fields_write.proofs.Ordered.{lawful_at, from_tidy, Ordered, With}
+use proofs.Ordered.{lawful_at, from_tidy, Ordered, With}
 use Rattle.amqp_fields.proofs.FieldsFound.{spare}
-use Rattle.amqp_fields_write.proofs.FieldsTold.{limit_of, low_kind}
-use Rattle.amqp_fields.proofs.Spans.{byte_below}
-use Rattle.amqp_fields_write.proofs.MeantValuesMade.{Fits, IsLongAt, IsLongBy, alone_fits, as_fits, behind_long, both_fits, fits_for, fits_into, group_long}
-use Rattle.amqp_fields_write.proofs.MeantValuesMade.{long_fits, number_fits, ok_fits, own_long, span_fits_in, table_fits_at}
-use Rattle.amqp_fields_write.proofs.MeantValuesMade.{text_fits, value_fits, Told, table_told}
-use Rattle.amqp_fields_write.proofs.MeantValuesMade.{value_told}
-use Rattle.amqp_fields_write.specs.MadeFrames.{given_length}
-use Rattle.amqp_fields_write.proofs.FieldsMade.{bit_is}
-use Rattle.amqp_fields_write.proofs.MadeOfParts.{after_ok, alone_ok, fails, given_none, given_past, given_split, holds, number_ok, span_ok, text_ok}
+use proofs.MeantValuesMade.{Fits, IsLongAt, IsLongBy, alone_fits, as_fits, behind_long, both_fits, fits_for, fits_into, group_long, long_fits, number_fits}
+use proofs.MeantValuesMade.{ok_fits, own_long, span_fits_in, table_fits_at, text_fits, value_fits, Told, table_told, value_told}
+use proofs.FieldsMade.{bit_is}
+use proofs.MadeOfParts.{after_ok, alone_ok, fails, given_none, given_past, given_split, holds, number_ok, span_ok, text_ok}
+
+-- ---- kinds of numbers
+
+-- the numbers of a width are those of its kind
+pub limit_of : (width : NumberWidth) → kind_limit (kind_of (number_form width)) ≡ number_limit width
+limit_of bytes1 = refl
+limit_of width = refl
+
+-- the kinds of numbers are below that of flags
+pub low_kind : (width : NumberWidth) → kind_of (number_form width) < 5
+low_kind bytes1 = omega arith
+low_kind width = omega arith
 
 -- it is no flags
 abbrev pub IsOne : Form → Type 0
@@ -83,14 +83,14 @@ module _ (level : Level) (pool : List ℕ) (fits : IsBytes pool) where
       let node = h.node in
       let first : StandsFirst nodes node h.inside h.others = record { nodes_are = h.nodes_are; inside_is = h.inside_is } in
       let behind = h.inside ++ h.others in
-      let within : nat_lt (length behind) node.inside ≡ false = grind (arith, nat_tests, length-append h.inside h.others, h.inside_is) in
-      let is : is_field place form node ≡ true = grind (arith, nat_tests) in
+      let within : nat_lt (length behind) node.inside ≡ false = grind (numbers, length-append h.inside h.others, h.inside_is) in
+      let is : is_field place form node ≡ true = grind numbers in
       let left : drop node.inside behind ≡ h.others = drop_at h.inside h.others node.inside (sym h.inside_is) in
       let front : take node.inside behind ≡ h.inside = take_at h.inside h.others node.inside (sym h.inside_is) in
       let next : group_size (node ∷ behind) ≡ suc node.inside = omega arith in
       let made : made_field pool end place form (node ∷ behind) ≡ made_form pool form (end - length h.others) node h.inside = rw (within, is, left, front) in (
         as_fits (ap (made_field pool end place form) h.nodes_are ∙ made)
-            (fits_for (λ bad why. group_long first why)
+            (fits_for (λ bad. group_long first)
             (form_fits form (end - length h.others) node h.inside item one h.means.0.kind_is h.means.1 h.means.0.tells)),
         sym (ap (λ ns. drop (group_size ns) ns) h.nodes_are ∙ ap (λ k. drop k (node ∷ behind)) next ∙ left),
       )
@@ -111,8 +111,8 @@ module _ (level : Level) (pool : List ℕ) (fits : IsBytes pool) where
     rest : Mean (place + count) kinds others (drop count nodes)
 
   bit_back : (b : Bool) (n : ℕ) → n ≡ bit_of b → (n < 2) × ((n == 1) ≡ b)
-  bit_back true n is = (omega arith, grind (arith, nat_tests))
-  bit_back false n is = (omega arith, grind (arith, nat_tests))
+  bit_back true n is = (omega arith, grind numbers)
+  bit_back false n is = (omega arith, grind numbers)
 
   one_flag : (item : Item) (node : Node) (inside : List Node) → TellsItem pool 5 node inside item
       → (b : Bool) × (item ≡ flag_item b) × (node.number ≡ bit_of b) × (inside ≡ [])
@@ -140,7 +140,7 @@ module _ (level : Level) (pool : List ℕ) (fits : IsBytes pool) where
       let parts : nodes ≡ h.node ∷ h.others = h.nodes_are ∙ ap (λ ns. h.node ∷ (ns ++ h.others)) one.3 in
       let none : h.node.inside ≡ 0 = h.inside_is ∙ ap length one.3 in
       let bit = bit_back one.0 h.node.number one.2 in
-      let is : is_flag place h.node ≡ true = grind (arith, nat_tests, bit.0) in
+      let is : is_flag place h.node ≡ true = grind (numbers, bit.0) in
       let next : next_place place 1 ≡ place + 1 = byte_below (place + 1) (omega arith) in
       let there : place + 1 + count ≡ place + suc count = omega arith in
       record {
@@ -160,7 +160,7 @@ module _ (level : Level) (pool : List ℕ) (fits : IsBytes pool) where
       → count ≤ 8 → length flags ≡ count → flags_in end place count nodes ≡ Ok flags
       → Fits Why (made_flags end place count nodes) (λ bytes. SpellsForm level (flags_form count) bytes (map flag_item flags))
   flags_fit end place count nodes flags few number is =
-      let less : nat_le count 8 ≡ true = grind (arith, nat_tests) in
+      let less : nat_le count 8 ≡ true = grind numbers in
       rw (less, is)
       (ok_fits (flags_bytes flags) (record {
         thing = flags;
@@ -240,7 +240,7 @@ module _ (level : Level) (pool : List ℕ) (fits : IsBytes pool) where
       let next : next_place place (kept_count slot) ≡ place + kept_count slot = byte_below (place + kept_count slot) (omega arith) in
       let more = slots_fit end (place + kept_count slot) slots s.others (drop count nodes) (omega arith) (omega arith) s.least s.left s.rest in
       rw next (both_fits s.one s.others s.items_are s.made
-      (fits_for (λ bad why. behind_long (take count nodes) (sym (take-append-drop count nodes)) why) more))
+      (fits_for (λ bad. behind_long (take count nodes) (sym (take-append-drop count nodes))) more))
 
 -- ---- what is made was meant
 
@@ -249,7 +249,7 @@ module _ (pool : List ℕ) where
 
   module _ (end : ℕ) (node : Node) (inside : List Node) (bytes : List ℕ) (within : node.inside ≡ length inside) where
     low : node.kind < 8 → inside ≡ [] → given_length (node ∷ inside) ≤ length bytes
-    low kind none = given_none node inside (length bytes) (grind (arith, nat_tests)) none
+    low kind none = given_none node inside (length bytes) (grind numbers) none
 
     form_told : (form : Form) → node.kind ≡ kind_of form → made_form pool form end node inside ≡ Ok bytes
         → Told (TellsItem pool (kind_of form) node inside) (node ∷ inside) bytes
@@ -308,9 +308,9 @@ module _ (pool : List ℕ) where
       let left = drop node.inside others in
       let made = made_form pool form (end - length left) node inside in
       let within = fails (nat_lt (length others) node.inside) (if is_field place form node then made else misfit (end - length (node ∷ others))) _ _ h in
-      let size = length-take-le node.inside others (grind (arith, nat_tests)) in
+      let size = length-take-le node.inside others (grind numbers) in
       let is = holds (is_field place form node) made _ _ within.1 in
-      let kind : node.kind ≡ kind_of form = grind (arith, nat_tests) in
+      let kind : node.kind ≡ kind_of form = grind numbers in
       let told = form_told (end - length left) node inside bytes (sym size) form kind is.1 in
       let next : group_size (node ∷ others) ≡ suc node.inside = omega arith in
       let rest : left ≡ drop (group_size (node ∷ others)) (node ∷ others) = ap (λ k. drop k (node ∷ others)) (sym next) in
@@ -320,7 +320,7 @@ module _ (pool : List ℕ) where
         item = told.thing;
         nodes_are = ap (λ (ns : List Node). node ∷ ns) (sym (take-append-drop node.inside others)) ∙ ap (λ ns. node ∷ (inside ++ ns)) rest;
         inside_is = sym size;
-        tells = record { place_is = grind (arith, nat_tests); kind_is = kind; tells = told.means };
+        tells = record { place_is = grind numbers; kind_is = kind; tells = told.means };
         few = omega (arith, given_split node.inside others, ap given_length rest);
       }
 
@@ -355,7 +355,7 @@ module _ (pool : List ℕ) where
       let next : next_place place 1 ≡ place + 1 = byte_below (place + 1) (omega arith) in
       let told = flags_told end (place + 1) count nodes more.0 (omega arith) (ap (λ p. flags_in end p count nodes) (sym next) ∙ more.1) in
       let there : place + suc count ≡ place + 1 + count = omega arith in
-      let few : node.number < 2 = grind (arith, nat_tests) in
+      let few : node.number < 2 = grind numbers in
       subst (λ fs. FlagsTold place (suc count) (node ∷ nodes) fs) (sym more.2) (record {
         number = ap suc told.number;
         means = λ kinds others h. record {
@@ -363,16 +363,16 @@ module _ (pool : List ℕ) where
           inside = [];
           others = nodes;
           nodes_are = refl;
-          inside_is = grind (arith, nat_tests);
+          inside_is = grind numbers;
           means =
               record {
-                place_is = grind (arith, nat_tests);
-                kind_is = grind (arith, nat_tests);
+                place_is = grind numbers;
+                kind_is = grind numbers;
                 tells = (refl, sym (bit_is node.number few), refl);
               };
           rest = told.means kinds others (rw there at h);
         };
-        none = given_past node nodes (grind (arith, nat_tests)) ∙ told.none;
+        none = given_past node nodes (grind numbers) ∙ told.none;
       })
 
   made_ok : (read : Result (List Bool) Refusal) {bytes : List ℕ} → flags_made read ≡ Ok bytes → (flags : List Bool) × (read ≡ Ok flags)

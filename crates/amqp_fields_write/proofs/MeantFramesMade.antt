@@ -1,55 +1,41 @@
 -- What is made of heads and nodes is of frames that they mean, and frames that are meant are made, or the first is refused that is too long.
-use Rattle.std.proofs.Common.{◌≡◌, ℕ, suc, ◌+◌, ◌<◌, ◌≤◌, ◌^◌, ◌==◌, ◌&&◌, Bool, true, false, List, [], ◌∷◌, ◌++◌, length, map, take, drop, Option, Some, None}
-use Rattle.std.proofs.Common.{unwrap_or, Result, Ok, Err, refl, sym, ap, ap₂, subst, ◌∙◌, append_assoc, arith, inl, inr, nat_lt, nat_le, if◌then◌else◌, zero}
-use Rattle.std.specs.Prelude.{is_some}
-use Rattle.std.proofs.lemmas.Bool.{cases_lt}
-use Rattle.std.proofs.lemmas.Bool.Decides.{nat_tests}
-use Rattle.std.proofs.lemmas.List.{length-map}
-use Rattle.amqp_types.specs.Levels.{Level, plain}
-use Rattle.amqp_types.specs.Judging.{IsBytes}
-use Rattle.amqp_types.specs.Numbers.{bytes1, bytes2, bytes8, number_bytes}
-use Rattle.amqp_types.specs.Flags.{flag_at}
-use Rattle.amqp_types.specs.Strings.{is_too_long}
-use Rattle.amqp_types.specs.Constants.{protocol_byte, method_byte, header_byte, body_byte, heartbeat_byte, protocol_mark}
-use Rattle.amqp_types.specs.Slots.{Item, number_item, Slot}
-use Rattle.amqp_types.specs.Rows.{slots_at}
-use Rattle.amqp_types.specs.Methods.{Method, method}
-use Rattle.amqp_types.specs.MethodSpelling.{SpellsPayload}
-use Rattle.amqp_types.specs.Properties.{Property, later_properties, properties}
-use Rattle.amqp_types.specs.PropertyBytes.{mask_of}
-use Rattle.amqp_types.specs.PropertySpelling.{SpellsProperties, SpellsSet}
-use Rattle.amqp_types.specs.ContentHeaders.{ContentHeader, SpellsContentHeader, header_of_parts, header_slots}
-use Rattle.amqp_types.specs.SlotSpelling.{SpellsSlots}
+use Rattle.amqp_fields_write.proofs
+use Rattle.amqp_fields_write.specs
+use Rattle.amqp_types.specs as types
+use proofs.Names.{◌≡◌, ℕ, suc, ◌+◌, ◌<◌, ◌≤◌, ◌^◌, ◌==◌, ◌&&◌, Bool, true, false, List, [], ◌∷◌, ◌++◌, length, map, take, drop, Option, Some, None, unwrap_or}
+use proofs.Names.{Result, Ok, Err, refl, sym, ap, ap₂, subst, ◌∙◌, append_assoc, arith, inl, inr, nat_lt, nat_le, if◌then◌else◌, zero, is_some, cases_lt}
+use proofs.Names.{numbers, length-map, Level, plain, IsBytes, bytes1, bytes2, bytes8, number_bytes, flag_at, is_too_long, protocol_byte, protocol_mark}
+use proofs.Names.{slots_at, mask_of, IsFramed, IsWithin, Spells, SpellsFrames, framed, proto, Node, WriteError, next_place, version_slots, group_size, is_next}
+use proofs.Names.{made_field, made_properties, made_set, made_slots, set_at, at_head, given_length, made_frames, AreNodes, IsSpan, byte_below}
+use proofs.Names.given
+use proofs.Names.failures
+use types.Constants.{method_byte, header_byte, body_byte, heartbeat_byte}
+use types.Slots.{Item, number_item, Slot}
+use types.Methods.{Method, method}
+use types.MethodSpelling.{SpellsPayload}
+use types.Properties.{Property, later_properties, properties}
+use types.PropertySpelling.{SpellsProperties, SpellsSet}
+use types.ContentHeaders.{ContentHeader, SpellsContentHeader, header_of_parts, header_slots}
+use types.SlotSpelling.{SpellsSlots}
 use Rattle.amqp_laws.proofs.Masks.{IsMaskOf, flags_mask, flags_mask_is, mask_of-flags, set_flags}
 use Rattle.amqp_laws.proofs.MethodLaws.{in_table}
 use Rattle.amqp_laws.proofs.SlotLaws.{slots_lawful}
 use Rattle.amqp_laws.proofs.SlotsHeld.{slots_held}
-use Rattle.amqp_types.specs.SlotBytes.{form_bytes, slots_bytes}
-use Rattle.amqp_fields_write.proofs.MadeOfParts.{mod_small, Parts, after_ok, either, fails, holds, ok_is}
+use types.SlotBytes.{form_bytes, slots_bytes}
+use proofs.MadeOfParts.{mod_small, Parts, after_ok, either, fails, holds, ok_is}
 use Rattle.amqp_wire.specs.Frames.{Frame, Proto, Meth, Head, Body, Beat, BadBeat}
-use Rattle.amqp_wire.specs.Spelling.{IsFramed, IsWithin, Spells, SpellsFrames, framed, proto}
 use Rattle.amqp_wire.proofs.Sizes.{framed_length}
-use Rattle.amqp_fields.specs.declared.head.Head as given
-use Rattle.amqp_fields.specs.declared.node.Node.{Node}
-use Rattle.amqp_fields_write.specs.declared.refusals.WriteError.{WriteError}
-use Rattle.amqp_fields_write.specs.declared.refusals.WriteError.TheVariants as failures
-use Rattle.amqp_fields.specs.Listed.{next_place, version_slots}
-use Rattle.amqp_fields_write.specs.Made.{Made, after, misfit_head, span_in}
-use Rattle.amqp_fields_write.specs.MadeFields.{group_size, is_next, made_field, made_properties, made_set, made_slots, set_at}
-use Rattle.amqp_fields_write.specs.MadeFrames.{are_beyond, at_head, given_length, has_no_ids, header_front, is_held, made_around}
-use Rattle.amqp_fields_write.specs.MadeFrames.{made_beat, made_body, made_bytes}
-use Rattle.amqp_fields_write.specs.MadeFrames.{made_frame, made_frames, made_header, made_known, made_method, made_own, made_payload, made_typed, made_version}
-use Rattle.amqp_fields_write.specs.MadeFrames.{nodes_in}
-use Rattle.amqp_fields_write.specs.Making.{RefusesFirst, RefusesHead, RefusesLong, SpellsPayloadOf, Suits, made_whole}
-use Rattle.amqp_fields.specs.Meaning.{AreNodes, IsSpan, fields_from, fields_of, kinds_in, set_fields}
-use Rattle.amqp_fields_write.specs.Meant.{HasNoIds, TellFrames, TellsField, TellsFields, TellsFrame, TellsTyped, TellsItem}
-use Rattle.amqp_fields_write.proofs.Ordered.{lawful_at, beat_at, from_tidy, InOrder, each_with, order_taken}
+use specs.Made.{Made, after, misfit_head, span_in}
+use specs.MadeFrames.{are_beyond, has_no_ids, header_front, is_held, made_around, made_beat, made_body, made_bytes, made_frame, made_header, made_known}
+use specs.MadeFrames.{made_method, made_own, made_payload, made_typed, made_version, nodes_in}
+use specs.Making.{RefusesFirst, RefusesHead, RefusesLong, SpellsPayloadOf, Suits, made_whole}
+use Rattle.amqp_fields.specs.Meaning.{fields_from, fields_of, kinds_in, set_fields}
+use specs.Meant.{HasNoIds, TellFrames, TellsField, TellsFields, TellsFrame, TellsTyped, TellsItem}
+use proofs.Ordered.{lawful_at, beat_at, from_tidy, InOrder, each_with, order_taken}
 use Rattle.amqp_fields.proofs.PayloadsFound.{few_fields, few_spare, fourteen}
-use Rattle.amqp_fields.proofs.Spans.{byte_below}
-use Rattle.amqp_fields_write.proofs.MeantValuesMade.{Fits, IsLongBy, after_fits, as_fits, behind_long, both_fits, both_spelled}
-use Rattle.amqp_fields_write.proofs.MeantValuesMade.{fits_for, fits_into, ok_fits, Told}
-use Rattle.amqp_fields_write.proofs.FramesMade.{header_parts, method_parts, version_parts}
-use Rattle.amqp_fields_write.proofs.MeantFieldsMade.{told_group, IsOne, Means, field_fits, none_fits, slots_fit, field_told, none_given, none_left, slots_told}
+use proofs.MeantValuesMade.{Fits, IsLongBy, after_fits, as_fits, behind_long, both_fits, both_spelled, fits_for, fits_into, ok_fits, Told}
+use proofs.FramesMade.{header_parts, method_parts, version_parts}
+use proofs.MeantFieldsMade.{told_group, IsOne, Means, field_fits, none_fits, slots_fit, field_told, none_given, none_left, slots_told}
 
 -- ---- properties
 
@@ -79,7 +65,7 @@ module _ (level : Level) (pool : List ℕ) (fits : IsBytes pool) where
       → before < place → AreNodes (Means level pool) (set_fields place ps options) nodes → is_next before nodes ≡ false
   later_place before place (p ∷ ps) (None ∷ options) nodes less h = later_place before (place + 1) ps options nodes (omega arith) h
   later_place before place (p ∷ ps) (Some item ∷ options) nodes less h =
-      let other : (h.node.place == before) ≡ false = grind (arith, nat_tests) in
+      let other : (h.node.place == before) ≡ false = grind numbers in
       ap (is_next before) h.nodes_are ∙ other
   later_place before place ps options nodes less h = ap (is_next before) h
 
@@ -107,7 +93,7 @@ module _ (level : Level) (pool : List ℕ) (fits : IsBytes pool) where
   set_fit end place (p ∷ ps) (Some item ∷ options) nodes room one number h =
       let found =
       field_fits level pool fits end place p.form item nodes (λ others. AreNodes (Means level pool) (set_fields (place + 1) ps options) others) one.0 h in
-      let first : (h.node.place == place) ≡ true = grind (arith, nat_tests) in
+      let first : (h.node.place == place) ≡ true = grind numbers in
       let on : is_next place nodes ≡ true = ap (is_next place) h.nodes_are ∙ first in
       let next : next_place place 1 ≡ place + 1 = byte_below (place + 1) (omega arith) in
       let more = set_fit end (place + 1) ps options h.others (omega arith) one.1 (omega arith) h.rest in
@@ -117,7 +103,7 @@ module _ (level : Level) (pool : List ℕ) (fits : IsBytes pool) where
             let bit : flag_at mask p.bit ≡ true = cc in
             rw (on, next, ← found.1) (both_fits (Some item) options refl
             (fits_into (λ bytes spelled. rw bit (record { thing = item ∷ []; spelled = spelled; made = refl })) found.0)
-            (fits_for (λ bad why. behind_long (h.node ∷ h.inside) h.nodes_are why) (more.made mask cc)));
+            (fits_for (λ bad. behind_long (h.node ∷ h.inside) h.nodes_are) (more.made mask cc)));
       }
   set_fit end place ps options nodes room one number h = absurd (omega arith)
 
@@ -154,7 +140,7 @@ module _ (level : Level) (pool : List ℕ) (fits : IsBytes pool) where
     fields_mean frame h = each_with level pool (TellsField pool) (fields_of frame) own (order_taken level pool nodes head.first head.nodes order) h.fields
 
     own_are : head.first + head.nodes ≤ length nodes → nodes_in nodes head ≡ Some own
-    own_are within = let le : nat_le end (length nodes) ≡ true = grind (arith, nat_tests) in rw le
+    own_are within = let le : nat_le end (length nodes) ≡ true = grind numbers in rw le
 
     method_fits : (channel : ℕ) (m : Method) → TellsTyped pool nodes head (Meth channel m)
         → Own (made_method pool nodes head) (λ bytes. SpellsPayload level bytes m)
@@ -196,7 +182,7 @@ module _ (level : Level) (pool : List ℕ) (fits : IsBytes pool) where
 
     -- neither ids nor nodes
     bare : HasNoIds head → head.nodes ≡ 0 → (has_no_ids head && (head.nodes == 0)) ≡ true
-    bare free none = grind (arith, nat_tests)
+    bare free none = grind numbers
 
     -- ---- protocol headers
 
@@ -208,7 +194,7 @@ module _ (level : Level) (pool : List ℕ) (fits : IsBytes pool) where
         let f = h.3.fields in
         let three : slots_bytes version_slots items ≡ major ∷ minor ∷ revision ∷ [] =
         rw (mod_small bytes1 major f.means.tells.0, mod_small bytes1 minor f.rest.means.tells.0, mod_small bytes1 revision f.rest.rest.means.tells.0) in
-        as_fits (version_parts pool nodes own head end (own_are h.3.within) refl (grind (arith, nat_tests)) h.1)
+        as_fits (version_parts pool nodes own head end (own_are h.3.within) refl (grind numbers) h.1)
         (after_fits {P = λ bytes. bytes ≡ protocol_byte ∷ protocol_mark}
         (λ a b p q. ap₂ (λ x y. x ++ y) p ((slots_lawful version_slots refl).strict_is_canonical b items q ∙ three))
         (ok_fits (protocol_byte ∷ protocol_mark) refl)
@@ -230,10 +216,10 @@ module _ (level : Level) (pool : List ℕ) (fits : IsBytes pool) where
       unfolding made_typed
       around frame made {P} other is into h = elim (cases_lt m (given_length own)) [
         | inl large ↦
-            let beyond : are_beyond m nodes head ≡ true = grind (arith, nat_tests) in
+            let beyond : are_beyond m nodes head ≡ true = grind numbers in
             rw (other, beyond) (record { suits = inr (inr (record { large = large; index_is = refl; because_is = refl })) })
         | inr small ↦
-            let beyond : are_beyond m nodes head ≡ false = grind (arith, nat_tests) in
+            let beyond : are_beyond m nodes head ≡ false = grind numbers in
             rw (other, beyond) (by made is h)
       ]
         where
@@ -243,15 +229,15 @@ module _ (level : Level) (pool : List ℕ) (fits : IsBytes pool) where
               let one = into payload h.suits in
               elim (cases_lt m (length payload)) [
                 | inl large ↦
-                    let test : nat_lt m (length payload) ≡ true = grind (arith, nat_tests) in
+                    let test : nat_lt m (length payload) ≡ true = grind numbers in
                     rw (is, test) (record {
                       suits =
                           inr (inl (record { index_is = refl; because_is = refl; payload = payload; made_is = is; spelled = one.0; large = large }));
                     })
                 | inr small ↦
-                    let test : nat_lt m (length payload) ≡ false = grind (arith, nat_tests) in
+                    let test : nat_lt m (length payload) ≡ false = grind numbers in
                     rw (is, test) (ok_fits (framed head.frame_type head.channel payload) (
-                      one.1 _ (record { channel_fits = grind (arith, nat_tests); length_fits = omega arith; bytes_are = refl }),
+                      one.1 _ (record { channel_fits = grind numbers; length_fits = omega arith; bytes_are = refl }),
                       omega (arith, framed_length head.frame_type head.channel payload),
                     ))
               ]
@@ -260,7 +246,7 @@ module _ (level : Level) (pool : List ℕ) (fits : IsBytes pool) where
       unfolding made_typed made_payload made_body made_beat
       typed_fits (Proto major minor revision) h =
           let is : made_typed pool nodes m head ≡ made_version pool nodes head = rw h.0 in
-          as_fits is (fits_into (λ bytes is. (is, omega (arith, ap length is))) (fits_for (λ bad why. inl why) (version_fits major minor revision h)))
+          as_fits is (fits_into (λ bytes is. (is, omega (arith, ap length is))) (fits_for (λ bad. inl) (version_fits major minor revision h)))
       typed_fits (Meth channel meth) h =
           around (Meth channel meth) (made_method pool nodes head) (rw h.0) (rw h.0)
           (λ payload spelled. (spelled, λ bytes is. record { payload = payload; is_framed = rw (h.0, h.1) at is; spelled = spelled }))
@@ -268,11 +254,11 @@ module _ (level : Level) (pool : List ℕ) (fits : IsBytes pool) where
       typed_fits (Head channel header) h =
           around (Head channel header) (made_header pool nodes head) (rw h.0) (rw h.0)
           (λ payload spelled. (spelled, λ bytes is. record { payload = payload; is_framed = rw (h.0, h.1) at is; spelled = spelled }))
-          (header_fits channel header (grind (arith, nat_tests)) (grind (arith, nat_tests)) h)
+          (header_fits channel header (grind numbers) (grind numbers) h)
       typed_fits (Body channel content) h =
           around (Body channel content) (made_body pool head) (rw h.0) (rw h.0)
           (λ payload same. (same, λ bytes is. rw (h.0, h.1, same) at is))
-          (let within : nat_le (head.start + head.length) (length pool) ≡ true = grind (arith, nat_tests) in
+          (let within : nat_le (head.start + head.length) (length pool) ≡ true = grind numbers in
           rw (bare h.2 h.3, within) (ok_fits (take head.length (drop head.start pool)) h.4.bytes_are))
       typed_fits Beat h =
           around Beat (made_beat head) (rw h.0) (rw h.0)
@@ -296,9 +282,9 @@ module _ (level : Level) (pool : List ℕ) (fits : IsBytes pool) where
   pub at_suits : (nodes : List Node) (made : Made) (P : List ℕ → Type 0)
       → Fits (IsLongBy plain pool (length nodes) nodes) made P → Suits (RefusesLong P pool nodes) (at_head 0 (made_whole made)) P
   at_suits nodes (Ok bytes) P h = elim (cases_lt (length bytes) (2 ^ 32)) [
-    | inl few ↦ let test : is_too_long bytes ≡ false = grind (arith, nat_tests) in rw test h.suits
+    | inl few ↦ let test : is_too_long bytes ≡ false = grind numbers in rw test h.suits
     | inr long ↦
-        let test : is_too_long bytes ≡ true = grind (arith, nat_tests) in
+        let test : is_too_long bytes ≡ true = grind numbers in
         rw test (refl, inr (record { content = bytes; spelled = h.suits; long = long; index_is = refl; because_is = refl }))
   ]
   at_suits nodes (Err bad) P h = (refl, inl h.suits)
@@ -361,8 +347,12 @@ pub at_ok : (k : ℕ) (made : Made) (bytes : List ℕ) → at_head k made ≡ Ok
 at_ok k (Ok made) bytes h = let same : made ≡ bytes = cc in ap Ok same
 at_ok k (Err bad) bytes h = absurd cc
 
-around_ok : (m : ℕ) (head : given.Head) (made : Made) {bytes : List ℕ} → made_around m head made ≡ Ok bytes → (payload : List ℕ) × (made ≡ Ok payload)
-around_ok m head (Ok payload) h = (payload, refl)
+-- what is made around a payload is such a frame
+pub around_ok : (m : ℕ) (head : given.Head) (made : Made) {bytes : List ℕ} → made_around m head made ≡ Ok bytes
+    → (payload : List ℕ) × (made ≡ Ok payload) × (length payload ≤ m) × (bytes ≡ framed head.frame_type head.channel payload)
+around_ok m head (Ok payload) h =
+    let found = fails (nat_lt m (length payload)) _ _ _ h in
+    (payload, refl, grind (numbers, found.0), ok_is found.1)
 around_ok m head (Err bad) h = absurd cc
 
 module _ (pool : List ℕ) where
@@ -404,26 +394,32 @@ module _ (pool : List ℕ) where
       record { thing = set.thing; means = set.means; few = omega arith }
 
   module _ (nodes : List Node) (head : given.Head) where
+    abbrev mine : List Node
+    mine = take head.nodes (drop head.first nodes)
+
+    abbrev last : ℕ
+    last = head.first + head.nodes
+
     -- what the head means, with its own nodes
     abbrev Typed : List ℕ → Type 0
-    Typed bytes = Told (TellsTyped pool nodes head) (take head.nodes (drop head.first nodes)) bytes
+    Typed bytes = Told (TellsTyped pool nodes head) mine bytes
 
     -- what is made of its nodes behind other bytes, where a test holds
     own_parts : (test : Bool) (first : List ℕ) (rest : List Node → Made) {bytes : List ℕ}
         → (if test then made_own (λ own. after (Ok first) (rest own)) (nodes_in nodes head) else misfit_head) ≡ Ok bytes
-        → (test ≡ true) × (head.first + head.nodes ≤ length nodes) × Parts (Ok first) (rest (take head.nodes (drop head.first nodes))) bytes
+        → (test ≡ true) × (last ≤ length nodes) × Parts (Ok first) (rest mine) bytes
     own_parts test first rest {bytes} h =
         let make : List Node → Made = λ own. after (Ok first) (rest own) in
         let both = holds test (made_own make (nodes_in nodes head)) _ _ h in
-        elim (cases_lt (length nodes) (head.first + head.nodes)) [
-          | inl beyond ↦ let no : nat_le (head.first + head.nodes) (length nodes) ≡ false = grind (arith, nat_tests) in absurd (let bad = rw no at both.1 in cc)
+        elim (cases_lt (length nodes) last) [
+          | inl beyond ↦ let no : nat_le last (length nodes) ≡ false = grind numbers in absurd (let bad = rw no at both.1 in cc)
           | inr within ↦
-              let le : nat_le (head.first + head.nodes) (length nodes) ≡ true = grind (arith, nat_tests) in
-              (both.0, within, after_ok (Ok first) (rest (take head.nodes (drop head.first nodes))) (rw le at both.1))
+              let le : nat_le last (length nodes) ≡ true = grind numbers in
+              (both.0, within, after_ok (Ok first) (rest mine) (rw le at both.1))
         ]
 
     no_ids : has_no_ids head ≡ true → HasNoIds head
-    no_ids h = (grind (arith, nat_tests), grind (arith, nat_tests), grind (arith, nat_tests))
+    no_ids h = (grind numbers, grind numbers, grind numbers)
 
     -- ---- payloads
 
@@ -431,16 +427,13 @@ module _ (pool : List ℕ) where
     unfolding made_method fields_of
     method_told bytes type h = by (slots_at head.class_id head.method_id) refl h
       where
-        by : (found : Option (List Slot)) → slots_at head.class_id head.method_id ≡ found → made_known pool nodes head found ≡ Ok bytes
-            → Told (TellsTyped pool nodes head) (take head.nodes (drop head.first nodes)) bytes
+        by : (found : Option (List Slot)) → slots_at head.class_id head.method_id ≡ found → made_known pool nodes head found ≡ Ok bytes → Typed bytes
         by None at h = absurd cc
         by (Some slots) at h =
             let class = head.class_id in
             let id = head.method_id in
-            let end = head.first + head.nodes in
-            let mine = take head.nodes (drop head.first nodes) in
-            let made = own_parts (head.body_size == 0) (number_bytes bytes2 class ++ number_bytes bytes2 id) (λ ns. made_slots pool end 0 slots ns) h in
-            let told = slots_told pool end 0 slots mine made.2.behind (omega (arith, few_fields class id slots at)) made.2.second_is in
+            let made = own_parts (head.body_size == 0) (number_bytes bytes2 class ++ number_bytes bytes2 id) (λ ns. made_slots pool last 0 slots ns) h in
+            let told = slots_told pool last 0 slots mine made.2.behind (omega (arith, few_fields class id slots at)) made.2.second_is in
             let kinds : kinds_in slots ≡ kinds_in (unwrap_or (slots_at class id) []) = ap (λ o. kinds_in (unwrap_or o [])) (sym at) in
             record {
               thing = Meth head.channel (method class id told.thing);
@@ -449,7 +442,7 @@ module _ (pool : List ℕ) where
                 refl,
                 refl,
                 refl,
-                grind (arith, nat_tests, made.0),
+                grind (numbers, made.0),
                 record { slots = slots; known = at; number = told.means.0 },
                 record { within = made.1; fields = subst (λ ks. AreNodes (TellsField pool) (fields_from 0 ks told.thing) mine) kinds told.means.1 },
               );
@@ -459,41 +452,38 @@ module _ (pool : List ℕ) where
     header_told : (bytes : List ℕ) → head.frame_type ≡ header_byte → made_header pool nodes head ≡ Ok bytes → Typed bytes
     unfolding made_header fields_of
     header_told bytes type h =
-        let end = head.first + head.nodes in
-        let mine = take head.nodes (drop head.first nodes) in
-        let made = own_parts (head.method_id == 0) (header_front head) (λ ns. made_properties pool end ns) h in
-        let told = properties_told end mine made.2.behind made.2.second_is in
+        let made = own_parts (head.method_id == 0) (header_front head) (λ ns. made_properties pool last ns) h in
+        let told = properties_told last mine made.2.behind made.2.second_is in
         record {
           thing = Head head.channel (header_of_parts (number_item head.class_id ∷ number_item head.body_size ∷ []) told.thing);
-          means = (type, refl, refl, grind (arith, nat_tests, made.0), refl, told.means.0, record { within = made.1; fields = told.means.1 });
+          means = (type, refl, refl, grind (numbers, made.0), refl, told.means.0, record { within = made.1; fields = told.means.1 });
           few = omega (arith, told.few, made.2.size);
         }
 
-    no_given : head.nodes ≡ 0 → (bytes : List ℕ) → given_length (take head.nodes (drop head.first nodes)) ≤ length bytes
-    no_given none bytes = none_given pool (take head.nodes (drop head.first nodes)) (length bytes) (ap (λ k. take k (drop head.first nodes)) none)
+    no_given : head.nodes ≡ 0 → (bytes : List ℕ) → given_length mine ≤ length bytes
+    no_given none bytes = none_given pool mine (length bytes) (ap (λ k. take k (drop head.first nodes)) none)
 
     body_told : (bytes : List ℕ) → head.frame_type ≡ body_byte → made_body pool head ≡ Ok bytes → Typed bytes
     unfolding made_body
     body_told bytes type h =
         let both = holds (has_no_ids head && (head.nodes == 0)) (made_bytes (span_in pool head.start head.length)) _ _ h in
-        let none : head.nodes ≡ 0 = grind (arith, nat_tests) in
+        let none : head.nodes ≡ 0 = grind numbers in
         elim (cases_lt (length pool) (head.start + head.length)) [
-          | inl beyond ↦ let no : nat_le (head.start + head.length) (length pool) ≡ false = grind (arith, nat_tests) in absurd (let bad = rw no at both.1 in cc)
+          | inl beyond ↦ let no : nat_le (head.start + head.length) (length pool) ≡ false = grind numbers in absurd (let bad = rw no at both.1 in cc)
           | inr within ↦
-              let le : nat_le (head.start + head.length) (length pool) ≡ true = grind (arith, nat_tests) in
+              let le : nat_le (head.start + head.length) (length pool) ≡ true = grind numbers in
               let span : IsSpan pool head.start head.length bytes = record { within = within; bytes_are = sym (ok_is (rw le at both.1)) } in
-              record { thing = Body head.channel bytes; means = (type, refl, no_ids (grind (arith, nat_tests)), none, span); few = no_given none bytes }
+              record { thing = Body head.channel bytes; means = (type, refl, no_ids (grind numbers), none, span); few = no_given none bytes }
         ]
 
     beat_told : (bytes : List ℕ) → head.frame_type ≡ heartbeat_byte → made_beat head ≡ Ok bytes → Typed bytes
     unfolding made_beat
     beat_told bytes type h =
         let both = holds (has_no_ids head && (head.nodes == 0)) (Ok []) _ _ h in
-        let none : head.nodes ≡ 0 = grind (arith, nat_tests) in
-        by (no_ids (grind (arith, nat_tests))) none head.channel refl
+        let none : head.nodes ≡ 0 = grind numbers in
+        by (no_ids (grind numbers)) none head.channel refl
       where
-        by : HasNoIds head → head.nodes ≡ 0 → (channel : ℕ) → head.channel ≡ channel
-            → Told (TellsTyped pool nodes head) (take head.nodes (drop head.first nodes)) bytes
+        by : HasNoIds head → head.nodes ≡ 0 → (channel : ℕ) → head.channel ≡ channel → Typed bytes
         by free none zero is = record { thing = Beat; means = (type, is, free, none); few = no_given none bytes }
         by free none (suc k) is = record { thing = BadBeat (suc k); means = (type, is, omega arith, free, none); few = no_given none bytes }
 
@@ -501,14 +491,14 @@ module _ (pool : List ℕ) where
     pub payload_told : (bytes : List ℕ) → made_payload pool nodes head ≡ Ok bytes → Typed bytes
     unfolding made_payload
     payload_told bytes h = elim (either (head.frame_type == method_byte) _ _ h) [
-      | inl one ↦ method_told bytes (grind (arith, nat_tests, one.0)) one.1
+      | inl one ↦ method_told bytes (grind (numbers, one.0)) one.1
       | inr other ↦ elim (either (head.frame_type == header_byte) _ _ other.1) [
-        | inl one ↦ header_told bytes (grind (arith, nat_tests, one.0)) one.1
+        | inl one ↦ header_told bytes (grind (numbers, one.0)) one.1
         | inr other ↦ elim (either (head.frame_type == body_byte) _ _ other.1) [
-          | inl one ↦ body_told bytes (grind (arith, nat_tests, one.0)) one.1
+          | inl one ↦ body_told bytes (grind (numbers, one.0)) one.1
           | inr other ↦
               let one = holds (head.frame_type == heartbeat_byte) (made_beat head) _ _ other.1 in
-              beat_told bytes (grind (arith, nat_tests, one.0)) one.1
+              beat_told bytes (grind (numbers, one.0)) one.1
         ]
       ]
     ]
@@ -532,17 +522,15 @@ module _ (pool : List ℕ) where
         → (frame : Frame) × TellsTyped pool nodes head frame
     unfolding made_version fields_of
     version_told bytes type h =
-        let end = head.first + head.nodes in
-        let mine = take head.nodes (drop head.first nodes) in
         let made =
-        own_parts (has_no_ids head && (head.channel == 0)) (protocol_byte ∷ protocol_mark) (λ ns. made_slots pool end 0 version_slots ns) h in
-        let told = slots_told pool end 0 version_slots mine made.2.behind (omega arith) made.2.second_is in
+        own_parts (has_no_ids head && (head.channel == 0)) (protocol_byte ∷ protocol_mark) (λ ns. made_slots pool last 0 version_slots ns) h in
+        let told = slots_told pool last 0 version_slots mine made.2.behind (omega arith) made.2.second_is in
         let three = three_told told.thing mine told.means.0 told.means.1 in (
           Proto three.0 three.1 three.2,
           (
             type,
-            grind (arith, nat_tests, made.0),
-            no_ids (grind (arith, nat_tests, made.0)),
+            grind (numbers, made.0),
+            no_ids (grind (numbers, made.0)),
             record { within = made.1; fields = subst (λ xs. AreNodes (TellsField pool) (fields_from 0 (kinds_in version_slots) xs) mine) three.3 told.means.1 },
           ),
         )
@@ -552,7 +540,7 @@ module _ (pool : List ℕ) where
     typed_told : (m : ℕ) (bytes : List ℕ) → made_typed pool nodes m head ≡ Ok bytes → (frame : Frame) × TellsTyped pool nodes head frame
     unfolding made_typed
     typed_told m bytes h = elim (either (head.frame_type == protocol_byte) _ _ h) [
-      | inl version ↦ version_told bytes (grind (arith, nat_tests, version.0)) version.1
+      | inl version ↦ version_told bytes (grind (numbers, version.0)) version.1
       | inr other ↦
           let around = made_around m head (made_payload pool nodes head) in
           let made = around_ok m head (made_payload pool nodes head) (fails (are_beyond m nodes head) around _ _ other.1).1 in
@@ -577,3 +565,8 @@ module _ (pool : List ℕ) where
       let first = frame_told nodes head m parts.front (at_ok k (made_frame pool nodes m head) parts.front parts.first_is) in
       let rest = frames_told nodes m (k + 1) heads parts.behind parts.second_is in
       (first.0 ∷ rest.0, (first.1, rest.1))
+
+-- contents that the nodes of a head have in the pool as bytes are no longer than the payload that is made
+pub given_within : (pool : List ℕ) (nodes : List Node) (head : given.Head) (bytes : List ℕ) → made_payload pool nodes head ≡ Ok bytes
+    → given_length (take head.nodes (drop head.first nodes)) ≤ length bytes
+given_within pool nodes head bytes h = (payload_told pool nodes head bytes h).few

@@ -1,56 +1,57 @@
 -- What is made of the nodes of values is of values that they mean, and values that are meant are made, unless a content is too long.
-use Rattle.std.proofs.Common.{◌≡◌, ℕ, zero, suc, ◌+◌, ◌-◌, ◌<◌, ◌^◌, ◌%◌, inl, inr, ℤ, Bool, true, false, List, [], ◌∷◌, ◌++◌, length, Some, None, Ok, Err}
-use Rattle.std.proofs.Common.{refl, sym, ap, subst, ◌∙◌, ◌≤◌, ◌⊎◌, append_assoc, append-nil, arith, nat_lt, nat_le, Option, ◌==◌, take, drop}
-use Rattle.std.proofs.lemmas.Bool.{cases_lt}
-use Rattle.std.proofs.lemmas.Bool.Decides.{nat_tests}
-use Rattle.std.proofs.lemmas.Int.{of_z-to_z}
-use Rattle.std.proofs.lemmas.List.{length-append, length-drop, length-take-le, take-append-drop}
+use Rattle.amqp_fields_write.proofs
+use Rattle.amqp_fields_write.specs
+use Rattle.amqp_types.specs as types
+use proofs.Names.{◌≡◌, ℕ, zero, suc, ◌+◌, ◌-◌, ◌<◌, ◌^◌, ◌%◌, inl, inr, ℤ, Bool, true, false, List, [], ◌∷◌, ◌++◌, length, Some, None, Ok, Err, refl, sym, ap}
+use proofs.Names.{subst, ◌∙◌, ◌≤◌, ◌⊎◌, append_assoc, append-nil, arith, nat_lt, nat_le, Option, ◌==◌, take, drop, cases_lt, numbers, of_z-to_z, length-append}
+use proofs.Names.{length-drop, length-take-le, take-append-drop, IsUtf8, Level, IsBytes, Judge, NumberWidth, bytes1, bytes2, bytes4, bytes8, number_bytes}
+use proofs.Names.{number_limit, width_of, SpellsNumber, SpellsBoolean, bit_of, is_too_long, settled, tag_at, tag_byte, tag_of, FieldTag, Node, Refusal}
+use proofs.Names.{StandsFirst, AreNodes, IsSpan, given_length, is_given}
+use proofs.Names.tag
+use proofs.Names.whys
 use Rattle.std.proofs.lemmas.Str.{is_utf8-from_IsUtf8}
 use Rattle.std.specs.Int.{w64, cast_signed, cast_unsigned}
-use Rattle.std.specs.Str.{IsUtf8}
-use Rattle.amqp_types.specs.Levels.{Level}
-use Rattle.amqp_types.specs.Judging.{IsBytes, Judge}
-use Rattle.amqp_types.specs.Numbers.{NumberWidth, bytes1, bytes2, bytes4, bytes8, number_bytes, number_limit, width_of, SpellsNumber}
-use Rattle.amqp_types.specs.Booleans.{SpellsBoolean}
-use Rattle.amqp_types.specs.Sequences.{SpellsBoth}
-use Rattle.amqp_types.specs.Signed.{SpellsSigned}
-use Rattle.amqp_types.specs.Flags.{bit_of}
-use Rattle.amqp_types.specs.Strings.{short_string_bytes, with_length, is_too_long, SpellsLongString, SpellsShortString}
-use Rattle.amqp_types.specs.Settling.{settled}
-use Rattle.amqp_types.specs.Tags.{tag_at, tag_byte, tag_of}
-use Rattle.amqp_types.specs.Values.{FieldValue, Entry, SignedKind, UnsignedKind, BytesKind, short_short_int, short_int, long_int, long_long_int}
-use Rattle.amqp_types.specs.Values.{short_short_uint, short_uint, long_uint, float, double, timestamp, long_string, byte_array, boolean_value, signed_value}
-use Rattle.amqp_types.specs.Values.{unsigned_value, decimal_value, bytes_value, array_value, table_value, void_value, items, pairs, values_of, entries_of}
-use Rattle.amqp_types.specs.ValueBytes.{signed_width, unsigned_width}
-use Rattle.amqp_types.specs.ValueJudging.{filled, judge_entry, judge_value}
-use Rattle.amqp_types.specs.ValueSpelling.{SpellsArray, SpellsBehind, SpellsEach, SpellsEntry, SpellsTable, SpellsTagged, SpellsValue}
-use Rattle.amqp_types.specs.declared.tag.FieldTag.{FieldTag}
-use Rattle.amqp_types.specs.declared.tag.FieldTag.TheVariants as tag
+use types.Sequences.{SpellsBoth}
+use types.Signed.{SpellsSigned}
+use types.Strings.{short_string_bytes, with_length, SpellsLongString, SpellsShortString}
+use types.Values.{FieldValue, Entry, SignedKind, UnsignedKind, BytesKind, short_short_int, short_int, long_int, long_long_int, short_short_uint, short_uint}
+use types.Values.{long_uint, float, double, timestamp, long_string, byte_array, boolean_value, signed_value, unsigned_value, decimal_value, bytes_value}
+use types.Values.{array_value, table_value, void_value, items, pairs, values_of, entries_of}
+use types.ValueBytes.{signed_width, unsigned_width}
+use types.ValueJudging.{filled, judge_entry, judge_value}
+use types.ValueSpelling.{SpellsArray, SpellsBehind, SpellsEach, SpellsEntry, SpellsTable, SpellsTagged, SpellsValue}
 use Rattle.amqp_laws.proofs.Settling.{settles}
 use Rattle.amqp_laws.proofs.Tags.{tag_read}
-use Rattle.amqp_fields.specs.declared.node.Node.{Node}
-use Rattle.amqp_fields_write.specs.declared.refusals.Refusal.{Refusal}
-use Rattle.amqp_fields_write.specs.declared.refusals.WriteRefusal.{WriteRefusal}
-use Rattle.amqp_fields_write.specs.declared.refusals.WriteRefusal.TheVariants as whys
-use Rattle.amqp_fields_write.specs.Canonical.{IsTableKind}
-use Rattle.amqp_fields.specs.Nodes.{StandsFirst}
-use Rattle.amqp_fields_write.specs.Made.{Made, Maker, Nested, after, closed, is_signed, made_alone, made_array, made_behind, made_each, made_entry, made_given}
-use Rattle.amqp_fields_write.specs.Made.{made_items, made_leaf, made_long, made_nested, made_number, made_signed, made_span, made_table, made_truth, made_text}
-use Rattle.amqp_fields_write.specs.Made.{made_value, nested_array, nested_table, own_index, refusal, span_in, made_known, made_tagged}
-use Rattle.amqp_fields_write.specs.Making.{HoldsBytes, IsLongIn, Suits}
-use Rattle.amqp_fields.specs.Meaning.{AreNodes, IsSpan}
-use Rattle.amqp_fields_write.specs.Meant.{Holds, IsSigned, Tells, TellsAt, TellsEntry, TellsValue}
-use Rattle.amqp_fields_write.proofs.Ordered.{tag_at_level, truth_at, InOrder, Ordered, With, array_given, each_with, entries_once, order_inside, table_given}
-use Rattle.amqp_fields_write.proofs.EachMade.{each_next, each_none}
-use Rattle.amqp_fields_write.proofs.SignedNumbers.{signed_bits, signed_back}
-use Rattle.amqp_fields_write.proofs.ValuesMade.{value_parts}
-use Rattle.amqp_fields_write.proofs.ValuesTold.{HoldsValues, TellsTable}
-use Rattle.amqp_fields_write.proofs.MadeOfParts.{mod_small, after_ok, alone_ok, closed_ok, fails, given_most, given_none, given_ok}
-use Rattle.amqp_fields_write.proofs.MadeOfParts.{given_past, given_split, holds}
-use Rattle.amqp_fields_write.proofs.MadeOfParts.{if_ok, number_ok, span_ok, text_ok}
+use specs.declared.refusals.WriteRefusal.{WriteRefusal}
+use specs.Canonical.{IsTableKind}
+use specs.Made.{Made, Maker, Nested, after, closed, is_signed, made_alone, made_array, made_behind, made_each, made_entry, made_given, made_items, made_leaf}
+use specs.Made.{made_long, made_nested, made_number, made_signed, made_span, made_table, made_truth, made_text, made_value, nested_array, nested_table}
+use specs.Made.{own_index, refusal, span_in, made_known, made_tagged}
+use specs.Making.{HoldsBytes, IsLongIn, Suits}
+use specs.Meant.{Holds, IsSigned, Tells, TellsAt, TellsEntry, TellsValue, HoldsTable}
+use proofs.Ordered.{tag_at_level, truth_at, InOrder, Ordered, With, array_given, each_with, entries_once, order_inside, table_given}
+use proofs.ValuesMade.{each_next, each_none, value_parts}
+use proofs.SignedNumbers.{signed_bits, signed_back}
+use proofs.MadeOfParts.{mod_small, after_ok, alone_ok, closed_ok, fails, given_most, given_none, given_ok, given_past, given_split, holds, if_ok, number_ok}
+use proofs.MadeOfParts.{span_ok, text_ok}
 use Rattle.amqp_laws.proofs.Conversions.{items-values_of, pairs-entries_of}
-use Rattle.amqp_fields_write.specs.MadeFrames.{given_length, is_given}
-use Rattle.amqp_fields_write.proofs.FieldsMade.{bit_is}
+use proofs.FieldsMade.{bit_is}
+
+-- ---- what arrays and tables hold
+
+-- the values that an array holds
+abbrev pub HoldsValues : ℕ → List ℕ → Node → List Node → List FieldValue → Type 0
+HoldsValues depth_left pool node inside values =
+    Holds (judge_value depth_left) (λ vs nodes. AreNodes (TellsValue depth_left pool) vs nodes) pool node inside values
+
+-- the entries that a table holds
+abbrev pub HoldsEntries : ℕ → List ℕ → Node → List Node → List Entry → Type 0
+HoldsEntries depth_left pool node inside entries =
+    Holds (judge_entry (judge_value depth_left)) (λ es nodes. AreNodes (TellsEntry (TellsValue depth_left pool) pool) es nodes) pool node inside entries
+
+-- a table
+abbrev pub TellsTable : ℕ → List ℕ → Node → List Node → List Entry → Type 0
+TellsTable depth_left pool node inside table = HoldsTable (HoldsEntries depth_left pool node inside) table
 
 -- ---- parts
 
@@ -91,7 +92,7 @@ module _ {Why : Refusal → Type 0} {P : List ℕ → Type 0} where
   pub span_fits_in : {pool content : List ℕ} {start count : ℕ} (make : List ℕ → Made) (node : ℕ)
       → IsSpan pool start count content → Fits Why (make content) P → Fits Why (made_span make node (span_in pool start count)) P
   span_fits_in {pool = pool} {start = start} {count = count} make node h made =
-      let within : nat_le (start + count) (length pool) ≡ true = grind (arith, nat_tests) in
+      let within : nat_le (start + count) (length pool) ≡ true = grind numbers in
       rw (within, h.bytes_are) made
 
 module _ {A B C : Type 0} {First : List ℕ → A → Type 0} {Second : List ℕ → B → Type 0} {join : A → B → C} {z : C} (x : A) (y : B) (is : z ≡ join x y) where
@@ -109,7 +110,7 @@ module _ {Why : Refusal → Type 0} where
   pub number_fits : {number n : ℕ} (width : NumberWidth) (node : ℕ) → number ≡ n → n < number_limit width
       → Fits Why (made_number width node number) (λ bytes. SpellsNumber width bytes n)
   number_fits {number = number} {n = n} width node is few =
-      let less : nat_lt n (number_limit width) ≡ true = grind (arith, nat_tests) in
+      let less : nat_lt n (number_limit width) ≡ true = grind numbers in
       rw (is, less, mod_small width n few) (ok_fits (number_bytes width n) (record { fits = few; bytes_are = refl }))
 
   -- a length of 4 bytes and a content, which is refused where they do not hold its length
@@ -117,22 +118,22 @@ module _ {Why : Refusal → Type 0} where
       → Fits Why (made_long node content) (λ bytes. SpellsLongString bytes content)
   long_fits node content long = elim (cases_lt (length content) (2 ^ 32)) [
     | inl few ↦
-        let short : is_too_long content ≡ false = grind (arith, nat_tests) in
+        let short : is_too_long content ≡ false = grind numbers in
         rw short (ok_fits (with_length content) (record { fits = few; bytes_are = refl }))
-    | inr more ↦ let is : is_too_long content ≡ true = grind (arith, nat_tests) in rw is (record { suits = long more })
+    | inr more ↦ let is : is_too_long content ≡ true = grind numbers in rw is (record { suits = long more })
   ]
 
   -- a short string
   pub text_fits : (node : ℕ) (text : List ℕ) → length text < 256 → IsUtf8 text → Fits Why (made_text node text) (λ bytes. SpellsShortString bytes text)
   text_fits node text short valid =
-      let few : nat_lt 255 (length text) ≡ false = grind (arith, nat_tests) in
+      let few : nat_lt 255 (length text) ≡ false = grind numbers in
       rw (few, is_utf8-from_IsUtf8 text valid) (ok_fits (short_string_bytes text) (record { fits = short; utf8 = valid; bytes_are = refl }))
 
   closed_fits : {P Q : List ℕ → Type 0} {made : Made} (node : ℕ)
       → ((content : List ℕ) → P content → 2 ^ 32 ≤ length content → Why (refusal node whys.TooLong))
       → ((content bytes : List ℕ) → P content → SpellsLongString bytes content → Q bytes) → Fits Why made P → Fits Why (closed node made) Q
   closed_fits {made = Ok content} node long into p =
-      fits_into (λ bytes spelled. into content bytes p.suits spelled) (long_fits node content (long content p.suits))
+      fits_into (λ bytes. into content bytes p.suits) (long_fits node content (long content p.suits))
   closed_fits {made = Err bad} node long into p = record { suits = p.suits }
 
 -- ---- which node has a content that is too long
@@ -231,8 +232,8 @@ module _ {A : Type 0} (level : Level) (pool : List ℕ) (make : Maker) (Means : 
           let first : StandsFirst nodes h.node h.inside h.others = record { nodes_are = h.nodes_are; inside_is = h.inside_is } in
           as_fits (each_next make end first)
           (after_fits (λ a b p q. (a, b, refl, p, q))
-          (fits_for (λ bad why. group_long first why) (one (end - length h.others) h.node h.inside x h.means.0 h.means.1))
-          (fits_for (λ bad why. behind_long (h.node ∷ h.inside) h.nodes_are why) (by xs h.others h.rest)))
+          (fits_for (λ bad. group_long first) (one (end - length h.others) h.node h.inside x h.means.0 h.means.1))
+          (fits_for (λ bad. behind_long (h.node ∷ h.inside) h.nodes_are) (by xs h.others h.rest)))
 
   -- what fills a table or an array: content that stands in the pool, or what the nodes inside make
   items_fit : (item : Judge A) (end : ℕ) (node : Node) (inside : List Node) (xs : List A) {Q : List ℕ → Type 0} → Ordered level pool node inside
@@ -246,13 +247,13 @@ module _ {A : Type 0} (level : Level) (pool : List ℕ) (make : Maker) (Means : 
   unfolding made_items
   items_fit item end node [] xs order h given holds made =
       span_fits_in (λ content. made_given (own_index end []) content (filled item 0 content)) _ h.span
-      (rw h.fills (fits_into (λ bytes long. given h.content bytes order h.span h.fills long)
+      (rw h.fills (fits_into (λ bytes. given h.content bytes order h.span h.fills)
       (long_fits _ h.content (own_long level pool end node [] h.content h.span refl))))
   items_fit item end node (first ∷ others) xs order h given holds made =
       closed_fits _
       (λ content each long. inl (record { bad_is = refl; content = content; holds = holds content first others h each; long = long }))
-      (λ content bytes each long. made content bytes h each long)
-      (fits_for (λ bad why. inr why) (each_fits end xs (first ∷ others) (order_inside level pool node (first ∷ others) order.order) h))
+      (λ content bytes. made content bytes h)
+      (fits_for (λ bad. inr) (each_fits end xs (first ∷ others) (order_inside level pool node (first ∷ others) order.order) h))
 
 -- ---- after a tag
 
@@ -421,7 +422,7 @@ module _ {A : Type 0} (make : Maker) (Means : Node → List Node → A → Type 
       let here = take node.inside nodes in
       let left = drop node.inside nodes in
       let within = fails (nat_lt (length nodes) node.inside) (after (make (end - length left) node here) (made_each make end node.inside nodes)) _ _ h in
-      let size = length-take-le node.inside nodes (grind (arith, nat_tests)) in
+      let size = length-take-le node.inside nodes (grind numbers) in
       let parts = after_ok (make (end - length left) node here) (made_each make end node.inside nodes) within.1 in
       let first = one (end - length left) node here parts.front (sym size) parts.first_is in
       let others = each_told end node.inside nodes parts.behind parts.second_is in
@@ -456,16 +457,14 @@ module _ {A : Type 0} (make : Maker) (Means : Node → List Node → A → Type 
   items_told item pool end node (first ∷ others) bytes within h =
       let content = closed_ok _ (made_each make end 0 (first ∷ others)) h in
       let told = each_told end 0 (first ∷ others) content.0 content.1 in
-      let past = given_past node (first ∷ others) (grind (arith, nat_tests)) in
+      let past = given_past node (first ∷ others) (grind numbers) in
       record { thing = told.thing; means = told.means; few = omega arith }
 
 -- ---- after a tag
 
 mod_below : (width : NumberWidth) (n : ℕ) → n % number_limit width < number_limit width
 mod_below bytes1 n = omega arith
-mod_below bytes2 n = omega arith
-mod_below bytes4 n = omega arith
-mod_below bytes8 n = omega arith
+mod_below width n = omega arith
 
 module _ (pool : List ℕ) (nested : Nested) (Array : Node → List Node → List FieldValue → Type 0) (Table : Node → List Node → List Entry → Type 0)
     (array_told : MakesMeant (nested_array pool nested) Array) (table_told : MakesMeant (nested_table pool nested) Table) where
@@ -518,39 +517,39 @@ module _ (pool : List ℕ) (nested : Nested) (Array : Node → List Node → Lis
     behind_told tag.Boolean is h =
         let alone = alone_ok _ (made_truth (own_index end inside) node.number) inside h in
         let test = if_ok _ _ (nat_lt node.number 2) alone.1 in
-        leaf (boolean_value (node.number == 1)) refl (grind (arith, nat_tests)) alone.0
-        (sym (bit_is node.number (grind (arith, nat_tests))), alone.0)
-    behind_told tag.ShortShortInt is h = signed short_short_int (λ n. refl) (grind (arith, nat_tests)) h
-    behind_told tag.ShortShortUInt is h = unsigned short_short_uint (λ n. refl) (grind (arith, nat_tests)) h
-    behind_told tag.ShortInt is h = signed short_int (λ n. refl) (grind (arith, nat_tests)) h
-    behind_told tag.ShortUInt is h = unsigned short_uint (λ n. refl) (grind (arith, nat_tests)) h
-    behind_told tag.LongInt is h = signed long_int (λ n. refl) (grind (arith, nat_tests)) h
-    behind_told tag.LongUInt is h = unsigned long_uint (λ n. refl) (grind (arith, nat_tests)) h
+        leaf (boolean_value (node.number == 1)) refl (grind numbers) alone.0
+        (sym (bit_is node.number (grind numbers)), alone.0)
+    behind_told tag.ShortShortInt is h = signed short_short_int (λ n. refl) (grind numbers) h
+    behind_told tag.ShortShortUInt is h = unsigned short_short_uint (λ n. refl) (grind numbers) h
+    behind_told tag.ShortInt is h = signed short_int (λ n. refl) (grind numbers) h
+    behind_told tag.ShortUInt is h = unsigned short_uint (λ n. refl) (grind numbers) h
+    behind_told tag.LongInt is h = signed long_int (λ n. refl) (grind numbers) h
+    behind_told tag.LongUInt is h = unsigned long_uint (λ n. refl) (grind numbers) h
     behind_told tag.LongLongInt is h =
         let alone = alone_ok _ (made_number bytes8 (own_index end inside) node.number) inside h in
         let few : node.number < 2 ^ 64 = number_ok _ bytes8 node.number alone.1 in
-        signed_of long_long_int (λ n. refl) (grind (arith, nat_tests)) alone.0 (grind (arith, nat_tests))
-    behind_told tag.Float is h = unsigned float (λ n. refl) (grind (arith, nat_tests)) h
-    behind_told tag.Double is h = unsigned double (λ n. refl) (grind (arith, nat_tests)) h
+        signed_of long_long_int (λ n. refl) (grind numbers) alone.0 (grind numbers)
+    behind_told tag.Float is h = unsigned float (λ n. refl) (grind numbers) h
+    behind_told tag.Double is h = unsigned double (λ n. refl) (grind numbers) h
     behind_told tag.DecimalValue is h =
         let scale = made_number bytes1 (own_index end inside) node.scale in
         let number = made_number bytes4 (own_index end inside) node.number in
         let alone = alone_ok _ (after scale number) inside h in
         let parts = after_ok scale number alone.1 in
-        leaf (decimal_value node.scale node.number) refl (grind (arith, nat_tests)) alone.0
+        leaf (decimal_value node.scale node.number) refl (grind numbers) alone.0
         (number_ok _ bytes1 node.scale parts.first_is, number_ok _ bytes4 node.number parts.second_is, refl, refl, alone.0)
-    behind_told tag.LongString is h = text long_string (λ content. refl) (grind (arith, nat_tests)) h
+    behind_told tag.LongString is h = text long_string (λ content. refl) (grind numbers) h
     behind_told tag.FieldArray is h =
         let told = array_told end node inside bytes within h in
         record { thing = array_value (values_of told.thing); means = (refl, rw items-values_of told.means); few = told.few }
-    behind_told tag.Timestamp is h = unsigned timestamp (λ n. refl) (grind (arith, nat_tests)) h
+    behind_told tag.Timestamp is h = unsigned timestamp (λ n. refl) (grind numbers) h
     behind_told tag.FieldTable is h =
         let told = table_told end node inside bytes within h in
         record { thing = table_value (entries_of told.thing); means = (refl, rw pairs-entries_of told.means); few = told.few }
-    behind_told tag.ByteArray is h = text byte_array (λ content. refl) (grind (arith, nat_tests)) h
+    behind_told tag.ByteArray is h = text byte_array (λ content. refl) (grind numbers) h
     behind_told tag.Void is h =
         let alone = alone_ok _ (Ok []) inside h in
-        leaf void_value refl (grind (arith, nat_tests)) alone.0 alone.0
+        leaf void_value refl (grind numbers) alone.0 alone.0
 
   -- a tag and its value
   tagged_told : MakesMeant (made_tagged pool nested)
@@ -564,7 +563,7 @@ module _ (pool : List ℕ) (nested : Nested) (Array : Node → List Node → Lis
       by (Some t) h =
           let behind = made_behind pool nested t end node inside in
           let both = holds (tag_byte t == node.kind) (after (Ok (tag_byte t ∷ [])) behind) _ _ h in
-          let same : tag_byte t ≡ node.kind = grind (arith, nat_tests) in
+          let same : tag_byte t ≡ node.kind = grind numbers in
           let parts = after_ok (Ok (tag_byte t ∷ [])) behind both.1 in
           let told = behind_told end node inside parts.behind within t same parts.second_is in
           record { thing = told.thing; means = (sym same ∙ ap (λ k. tag_byte k) (sym told.means.0), told.means.1); few = omega arith }

@@ -1,23 +1,18 @@
 -- What is encoded at each level: nodes whose keys ascend and whose content is canonical, and content that stands in the pool as bytes.
-use Rattle.std.proofs.Common.{◌≡◌, ℕ, Bool, true, false, List, [], ◌∷◌, inl, arith, ◌++◌, length, take, drop, append_assoc, append-nil, sym, ap, ◌∙◌, zero, suc}
-use Rattle.std.proofs.Common.{◌+◌, ◌≤◌, Ok, refl, subst}
+use Rattle.amqp_fields_write.proofs
+use Rattle.amqp_fields_write.specs
+use Rattle.amqp_types.specs as types
+use proofs.Names.{◌≡◌, ℕ, Bool, true, false, List, [], ◌∷◌, inl, arith, ◌++◌, length, take, drop, append_assoc, append-nil, sym, ap, ◌∙◌, zero, suc, ◌+◌, ◌≤◌}
+use proofs.Names.{Ok, refl, subst, take-append-drop, take_all, Level, plain, tidy, strict, SpellsBoolean, FromTidy, bit_of, IsBytes, IsExact, Judge, took}
+use proofs.Names.{bytes4, number_bytes, IsRising, settled, SpellsTag, tag_byte, tag_of, FieldTag, IsBeatPayload, Node, AreNodes, IsSpan}
+use proofs.Names.tag
 use Rattle.std.specs.Map.{keys_of}
-use Rattle.std.proofs.lemmas.List.{take-append-drop, take_all}
-use Rattle.amqp_types.specs.Levels.{Level, plain, tidy, strict}
-use Rattle.amqp_types.specs.Booleans.{SpellsBoolean}
-use Rattle.amqp_types.specs.Flags.{FromTidy, bit_of}
-use Rattle.amqp_types.specs.FormLaws.{IsLawful}
-use Rattle.amqp_types.specs.Judging.{IsBytes, IsExact, Judge, took}
-use Rattle.amqp_types.specs.Numbers.{bytes4, number_bytes}
-use Rattle.amqp_types.specs.Settling.{IsRising, settled}
-use Rattle.amqp_types.specs.Strings.{judge_long_string, SpellsLongString, with_length}
-use Rattle.amqp_types.specs.Tags.{SpellsTag, tag_byte, tag_of}
-use Rattle.amqp_types.specs.Values.{Entry, FieldValue, array_value, table_value, entries_of, items, pairs, values_of}
-use Rattle.amqp_types.specs.ValueBytes.{tagged_bytes}
-use Rattle.amqp_types.specs.ValueJudging.{filled, judge_array, judge_entry, judge_table, judge_value}
-use Rattle.amqp_types.specs.ValueSpelling.{IfStrict, SpellsArray, SpellsBehind, SpellsEntry, SpellsTable, SpellsTagged, SpellsValue}
-use Rattle.amqp_types.specs.declared.tag.FieldTag.{FieldTag}
-use Rattle.amqp_types.specs.declared.tag.FieldTag.TheVariants as tag
+use types.FormLaws.{IsLawful}
+use types.Strings.{judge_long_string, SpellsLongString, with_length}
+use types.Values.{Entry, FieldValue, array_value, table_value, entries_of, items, values_of}
+use types.ValueBytes.{tagged_bytes}
+use types.ValueJudging.{filled, judge_array, judge_entry, judge_table, judge_value}
+use types.ValueSpelling.{IfStrict, SpellsArray, SpellsBehind, SpellsEntry, SpellsTable, SpellsTagged, SpellsValue}
 use Rattle.amqp_types.proofs.Bytes.{IsBytes-drop, IsBytes-take}
 use Rattle.amqp_types.proofs.Texts.{long_string_exact}
 use Rattle.amqp_laws.proofs.Conversions.{items-values_of, pairs-entries_of}
@@ -25,11 +20,8 @@ use Rattle.amqp_laws.proofs.Exactly.{value_exact, value_some}
 use Rattle.amqp_laws.proofs.Filled.{array_exact, table_exact}
 use Rattle.amqp_laws.proofs.Strictly.{in_order, Into, array_into, each_into, entry_into}
 use Rattle.amqp_laws.proofs.ValueLaws.{values_lawful}
-use Rattle.amqp_wire.specs.Spelling.{IsBeatPayload}
-use Rattle.amqp_fields.specs.declared.node.Node.{Node}
-use Rattle.amqp_fields_write.specs.Canonical.{ContentIsCanonical, EachGroup, EntriesAscend, HasCanonicalContent, HasKey, IsTableKind, KeysAscend}
-use Rattle.amqp_fields.specs.Meaning.{AreNodes, IsSpan}
-use Rattle.amqp_fields_write.specs.Meant.{TellsEntry}
+use specs.Canonical.{ContentIsCanonical, EachGroup, EntriesAscend, HasCanonicalContent, HasKey, IsTableKind, KeysAscend}
+use specs.Meant.{TellsEntry}
 
 -- a rule that holds at all holds from level tidy on
 pub from_tidy : {Rule : Type 0} (level : Level) → Rule → FromTidy level Rule

@@ -1,22 +1,16 @@
 -- Fields and properties of messages, one after another.
-use Rattle.std.proofs.Common.{◌≡◌, ℕ, zero, suc, ◌+◌, ◌-◌, ◌<◌, ◌≤◌, ◌^◌, Bool, true, false, List, [], ◌∷◌, length, map, get_or, drop, Option, Some, None, Ok}
-use Rattle.std.proofs.Common.{refl, sym, ap, ap₂, ◌∙◌, arith, if◌then◌else◌}
-use Rattle.std.proofs.lemmas.Bool.Decides.{nat_tests}
-use Rattle.std.proofs.lemmas.List.{at_drop_all, at_drop_more, drop-map, drop_more, length-drop}
+use Rattle.amqp_fields_write.proofs
+use Rattle.amqp_fields_write.specs
+use proofs.Names.{◌≡◌, ℕ, zero, suc, ◌+◌, ◌-◌, ◌<◌, ◌≤◌, ◌^◌, Bool, true, false, List, [], ◌∷◌, length, map, get_or, drop, Option, Some, None, Ok, refl, sym}
+use proofs.Names.{ap, ap₂, ◌∙◌, arith, if◌then◌else◌, numbers, at_drop_all, at_drop_more, drop-map, drop_more, length-drop, mask_of, worth_of, Slot}
+use proofs.Names.{property_of, slot_of, slots_of, Node, kept_count, next_place, flags_in, group_size, is_next, made_field, made_none, made_set, made_slot}
+use proofs.Names.{made_slots, node_count, set_at, worths, IsFlagsByte}
 use Rattle.amqp_types.specs.Properties.{Property, later_properties, properties}
-use Rattle.amqp_types.specs.PropertyBytes.{mask_of, worth_of}
 use Rattle.amqp_types.specs.Slots.{Item, number_item, table_form}
 use Rattle.amqp_canonical.specs.declared.shapes.Form.{Form}
-use Rattle.amqp_canonical.specs.declared.shapes.Slot.{Slot}
-use Rattle.amqp_canonical.specs.Shapes.{property_of, slot_of, slots_of}
-use Rattle.amqp_fields.specs.declared.node.Node.{Node}
-use Rattle.amqp_fields.specs.Listed.{kept_count, next_place}
-use Rattle.amqp_fields_write.specs.Made.{Made, after, misfit}
-use Rattle.amqp_fields_write.specs.MadeFields.{flags_in, group_size, is_next, made_field, made_none, made_set, made_slot}
-use Rattle.amqp_fields_write.specs.MadeFields.{made_slots, node_count, set_at, worths}
-use Rattle.amqp_fields_write.specs.Makes.{IsFlagsByte}
-use Rattle.amqp_fields_write.specs.Quick.{IsFirst, NoneFirst}
-use Rattle.amqp_fields_write.proofs.FieldsMade.{flags_none, worths_few}
+use specs.Made.{Made, after, misfit}
+use specs.Quick.{IsFirst, NoneFirst}
+use proofs.FieldsMade.{flags_none, worths_few}
 use Rattle.amqp_fields.proofs.PayloadsFound.{fourteen}
 
 -- ---- what is left
@@ -41,9 +35,7 @@ module _ (pool : List ℕ) (end place : ℕ) (shapes : List Slot) (k : ℕ) (nod
       ≡ after (made_slot pool end place (slot_of (get_or shapes k other)) nodes) (made_slots pool end next (slots_of (drop (k + 1) shapes)) rest)
   unfolding made_slots
   slots_next other few at there =
-      at_drop_more (λ (ss : List Slot). made_slots pool end place (slots_of ss) nodes) shapes k other few
-      ∙ ap₂ (λ p ns. after (made_slot pool end place (slot_of (get_or shapes k other)) nodes) (made_slots pool end p (slots_of (drop (k + 1) shapes)) ns))
-      (sym at) (sym there)
+      at_drop_more (λ (ss : List Slot). made_slots pool end place (slots_of ss) nodes) shapes k other few ∙ rw (at, there)
 
   pub no_slots : length shapes ≤ k → made_slots pool end place (slots_of (drop k shapes)) nodes ≡ made_none end nodes
   unfolding made_slots
@@ -64,7 +56,7 @@ bits_from place nodes = mask_of (drop place properties) (set_at place (drop plac
 
 -- the place after one that is no last one
 next_is : (k : ℕ) → k < 254 → next_place k 1 ≡ k + 1
-next_is k few = grind (arith, nat_tests, few)
+next_is k few = grind (numbers, few)
 
 -- a property stands at a place of the list
 below : {k : ℕ} {p : Property} {later : List Property} → drop k properties ≡ p ∷ later → k < 14
@@ -80,11 +72,11 @@ property_found shapes other k all few =
 -- the first of some nodes is at its own place, and at no other one
 pub is_at : (nodes : List Node) (blank : Node) → 1 ≤ length nodes → is_next (get_or nodes 0 blank).place nodes ≡ true
 is_at [] blank some = absurd (omega (arith, some))
-is_at (node ∷ nodes) blank some = grind (arith, nat_tests)
+is_at (node ∷ nodes) blank some = grind numbers
 
 pub not_at : (nodes : List Node) (blank : Node) (at : ℕ) → (0 < length nodes → (get_or nodes 0 blank).place ≡ at → ⊥) → is_next at nodes ≡ false
 not_at [] blank at other = refl
-not_at (node ∷ nodes) blank at other = let differs : node.place ≡ at → ⊥ = other (omega arith) in grind (arith, nat_tests, differs)
+not_at (node ∷ nodes) blank at other = let differs : node.place ≡ at → ⊥ = other (omega arith) in grind (numbers, differs)
 
 -- what is made, and the bits, from one place on are those from another one on
 record Passes (pool : List ℕ) (end place to : ℕ) (nodes : List Node) : Type 0 where
@@ -126,7 +118,7 @@ module _ (pool : List ℕ) (end : ℕ) (nodes : List Node) where
 
   only : {at i : ℕ} (nodes : List Node) → is_next at nodes ≡ true → i < at → is_next i nodes ≡ false
   only [] is less = absurd cc
-  only (node ∷ nodes) is less = grind (arith, nat_tests)
+  only (node ∷ nodes) is less = grind numbers
 
   module _ {place at next : ℕ} {p : Property} {rest : List Node} (h : IsFirst place nodes at p) (next_at : next ≡ next_place at 1)
       (rest_is : rest ≡ drop (group_size nodes) nodes) where
@@ -139,13 +131,12 @@ module _ (pool : List ℕ) (end : ℕ) (nodes : List Node) where
     -- the property of the first node is made, and those after it
     pub set_next : set_from pool end place nodes ≡ after (made_field pool end at p.form nodes) (set_from pool end next rest)
     set_next =
-        before.set ∙ set_by pool end at nodes h.stands h.is
-        ∙ ap₂ (λ k ns. after (made_field pool end at p.form nodes) (set_from pool end k ns)) one (sym rest_is)
+        before.set ∙ set_by pool end at nodes h.stands h.is ∙ rw (one, rest_is)
 
     -- its bit is added
     pub bits_next : bits_from place nodes ≡ 2 ^ p.bit + bits_from next rest
     unfolding mask_of worth_of
-    bits_next = before.bits ∙ bits_by pool end at nodes h.stands h.is ∙ ap₂ (λ k ns. 2 ^ p.bit + bits_from k ns) one (sym rest_is)
+    bits_next = before.bits ∙ bits_by pool end at nodes h.stands h.is ∙ rw (one, rest_is)
 
     -- the places have not come to their end
     pub next_few : next ≤ 14

@@ -1,22 +1,17 @@
 -- What the quick walk makes, by its parts.
-use Rattle.std.proofs.Common.{◌≡◌, subst, ℕ, ◌+◌, ◌-◌, ◌^◌, ◌<◌, ◌≤◌, Bool, true, false, List, [], ◌∷◌, ◌++◌, length, Result, Ok, Err, refl, sym, ap}
-use Rattle.std.proofs.Common.{◌∙◌, arith, if◌then◌else◌}
-use Rattle.std.proofs.lemmas.Bool.Decides.{nat_tests}
-use Rattle.std.specs.Str.{IsAscii, is_utf8}
+use Rattle.amqp_fields_write.proofs
+use Rattle.amqp_fields_write.specs
+use proofs.Names.{◌≡◌, subst, ℕ, ◌+◌, ◌-◌, ◌^◌, ◌<◌, ◌≤◌, Bool, true, false, List, [], ◌∷◌, ◌++◌, length, Result, Ok, Err, refl, sym, ap, ◌∙◌, arith}
+use proofs.Names.{if◌then◌else◌, numbers, IsAscii, is_utf8, length-append, bytes4, number_bytes, is_too_long, Puts, written, cut_long}
+use proofs.Names.errors
 use Rattle.std.proofs.lemmas.Str.{IsUtf8-from_ascii, is_utf8-from_IsUtf8}
-use Rattle.std.proofs.lemmas.List.{length-append}
-use Rattle.amqp_types.specs.Numbers.{bytes4, number_bytes}
-use Rattle.amqp_types.specs.Strings.{short_string_bytes, with_length, is_too_long}
-use Rattle.amqp_types.specs.Writing.{Puts, written}
+use Rattle.amqp_types.specs.Strings.{short_string_bytes, with_length}
 use Rattle.amqp_types.proofs.WrittenParts.{written-written, written-length, written-nil}
 use Rattle.amqp_canonical.proofs.PutParts.{written_before}
-use Rattle.amqp_types.specs.declared.errors.ParserError.TheVariants as errors
-use Rattle.amqp_fields_write.specs.declared.refusals.WriteRefusal.TheVariants as whys
-use Rattle.amqp_fields_write.specs.Made.{Made, after, closed, faulty, made_long, made_text, refuse}
-use Rattle.amqp_fields_write.specs.Makes.{cut_long}
-use Rattle.amqp_fields_write.specs.Quick.{AreLaid, BytesFit, Fronts, HaveRoom, IsFronted, IsLaid, Lays, LaysBytes, LaysUntil, nowhere}
-use Rattle.amqp_fields_write.proofs.Combined.{not_lt}
-use Rattle.amqp_fields_write.proofs.MadeOfParts.{after_ok, closed_ok, holds}
+use specs.Made.{Made, after, closed, faulty, made_long, made_text}
+use specs.Quick.{AreLaid, BytesFit, Fronts, HaveRoom, IsFronted, IsLaid, Lays, LaysBytes, LaysUntil, nowhere}
+use proofs.Combined.{not_lt}
+use proofs.MadeOfParts.{after_ok, closed_ok, holds}
 
 -- ---- what is laid
 
@@ -94,11 +89,11 @@ counted {tests} {puts} bytes old at end none is = record {
   sound = λ t few. record { bytes = bytes; is = refl; laid = give few };
   complete = λ others h room.
       let size : length others ≡ length bytes = ap length (one_result h refl) in
-      subst (λ bs. AreLaid puts bs old old at end) (one_result refl h) (give (grind (arith, nat_tests, is, size, room.few)));
+      subst (λ bs. AreLaid puts bs old old at end) (one_result refl h) (give (grind (numbers, is, size, room.few)));
 }
   where
     give : end < nowhere → AreLaid puts bytes old old at end
-    give few = record { end_is = grind (arith, nat_tests, is, few); same_length = refl; within = λ some le. absurd cc; put = λ some le. absurd cc }
+    give few = record { end_is = grind (numbers, is, few); same_length = refl; within = λ some le. absurd cc; put = λ some le. absurd cc }
 
 -- bytes are put
 put_laid : {puts : Bool} (bytes old new : List ℕ) (at end : ℕ) → at + length bytes ≤ length old → Puts old new at bytes end → AreLaid puts bytes old new at end
@@ -139,7 +134,7 @@ module _ {E : Type 0} {tests puts : Bool} {limit : ℕ} {first : Result (List �
     sound = λ t few.
         let b = two.sound t few in
         let a = one.sound t (omega (arith, few, b.laid.end_is)) in
-        record { bytes = a.bytes ++ b.bytes; is = ap (λ made. after made second) a.is ∙ ap (after (Ok a.bytes)) b.is; laid = both_laid a.laid b.laid };
+        record { bytes = a.bytes ++ b.bytes; is = rw (a.is, b.is); laid = both_laid a.laid b.laid };
     complete = λ bytes is room.
         let p = after_ok first second is in
         let a = one.complete p.front p.first_is (part_fits room refl (omega (arith, p.size))) in
@@ -172,13 +167,13 @@ tested {Fact} {tests} {test} fact is one t = fact (sym (ap (λ b. if b then test
 -- a text of at most 255 bytes of UTF-8 is made of its short string
 pub text_laid : {tests puts : Bool} (node : ℕ) (text : List ℕ) {old new : List ℕ} {at end : ℕ} → length text < 256 → (tests ≡ true → is_utf8 text ≡ true)
     → LaysBytes tests puts (short_string_bytes text) old new at end → Lays tests puts (made_text node text) old new at end
-text_laid {tests} node text few valid h = laid_where (λ t bytes is. short ∙ ap (λ test. by_test test) (valid t) ∙ is) back h
+text_laid {tests} node text few valid h = laid_where (λ t bytes is. short ∙ ap by_test (valid t) ∙ is) back h
   where
     by_test : Bool → Made
     by_test test = if test then Ok (short_string_bytes text) else faulty node errors.NotUtf8
 
     short : made_text node text ≡ by_test (is_utf8 text)
-    short = ap (λ test. if test then refuse node whys.TooLong else by_test (is_utf8 text)) (not_lt 255 (length text) (omega (arith, few)))
+    short = rw (not_lt 255 (length text) (omega (arith, few)))
 
     back : (bytes : List ℕ) → made_text node text ≡ Ok bytes → (◌≡◌ {A = Made} (Ok (short_string_bytes text)) (Ok bytes))
     back bytes is = (holds (is_utf8 text) (Ok (short_string_bytes text)) _ bytes (sym short ∙ is)).1
@@ -204,8 +199,7 @@ string_put {tests} {puts} {old} {mid} {new} {at} {place} {end} text room one two
 
 long_is : (node : ℕ) (content : List ℕ) → length content < 2 ^ 32 → made_long node content ≡ Ok (with_length content)
 long_is node content few =
-    let short : is_too_long content ≡ false = grind (arith, nat_tests, few) in
-    ap (λ test. if test then refuse node whys.TooLong else Ok (with_length content)) short
+    let short : is_too_long content ≡ false = grind (numbers, few) in rw short
 
 -- content that a length of 4 bytes counts
 pub long_laid : {tests puts : Bool} {old mid new : List ℕ} {at place end : ℕ} (node : ℕ) (content : List ℕ) → length content < 2 ^ 32
@@ -219,11 +213,10 @@ long_laid node content few one two = laid_as (long_is node content few) (laid_af
 pub front_laid : {puts : Bool} {first bytes old mid new : List ℕ} {at start end place : ℕ} → AreLaid puts bytes old mid start end
     → AreLaid puts first mid new at place → start ≡ at + length first → AreLaid puts (first ++ bytes) old new at end
 front_laid {puts} {first} {bytes} {old} {mid} {new} {at} {start} {end} {place} one front begins =
-    let size = length-append first bytes in
     let room : puts ≡ true → at ≤ length old → start ≤ length old =
     λ some le. omega (arith, begins, one.same_length, front.end_is, front.within some (omega (arith, le, one.same_length))) in
     record {
-      end_is = omega (arith, one.end_is, begins, size);
+      end_is = omega (arith, one.end_is, begins, length-append first bytes);
       same_length = front.same_length ∙ one.same_length;
       within = λ some le. one.within some (room some le);
       put = λ some le.
@@ -240,14 +233,14 @@ behind_ok first (Err bad) is = absurd cc
 -- a place that was not cut
 pub begins_at : {puts : Bool} {bytes old new : List ℕ} (at size : ℕ) {start end : ℕ} → start ≡ cut_long (at + size) → AreLaid puts bytes old new start end
     → end < nowhere → start ≡ at + size
-begins_at at size there a few = grind (arith, nat_tests, there, a.end_is, few)
+begins_at at size there a few = grind (numbers, there, a.end_is, few)
 
 -- where bytes have room, that of their front is not cut, and both parts have it
 later_fits : {puts : Bool} {limit : ℕ} (first behind : List ℕ) {bytes old : List ℕ} {at start : ℕ} → bytes ≡ first ++ behind → HaveRoom puts limit bytes old at
     → start ≡ cut_long (at + length first) → (start ≡ at + length first) × HaveRoom puts limit behind old start
 later_fits first behind {bytes} {at = at} {start} is room there =
     let size : length bytes ≡ length first + length behind = ap length is ∙ length-append first behind in
-    let begins : start ≡ at + length first = grind (arith, nat_tests, there, size, room.few) in
+    let begins : start ≡ at + length first = grind (numbers, there, size, room.few) in
     (begins, part_fits room refl (omega (arith, size, begins)))
 
 -- and what is in front
@@ -265,7 +258,7 @@ module _ {tests puts : Bool} {limit : ℕ} (first : List ℕ) {made : Made} {old
         let a = one.sound t few in
         record {
           bytes = first ++ a.bytes;
-          is = ap (after (Ok first)) a.is;
+          is = rw a.is;
           laid = front_laid a.laid (bytes_laid ((h few).sound t some)) (begins_at at (length first) there a.laid few);
         };
     complete = λ bytes is room.

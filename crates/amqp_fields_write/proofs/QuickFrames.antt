@@ -1,40 +1,71 @@
--- What the quick walk makes of frames, one after another.
-use Rattle.std.proofs.Common.{◌≡◌, ℕ, ◌+◌, ◌-◌, ◌^◌, ◌<◌, ◌≤◌, ◌==◌, Bool, true, false, List, [], ◌∷◌, ◌++◌, length, take, drop, Result, Ok, Err}
-use Rattle.std.proofs.Common.{refl, sym, ap, subst, ◌∙◌, append_assoc, append-nil, arith, nat_lt, if◌then◌else◌}
-use Rattle.std.proofs.lemmas.Bool.Decides.{nat_tests}
-use Rattle.std.proofs.lemmas.List.{drop_all, length-append, length-take-le, take_at}
-use Rattle.amqp_types.specs.Constants.{end_byte, inner_depth, protocol_byte}
-use Rattle.amqp_types.specs.Writing.{Puts, written}
-use Rattle.amqp_wire.specs.Spelling.{framed, head}
-use Rattle.amqp_fields.specs.declared.head.Head.{Head}
-use Rattle.amqp_fields.specs.declared.node.Node.{Node}
-use Rattle.amqp_fields_write.specs.declared.refusals.WriteRefusal.TheVariants as whys
-use Rattle.amqp_fields_write.specs.Made.{Made, made_each, made_entry, made_value, refuse_head}
-use Rattle.amqp_fields_write.specs.MadeFrames.{are_beyond, at_head, made_around, made_payload, made_typed, made_version}
-use Rattle.amqp_fields_write.specs.declared.refusals.WriteError.{WriteError}
-use Rattle.amqp_fields_write.specs.declared.refusals.WriteError.TheVariants as failures
-use Rattle.amqp_fields_write.specs.Makes.{IsCounted, cut_long}
-use Rattle.amqp_fields_write.specs.Making.{AreWritten, IsTooSmall, made_alone, made_whole}
-use Rattle.amqp_fields_write.specs.Quick.{AreLaid, Encloses, HaveRoom, IsEnclosed, IsWhole, Lays, LaysUntil, nowhere}
-use Rattle.amqp_fields_write.proofs.GivenLengths.{given_within}
-use Rattle.amqp_fields_write.proofs.HeadsInLoops.{never_at}
-use Rattle.amqp_fields_write.proofs.MadeOfParts.{fails, ok_is}
-use Rattle.amqp_fields_write.proofs.Quick.{begins_at, both_laid, front_laid, laid_as, laid_where, part_fits}
+-- What the quick walk makes of fields and frames, one after another.
+use Rattle.amqp_fields_write.proofs
+use Rattle.amqp_fields_write.specs
+use proofs.Names.{◌≡◌, ℕ, ◌+◌, ◌-◌, ◌^◌, ◌<◌, ◌≤◌, ◌==◌, Bool, true, false, List, [], ◌∷◌, ◌++◌, length, take, drop, Result, Ok, Err, refl, sym, ap, subst, ◌∙◌}
+use proofs.Names.{append_assoc, append-nil, arith, nat_lt, if◌then◌else◌, numbers, drop_all, length-append, length-take-le, take_at, end_byte, inner_depth}
+use proofs.Names.{protocol_byte, Puts, written, framed, head, Head, Node, at_head, WriteError, IsCounted, cut_long, zero, suc, made_field, StandsFirst}
+use proofs.Names.whys
+use proofs.Names.failures
+use proofs.Names.meant
+use specs.Made.{Made, made_each, made_entry, made_value, refuse_head, own_index}
+use specs.MadeFrames.{are_beyond, made_around, made_payload, made_typed}
+use specs.Making.{AreWritten, IsTooSmall, made_alone, made_whole}
+use specs.Quick.{AreLaid, Encloses, HaveRoom, IsEnclosed, IsWhole, Lays, LaysUntil, nowhere, NoGroup, placed}
+use proofs.MeantFramesMade.{around_ok, at_ok, given_within}
+use proofs.FramesMade.{never_at}
+use proofs.MadeOfParts.{fails, alone_ok, holds}
+use proofs.Quick.{begins_at, both_laid, front_laid, laid_as, laid_where, part_fits}
+use Rattle.amqp_types.specs.Slots.{table_form}
+use specs.MadeFields.{is_field, made_form}
+use proofs.ValuesMade.{held, not_past, passed}
+
+-- ---- fields of methods
+
+-- a field is made of its node and those inside it, where that is of its kind and at its place
+field_parts : (pool : List ℕ) (end place : ℕ) (form : meant.Form) {nodes inside others : List Node} {node : Node} → StandsFirst nodes node inside others
+    → made_field pool end place form nodes
+    ≡ placed place form node (own_index (end - length others) inside) (made_form pool form (end - length others) node inside)
+unfolding made_field
+field_parts pool end place form {nodes} {inside} {others} {node} h =
+    let at : end - length (node ∷ (inside ++ others)) ≡ own_index (end - length others) inside = omega (arith, length-append inside others) in
+    ap (made_field pool end place form) h.nodes_are ∙ rw (not_past h, passed h, held h, at)
+
+-- a field, by its node and those inside it
+pub field_laid : {tests puts : Bool} {limit : ℕ} (pool : List ℕ) (end place : ℕ) (form : meant.Form)
+    {nodes inside others : List Node} {node : Node} {old new : List ℕ} {at next : ℕ} → StandsFirst nodes node inside others
+    → LaysUntil tests puts limit
+    (placed place form node (own_index (end - length others) inside) (made_form pool form (end - length others) node inside)) old new at next
+    → LaysUntil tests puts limit (made_field pool end place form nodes) old new at next
+field_laid pool end place form first h = laid_as (field_parts pool end place form first) h
+
+some_inside : (k : ℕ) (nodes : List Node) → 0 < k → k ≤ length nodes → take k nodes ≡ [] → ⊥
+some_inside zero nodes some le is = absurd (omega (arith, some))
+some_inside (suc k) [] some le is = absurd (omega (arith, le))
+some_inside (suc k) (node ∷ nodes) some le is = absurd cc
+
+-- only in a table something may lie inside
+never_form : (pool : List ℕ) (form : meant.Form) (end : ℕ) (node : Node) (others : List Node) (bytes : List ℕ) → NoGroup form (node ∷ others)
+    → node.inside ≤ length others → made_form pool form end node (take node.inside others) ≡ Ok bytes → ⊥
+unfolding made_form
+never_form pool table_form end node others bytes none le is = absurd (omega (arith, none node others refl, le))
+never_form pool form end node others bytes none le is =
+    some_inside node.inside others (none node others refl) le (alone_ok _ _ (take node.inside others) is).0
+
+-- a first node with those inside it that is no field so is not made
+pub no_field : (pool : List ℕ) (end place : ℕ) (form : meant.Form) (nodes : List Node) → NoGroup form nodes
+    → (bytes : List ℕ) → made_field pool end place form nodes ≡ Ok bytes → ⊥
+unfolding made_field
+no_field pool end place form [] none bytes is = absurd cc
+no_field pool end place form (node ∷ others) none bytes is =
+    let fits = fails (nat_lt (length others) node.inside) _ _ bytes is in
+    never_form pool form _ node others bytes none (grind (numbers, fits.0)) (holds (is_field place form node) _ _ bytes fits.1).1
 
 -- a payload of at most so many bytes stands in its frame
 around_is : (m : ℕ) (head_of : Head) {made : Made} {payload : List ℕ} → made ≡ Ok payload → length payload ≤ m
     → made_around m head_of made ≡ Ok (framed head_of.frame_type head_of.channel payload)
 around_is m head_of {payload = payload} is few =
-    let short : nat_lt m (length payload) ≡ false = grind (arith, nat_tests, few) in
-    ap (made_around m head_of) is ∙ ap (λ test. if test then refuse_head whys.TooLarge else Ok (framed head_of.frame_type head_of.channel payload)) short
-
--- what is made around a payload is such a frame
-around_ok : (m : ℕ) (head_of : Head) (made : Made) {bytes : List ℕ} → made_around m head_of made ≡ Ok bytes
-    → (payload : List ℕ) × (made ≡ Ok payload) × (length payload ≤ m) × (bytes ≡ framed head_of.frame_type head_of.channel payload)
-around_ok m head_of (Ok payload) h =
-    let found = fails (nat_lt m (length payload)) _ _ _ h in
-    (payload, refl, grind (arith, nat_tests, found.0), ok_is found.1)
-around_ok m head_of (Err bad) h = absurd cc
+    let short : nat_lt m (length payload) ≡ false = grind (numbers, few) in
+    rw (is, short)
 
 -- a payload that is laid, with what stands around it
 enclosed_is : {puts : Bool} {type channel m : ℕ} {payload old mid new : List ℕ} {at start end result : ℕ} → AreLaid puts payload old mid start end
@@ -64,12 +95,12 @@ enclosed {tests} {puts} m limit head_of {made} {old} {mid} {new} {at} {start} {e
       let found = around_ok m head_of made is in
       let payload = found.0 in
       let size : length bytes ≡ length payload + 8 = omega (arith, ap length found.3, length-append payload (end_byte ∷ [])) in
-      let begins : start ≡ at + 7 = grind (arith, nat_tests, there, size, room.few) in
+      let begins : start ≡ at + 7 = grind (numbers, there, size, room.few) in
       let part : HaveRoom puts nowhere payload old start = part_fits room refl (omega (arith, begins, size)) in
       let a =
       one.complete payload found.1 (record {
         few = part.few;
-        until = grind (arith, nat_tests, most, part.few, found.2);
+        until = grind (numbers, most, part.few, found.2);
         within = part.within;
       }) in
       subst (λ bs. AreLaid puts bs old new at result) (sym found.3) (enclosed_is a begins
@@ -83,7 +114,7 @@ pub typed_laid : {tests puts : Bool} (pool : List ℕ) (nodes : List Node) (m : 
     → Lays tests puts (made_typed pool nodes m head_of) old new at end
 unfolding made_typed
 typed_laid {tests} {puts} pool nodes m head_of {old} {new} {at} {end} differs h =
-    laid_as (ap (λ test. if test then made_version pool nodes head_of else typed) other) (laid_where into back h)
+    laid_as (rw other) (laid_where into back h)
   where
     around : Made
     around = made_around m head_of (made_payload pool nodes head_of)
@@ -92,13 +123,13 @@ typed_laid {tests} {puts} pool nodes m head_of {old} {new} {at} {end} differs h 
     typed = if are_beyond m nodes head_of then refuse_head whys.TooLarge else around
 
     other : (head_of.frame_type == protocol_byte) ≡ false
-    other = grind (arith, nat_tests, differs)
+    other = grind (numbers, differs)
 
     into : tests ≡ true → (bytes : List ℕ) → around ≡ Ok bytes → typed ≡ Ok bytes
     into t bytes is =
         let found = around_ok m head_of (made_payload pool nodes head_of) is in
-        let within : are_beyond m nodes head_of ≡ false = grind (arith, nat_tests, given_within pool nodes head_of found.0 found.1, found.2) in
-        ap (λ test. if test then refuse_head whys.TooLarge else around) within ∙ is
+        let within : are_beyond m nodes head_of ≡ false = grind (numbers, given_within pool nodes head_of found.0 found.1, found.2) in
+        rw within is
 
     back : (bytes : List ℕ) → typed ≡ Ok bytes → around ≡ Ok bytes
     back bytes is = (fails (are_beyond m nodes head_of) _ _ bytes is).1
@@ -108,11 +139,7 @@ typed_laid {tests} {puts} pool nodes m head_of {old} {new} {at} {end} differs h 
 -- what a head is made of
 pub at_laid : {tests puts : Bool} {made : Made} {old new : List ℕ} {at end : ℕ} (k : ℕ)
     → Lays tests puts made old new at end → Lays tests puts (at_head k made) old new at end
-at_laid {made = made} k h = laid_where (λ t bytes is. ap (at_head k) is) (back made) h
-  where
-    back : (made : Made) (bytes : List ℕ) → at_head k made ≡ Ok bytes → made ≡ Ok bytes
-    back (Ok bytes) all is = cc
-    back (Err bad) all is = absurd cc
+at_laid {made = made} k h = laid_where (λ t bytes is. ap (at_head k) is) (at_ok k made) h
 
 -- ---- what is returned
 
@@ -149,7 +176,7 @@ too_small {old = old} {needed} h none counts m few =
       bytes = m.bytes;
       made_is = m.is;
       needed_is = m.count_is;
-      more = grind (arith, nat_tests, m.count_is, few, long);
+      more = grind (numbers, m.count_is, few, long);
       unchanged = refl;
     }
 

@@ -1,9 +1,8 @@
 -- Signed numbers of each width, in two's complement of 64 bits.
-use Rattle.std.proofs.Common.{◌≡◌, ℕ, suc, ◌*◌, ◌-◌, ◌<◌, ◌≤◌, ◌^◌, ◌%◌, inl, inr, true, sym, ap, ◌∙◌, arith}
-use Rattle.std.proofs.lemmas.Int.{to_z_pos}
+use Rattle.amqp_fields_write.proofs.Names.{◌≡◌, ℕ, suc, ◌*◌, ◌-◌, ◌<◌, ◌≤◌, ◌^◌, ◌%◌, inl, inr, true, sym, ap, ◌∙◌, arith, to_z_pos}
+use Rattle.amqp_fields_write.proofs.Names.{numbers, cases_lt, NumberWidth, bytes1, number_limit, width_of}
 use Rattle.std.proofs.Math.Facts.{to_z-neg}
 use Rattle.std.specs.Int.{w8, w64, cast_signed, cast_unsigned}
-use Rattle.amqp_fields.proofs.Names.{nat_tests, cases_lt, NumberWidth, bytes1, number_limit, width_of}
 use Rattle.amqp_fields_write.specs.Made.{half_limit, is_signed}
 
 -- ---- what is known of each width
@@ -36,7 +35,7 @@ pub signed_back : (width : NumberWidth) (n : ℕ) → is_signed width n ≡ true
 signed_back width n fits = elim (cases_lt n (half_limit width)) [
   | inl few ↦ sym (ap (λ k. cast_unsigned w64 (cast_signed (width_of width) k)) (low_rest width n few) ∙ low_bits width n few)
   | inr high ↦ (
-      let most : (2 ^ 64 - half_limit width ≤ n) × (n < 2 ^ 64) = (grind (arith, nat_tests), grind (arith, nat_tests)) in
+      let most : (2 ^ 64 - half_limit width ≤ n) × (n < 2 ^ 64) = (grind numbers, grind numbers) in
       let k = 2 ^ 64 - 1 - n in
       let half = (halves width).1 in
       let below : k < half_limit width = omega arith in
@@ -51,7 +50,7 @@ pub signed_bits : (width : NumberWidth) (bits number : ℕ) → bits < number_li
 signed_bits width bits number few is = elim (cases_lt bits (half_limit width)) [
   | inl low ↦ (
       let same : number ≡ bits = is ∙ low_bits width bits low in
-      (grind (arith, nat_tests), ap (λ n. n % number_limit width) same ∙ low_rest width bits low))
+      (grind numbers, ap (λ n. n % number_limit width) same ∙ low_rest width bits low))
   | inr high ↦ (
       let k = number_limit width - 1 - bits in
       let half = halves width in
@@ -60,5 +59,5 @@ signed_bits width bits number few is = elim (cases_lt bits (half_limit width)) [
       let same : number ≡ 2 ^ 64 - suc k = is ∙ ap (λ m. cast_unsigned w64 (cast_signed (width_of width) m)) (sym back) ∙ high_bits width k below in
       let least : 2 ^ 64 - half_limit width ≤ number = omega arith in
       let most : number < 2 ^ 64 = omega arith in
-      (grind (arith, nat_tests), ap (λ n. n % number_limit width) same ∙ high_rest width k below ∙ back))
+      (grind numbers, ap (λ n. n % number_limit width) same ∙ high_rest width k below ∙ back))
 ]

@@ -1,19 +1,69 @@
 -- What values, arrays and tables make, by their parts.
-use Rattle.std.proofs.Common.{◌≡◌, ℕ, zero, suc, ◌-◌, ◌<◌, true, false, List, [], ◌∷◌, length, Some, None, Ok, Err, arith, ◌==◌}
-use Rattle.std.proofs.lemmas.Bool.Decides.{nat_tests}
-use Rattle.amqp_types.specs.Judging.{Judge}
-use Rattle.amqp_types.specs.Tags.{tag_at, tag_byte}
-use Rattle.amqp_types.specs.declared.tag.FieldTag.{FieldTag}
-use Rattle.amqp_types.specs.declared.tag.FieldTag.TheVariants as tag
-use Rattle.amqp_types.specs.declared.errors.ParserError.TheVariants as errors
-use Rattle.amqp_fields.specs.declared.node.Node.{Node}
-use Rattle.amqp_fields_write.specs.declared.refusals.Refusal.{Refusal}
-use Rattle.amqp_fields_write.specs.declared.refusals.WriteRefusal.TheVariants as whys
-use Rattle.amqp_fields.specs.Nodes.{StandsFirst}
-use Rattle.amqp_fields_write.specs.Made.{Made, Maker, after, closed, faulty, made_array, made_behind, made_each, made_items}
-use Rattle.amqp_fields_write.specs.Made.{made_nested, made_table, made_tagged}
-use Rattle.amqp_fields_write.specs.Made.{made_value, misfit, own_index, refusal}
-use Rattle.amqp_fields_write.proofs.EachMade.{each_next}
+use Rattle.amqp_fields_write.proofs
+use Rattle.amqp_fields_write.specs
+use proofs.Names.{◌≡◌, ℕ, zero, suc, ◌-◌, ◌<◌, true, false, List, [], ◌∷◌, length, Some, None, Ok, Err, arith, ◌==◌, numbers, tag_at, tag_byte, FieldTag, Node}
+use proofs.Names.{Refusal, StandsFirst, ◌≤◌, ◌++◌, take, drop, refl, sym, ap, ◌∙◌, nat_lt, drop_at, take_at, length-append, PassesEnd}
+use proofs.Names.tag
+use proofs.Names.errors
+use proofs.Names.whys
+use specs.Made.{Made, Maker, after, faulty, made_array, made_behind, made_each, made_nested, made_table, made_tagged, made_value, misfit, own_index, refusal}
+use proofs.Combined.{not_lt}
+
+-- ---- nodes one after another
+
+each_passed : (make : Maker) (end k : ℕ) (nodes : List Node) → made_each make end k nodes ≡ made_each make end 0 (drop k nodes)
+unfolding made_each
+each_passed make end zero nodes = refl
+each_passed make end (suc k) [] = refl
+each_passed make end (suc k) (node ∷ nodes) = each_passed make end k nodes
+
+pub each_first : (make : Maker) (end : ℕ) (node : Node) (others : List Node) → node.inside ≤ length others
+    → made_each make end 0 (node ∷ others)
+    ≡ after (make (end - length (drop node.inside others)) node (take node.inside others)) (made_each make end 0 (drop node.inside others))
+unfolding made_each
+each_first make end node others le =
+    rw (not_lt (length others) node.inside le, each_passed make end node.inside others)
+
+pub each_misfit : (make : Maker) (end : ℕ) (node : Node) (others : List Node) → length others < node.inside
+    → made_each make end 0 (node ∷ others) ≡ misfit (end - length (node ∷ others))
+unfolding made_each
+each_misfit make end node others lt =
+    let more : nat_lt (length others) node.inside ≡ true = grind (numbers, lt) in rw more
+
+-- the nodes behind the first one are those inside it and the others
+module _ {nodes inside others : List Node} {node : Node} (h : StandsFirst nodes node inside others) where
+  pub passed : drop node.inside (inside ++ others) ≡ others
+  passed = drop_at inside others node.inside (sym h.inside_is)
+
+  pub held : take node.inside (inside ++ others) ≡ inside
+  held = take_at inside others node.inside (sym h.inside_is)
+
+  within : node.inside ≤ length (inside ++ others)
+  within = omega (arith, h.inside_is, length-append inside others)
+
+  pub not_past : nat_lt (length (inside ++ others)) node.inside ≡ false
+  not_past = not_lt (length (inside ++ others)) node.inside within
+
+-- by the first node, those inside it, and the others
+pub each_next : (make : Maker) (end : ℕ) {nodes inside others : List Node} {node : Node} → StandsFirst nodes node inside others
+    → made_each make end 0 nodes ≡ after (make (end - length others) node inside) (made_each make end 0 others)
+each_next make end {nodes} {inside} {others} {node} h =
+    ap (made_each make end 0) h.nodes_are ∙ each_first make end node (inside ++ others) (within h) ∙ rw (passed h, held h)
+
+-- a node whose insides would pass the end is refused
+pub each_passing : (make : Maker) (end : ℕ) (nodes : List Node) → PassesEnd nodes → 0 < length nodes → made_each make end 0 nodes ≡ misfit (end - length nodes)
+each_passing make end [] h some = absurd (omega (arith, some))
+each_passing make end (node ∷ others) h some = each_misfit make end node others (h node others refl)
+
+-- no nodes make no bytes
+pub each_none : (make : Maker) (end : ℕ) → made_each make end 0 [] ≡ Ok []
+unfolding made_each
+each_none make end = refl
+
+-- where no node is left, nothing more is made
+pub none_left : (make : Maker) (end : ℕ) (nodes : List Node) → length nodes ≡ 0 → made_each make end 0 nodes ≡ Ok []
+none_left make end [] none = each_none make end
+none_left make end (node ∷ nodes) none = absurd (omega (arith, none))
 
 -- ---- after a tag
 
@@ -63,22 +113,15 @@ module _ (pool : List ℕ) (depth_left end : ℕ) (node : Node) (inside : List N
   pub value_read_only : (t : FieldTag) → tag_at node.kind ≡ Some t → (tag_byte t ≡ node.kind → ⊥)
       → made_value pool depth_left end node inside ≡ misfit (own_index end inside)
   unfolding made_value made_tagged
-  value_read_only t is differs = let other : (tag_byte t == node.kind) ≡ false = grind (arith, nat_tests, differs) in rw (is, other)
+  value_read_only t is differs = let other : (tag_byte t == node.kind) ≡ false = grind (numbers, differs) in rw (is, other)
 
   -- a value whose tag byte is one that is written is made of that byte and what stands behind it
   pub value_parts : (t : FieldTag) → tag_at node.kind ≡ Some t → tag_byte t ≡ node.kind
       → made_value pool depth_left end node inside ≡ after (Ok (node.kind ∷ [])) (made_behind pool (made_nested pool depth_left) t end node inside)
   unfolding made_value made_tagged
-  value_parts t is same = let holds : (tag_byte t == node.kind) ≡ true = grind (arith, nat_tests, same) in rw (is, holds, same)
+  value_parts t is same = let holds : (tag_byte t == node.kind) ≡ true = grind (numbers, same) in rw (is, holds, same)
 
 -- ---- what fills a table or an array
-
--- where nodes lie inside, a table or an array is made of them, behind a length
-pub items_inside : {A : Type 0} (item : Judge A) (make : Maker) (pool : List ℕ) (end index : ℕ) (node : Node) (inside : List Node)
-    → 0 < length inside → index ≡ own_index end inside → made_items item make pool end node inside ≡ closed index (made_each make end 0 inside)
-unfolding made_items
-items_inside item make pool end index node [] some is = absurd (omega (arith, some))
-items_inside item make pool end index node (first ∷ others) some is = rw is
 
 -- a refusal of a node for a bad argument is that of a misfit
 pub misfits : {A : Type 0} {place index : ℕ} {bad : Refusal} → index ≡ place → bad ≡ refusal index whys.BadArgument → misfit {A = A} place ≡ Err bad

@@ -1,16 +1,17 @@
 -- Nodes of which canonical bytes are written: keys ascend, and content that stands in the pool as
 -- bytes is canonical.
+use Rattle.amqp_types.specs as types
 use Rattle.std.specs.Prelude.{◌≡◌, ◌⊎◌, ℕ, List, [], ◌∷◌, ◌++◌, length}
 use Rattle.std.specs.Ordering.{nat_cmp}
 use Rattle.std.specs.Cmp.Lexicographic.{slice_cmp}
 use Rattle.std.specs.List.Sorted.{IsStrictlySortedBy}
-use Rattle.amqp_types.specs.Levels.{strict}
-use Rattle.amqp_types.specs.Slots.{table_form}
-use Rattle.amqp_types.specs.Strings.{with_length}
-use Rattle.amqp_types.specs.Tags.{tag_byte}
-use Rattle.amqp_types.specs.Values.{Entry, FieldValue}
-use Rattle.amqp_types.specs.ValueSpelling.{SpellsFieldArray, SpellsFieldTable}
-use Rattle.amqp_types.specs.declared.tag.FieldTag.TheVariants as tag
+use types.Levels.{strict}
+use types.Slots.{table_form}
+use types.Strings.{with_length}
+use types.Tags.{tag_byte}
+use types.Values.{Entry, FieldValue}
+use types.ValueSpelling.{SpellsFieldArray, SpellsFieldTable}
+use types.declared.tag.FieldTag.TheVariants as tag
 use Rattle.amqp_fields.specs.declared.node.Node.{Node}
 use Rattle.amqp_fields.specs.Kinds.{kind_of}
 use Rattle.amqp_wire.specs.Canonical.{canon_frames}

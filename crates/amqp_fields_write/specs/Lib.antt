@@ -7,5 +7,4 @@ pub mod Quick
 pub mod Making
 pub mod Meant
 pub mod Canonical
-pub mod SameNodes
 pub mod WritingLaws

@@ -1,26 +1,26 @@
 -- The bytes that nodes make, or the first node that is refused, from left to right. A node stands
 -- with those inside it; these end at a place among all nodes.
+use Rattle.amqp_fields_write.specs
+use Rattle.amqp_types.specs as types
 use Rattle.std.specs.Prelude.{ℕ, zero, suc, ◌+◌, ◌-◌, ◌^◌, ◌%◌, ◌==◌, ◌||◌, ◌&&◌, nat_lt, nat_le}
 use Rattle.std.specs.Prelude.{Bool, true, false, if◌then◌else◌, List, [], ◌∷◌, ◌++◌, length, take}
 use Rattle.std.specs.Prelude.{drop, Option, Some, None, Result, Ok, Err}
 use Rattle.std.specs.Str.{is_utf8}
-use Rattle.amqp_types.specs.Judging.{Judge, Fault, unknown_frame_type, bad_protocol_header}
-use Rattle.amqp_types.specs.Judging.{too_large, bad_frame_end, unknown_class}
-use Rattle.amqp_types.specs.Judging.{unknown_method, short_payload, trailing_bytes}
-use Rattle.amqp_types.specs.Judging.{not_utf8, unknown_tag, too_deep, not_tidy}
-use Rattle.amqp_types.specs.Numbers.{NumberWidth, bytes1, bytes2, bytes4}
-use Rattle.amqp_types.specs.Numbers.{bytes8, number_bytes, number_limit}
-use Rattle.amqp_types.specs.Strings.{short_string_bytes, with_length, is_too_long}
-use Rattle.amqp_types.specs.ValueJudging.{filled, judge_entry, judge_value}
-use Rattle.amqp_types.specs.Tags.{tag_at, tag_byte}
-use Rattle.amqp_types.specs.declared.tag.FieldTag.{FieldTag}
-use Rattle.amqp_types.specs.declared.tag.FieldTag.TheVariants as tag
-use Rattle.amqp_types.specs.declared.errors.ParserError.{ParserError}
-use Rattle.amqp_types.specs.declared.errors.ParserError.TheVariants as errors
+use types.Judging.{Judge, Fault, unknown_frame_type, bad_protocol_header, too_large, bad_frame_end}
+use types.Judging.{unknown_class, unknown_method, short_payload, trailing_bytes, not_utf8}
+use types.Judging.{unknown_tag, too_deep, not_tidy}
+use types.Numbers.{NumberWidth, bytes1, bytes2, bytes4, bytes8, number_bytes, number_limit}
+use types.Strings.{short_string_bytes, with_length, is_too_long}
+use types.ValueJudging.{filled, judge_entry, judge_value}
+use types.Tags.{tag_at, tag_byte}
+use types.declared.tag.FieldTag.{FieldTag}
+use types.declared.tag.FieldTag.TheVariants as tag
+use types.declared.errors.ParserError.{ParserError}
+use types.declared.errors.ParserError.TheVariants as errors
 use Rattle.amqp_fields.specs.declared.node.Node.{Node}
-use Rattle.amqp_fields_write.specs.declared.refusals.Refusal.{Refusal}
-use Rattle.amqp_fields_write.specs.declared.refusals.WriteRefusal.{WriteRefusal}
-use Rattle.amqp_fields_write.specs.declared.refusals.WriteRefusal.TheVariants as whys
+use specs.declared.refusals.Refusal.{Refusal}
+use specs.declared.refusals.WriteRefusal.{WriteRefusal}
+use specs.declared.refusals.WriteRefusal.TheVariants as whys
 
 -- bytes, or which node is refused and why
 abbrev pub Made : Type 0

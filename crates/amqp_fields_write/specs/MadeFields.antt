@@ -1,23 +1,23 @@
 -- The bytes that the nodes of fields make, or the first node that is refused, from left to right.
-use Rattle.std.specs.Prelude.{ℕ, zero, suc, ◌+◌, ◌-◌, ◌^◌, ◌==◌, ◌&&◌, nat_lt, nat_le, Bool}
-use Rattle.std.specs.Prelude.{false, if◌then◌else◌, List, [], ◌∷◌, length, take, drop}
-use Rattle.std.specs.Prelude.{Option, Some, None, Result, Ok, Err}
-use Rattle.amqp_types.specs.Numbers.{bytes2, number_bytes}
-use Rattle.amqp_types.specs.Flags.{flags_bytes}
-use Rattle.amqp_types.specs.Constants.{inner_depth}
-use Rattle.amqp_types.specs.Slots.{Item, number_item, Form, number_form, flags_form}
-use Rattle.amqp_types.specs.Slots.{short_string_form, long_string_form, table_form}
-use Rattle.amqp_types.specs.Slots.{Slot, kept_slot, reserved_slot}
-use Rattle.amqp_types.specs.SlotBytes.{form_bytes}
-use Rattle.amqp_types.specs.Properties.{Property, properties}
-use Rattle.amqp_types.specs.PropertyBytes.{mask_of}
+use Rattle.amqp_fields_write.specs
+use Rattle.amqp_types.specs as types
+use Rattle.std.specs.Prelude.{ℕ, zero, suc, ◌+◌, ◌-◌, ◌^◌, ◌==◌, ◌&&◌, nat_lt, nat_le, Bool, false}
+use Rattle.std.specs.Prelude.{if◌then◌else◌, List, [], ◌∷◌, length, take, drop, Option, Some, None}
+use Rattle.std.specs.Prelude.{Result, Ok, Err}
+use types.Numbers.{bytes2, number_bytes}
+use types.Flags.{flags_bytes}
+use types.Constants.{inner_depth}
+use types.Slots.{Item, number_item, Form, number_form, flags_form, short_string_form}
+use types.Slots.{long_string_form, table_form, Slot, kept_slot, reserved_slot}
+use types.SlotBytes.{form_bytes}
+use types.Properties.{Property, properties}
+use types.PropertyBytes.{mask_of}
 use Rattle.amqp_fields.specs.declared.node.Node.{Node}
-use Rattle.amqp_fields_write.specs.declared.refusals.Refusal.{Refusal}
+use specs.declared.refusals.Refusal.{Refusal}
 use Rattle.amqp_fields.specs.Kinds.{kind_of}
 use Rattle.amqp_fields.specs.Listed.{kept_count, next_place}
-use Rattle.amqp_fields_write.specs.Made.{Made, after, made_alone, made_long, made_number, made_span}
-use Rattle.amqp_fields_write.specs.Made.{made_table, made_text, made_value}
-use Rattle.amqp_fields_write.specs.Made.{misfit, own_index, span_in}
+use specs.Made.{Made, after, made_alone, made_long, made_number, made_span, made_table, made_text}
+use specs.Made.{made_value, misfit, own_index, span_in}
 
 -- ---- fields
 

@@ -1,26 +1,28 @@
 -- The bytes that heads and nodes make, or the first head or node that is refused,
 -- from left to right.
+use Rattle.amqp_fields_write.specs
+use Rattle.amqp_types.specs as types
 use Rattle.std.specs.Prelude.{ℕ, ◌+◌, ◌==◌, ◌&&◌, ◌||◌, nat_lt, nat_le, Bool, if◌then◌else◌, List}
 use Rattle.std.specs.Prelude.{[], ◌∷◌, ◌++◌, length, take, drop, Option, Some, None, Result, Ok}
 use Rattle.std.specs.Prelude.{Err}
-use Rattle.amqp_types.specs.Numbers.{bytes2, bytes8, number_bytes}
-use Rattle.amqp_types.specs.Slots.{Slot}
-use Rattle.amqp_types.specs.Rows.{Row, rows_of, slots_at}
-use Rattle.amqp_types.specs.Constants.{protocol_byte, method_byte, header_byte, body_byte}
-use Rattle.amqp_types.specs.Constants.{heartbeat_byte, protocol_mark}
-use Rattle.amqp_types.specs.Tags.{tag_byte}
-use Rattle.amqp_types.specs.declared.tag.FieldTag.TheVariants as tag
-use Rattle.amqp_types.specs.declared.errors.ParserError.{ParserError}
-use Rattle.amqp_types.specs.declared.errors.ParserError.TheVariants as errors
+use types.Numbers.{bytes2, bytes8, number_bytes}
+use types.Slots.{Slot}
+use types.Rows.{Row, rows_of, slots_at}
+use types.Constants.{protocol_byte, method_byte, header_byte, body_byte, heartbeat_byte}
+use types.Constants.{protocol_mark}
+use types.Tags.{tag_byte}
+use types.declared.tag.FieldTag.TheVariants as tag
+use types.declared.errors.ParserError.{ParserError}
+use types.declared.errors.ParserError.TheVariants as errors
 use Rattle.amqp_wire.specs.Spelling.{framed}
 use Rattle.amqp_fields.specs.declared.head.Head.{Head}
 use Rattle.amqp_fields.specs.declared.node.Node.{Node}
-use Rattle.amqp_fields_write.specs.declared.refusals.WriteError.{WriteError}
-use Rattle.amqp_fields_write.specs.declared.refusals.WriteError.TheVariants as failures
-use Rattle.amqp_fields_write.specs.declared.refusals.WriteRefusal.TheVariants as whys
+use specs.declared.refusals.WriteError.{WriteError}
+use specs.declared.refusals.WriteError.TheVariants as failures
+use specs.declared.refusals.WriteRefusal.TheVariants as whys
 use Rattle.amqp_fields.specs.Listed.{version_slots}
-use Rattle.amqp_fields_write.specs.Made.{Made, after, misfit_head, refuse_head, span_in}
-use Rattle.amqp_fields_write.specs.MadeFields.{made_properties, made_slots}
+use specs.Made.{Made, after, misfit_head, refuse_head, span_in}
+use specs.MadeFields.{made_properties, made_slots}
 
 -- the nodes of a head, where the list has them
 abbrev pub nodes_in : List Node → Head → Option (List Node)

@@ -1,12 +1,13 @@
 -- What calls return that count what is made, or look at its parts.
-use Rattle.std.specs.Prelude.{◌≡◌, ◌<◌, ◌^◌, ℕ, nat_lt, if◌then◌else◌, Bool, List, []}
-use Rattle.std.specs.Prelude.{true, false, length, Result, Ok, Err}
+use Rattle.amqp_fields_write.specs
+use Rattle.std.specs.Prelude.{◌≡◌, ◌<◌, ◌^◌, ℕ, nat_lt, if◌then◌else◌, Bool, List, [], true, false}
+use Rattle.std.specs.Prelude.{length, Result, Ok, Err}
 use Rattle.amqp_types.specs.Flags.{flags_byte}
 use Rattle.amqp_fields.specs.declared.node.Node.{Node}
-use Rattle.amqp_fields_write.specs.declared.refusals.Refusal.{Refusal}
-use Rattle.amqp_fields_write.specs.Made.{Made, Maker, made_array, made_entry, made_long, made_span}
-use Rattle.amqp_fields_write.specs.Made.{made_table, made_text, made_value, span_in}
-use Rattle.amqp_fields_write.specs.MadeFrames.{is_given}
+use specs.declared.refusals.Refusal.{Refusal}
+use specs.Made.{Made, Maker, made_array, made_entry, made_long, made_span, made_table, made_text}
+use specs.Made.{made_value, span_in}
+use specs.MadeFrames.{is_given}
 
 -- as 8 bytes hold it, or the greatest number that they hold
 abbrev pub cut_long : ℕ → ℕ

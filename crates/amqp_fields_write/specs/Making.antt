@@ -1,28 +1,30 @@
 -- What writing returns, and what it leaves in the buffer.
-use Rattle.std.specs.Prelude.{◌≡◌, ◌⊎◌, ◌≤◌, ◌<◌, ◌+◌, ◌-◌, ◌^◌, ℕ, Bool, List, []}
-use Rattle.std.specs.Prelude.{◌∷◌, ◌++◌, length, take, drop}
-use Rattle.std.specs.Prelude.{if◌then◌else◌, Option, Some, None, Result, Ok, Err}
-use Rattle.amqp_types.specs.Levels.{Level, plain}
-use Rattle.amqp_types.specs.ContentHeaders.{SpellsContentHeader}
-use Rattle.amqp_types.specs.MethodSpelling.{SpellsPayload}
+use Rattle.amqp_fields_write.specs
+use Rattle.amqp_types.specs as types
+use Rattle.std.specs.Prelude.{◌≡◌, ◌⊎◌, ◌≤◌, ◌<◌, ◌+◌, ◌-◌, ◌^◌, ℕ, Bool, List, [], ◌∷◌, ◌++◌}
+use Rattle.std.specs.Prelude.{length, take, drop, if◌then◌else◌, Option, Some, None, Result, Ok}
+use Rattle.std.specs.Prelude.{Err}
+use types.Levels.{Level, plain}
+use types.ContentHeaders.{SpellsContentHeader}
+use types.MethodSpelling.{SpellsPayload}
 use Rattle.amqp_wire.specs.Frames.{Frame, Proto, Meth, Head, Body, Beat, BadBeat}
-use Rattle.amqp_types.specs.Constants.{inner_depth}
-use Rattle.amqp_types.specs.Strings.{is_too_long}
-use Rattle.amqp_types.specs.Values.{Entry, FieldValue}
-use Rattle.amqp_types.specs.ValueSpelling.{SpellsEach, SpellsEntry, SpellsValue}
-use Rattle.amqp_types.specs.Writing.{written}
+use types.Constants.{inner_depth}
+use types.Strings.{is_too_long}
+use types.Values.{Entry, FieldValue}
+use types.ValueSpelling.{SpellsEach, SpellsEntry, SpellsValue}
+use types.Writing.{written}
 use Rattle.amqp_wire.specs.Spelling.{SpellsFrames}
 use Rattle.amqp_fields.specs.declared.head.Head as given
 use Rattle.amqp_fields.specs.declared.node.Node.{Node}
-use Rattle.amqp_fields_write.specs.declared.refusals.WriteError.{WriteError}
-use Rattle.amqp_fields_write.specs.declared.refusals.WriteError.TheVariants as failures
-use Rattle.amqp_fields_write.specs.declared.refusals.WriteRefusal.{WriteRefusal}
-use Rattle.amqp_fields_write.specs.declared.refusals.WriteRefusal.TheVariants as whys
-use Rattle.amqp_fields_write.specs.Made.{Made, made_each, made_entry, made_value, refuse_head}
-use Rattle.amqp_fields_write.specs.MadeFrames.{at_head, given_length, made_frames, made_payload}
-use Rattle.amqp_fields_write.specs.Makes.{cut_long}
+use specs.declared.refusals.WriteError.{WriteError}
+use specs.declared.refusals.WriteError.TheVariants as failures
+use specs.declared.refusals.WriteRefusal.{WriteRefusal}
+use specs.declared.refusals.WriteRefusal.TheVariants as whys
+use specs.Made.{Made, made_each, made_entry, made_value, refuse_head}
+use specs.MadeFrames.{at_head, given_length, made_frames, made_payload}
+use specs.Makes.{cut_long}
 use Rattle.amqp_fields.specs.Meaning.{AreNodes, IsSpan}
-use Rattle.amqp_fields_write.specs.Meant.{TellFrames, TellsEntry, TellsValue}
+use specs.Meant.{TellFrames, TellsEntry, TellsValue}
 
 -- the bytes that were made stand at the front, and what comes after them is as it was
 pub record AreWritten (made : Result (List ℕ) WriteError)

@@ -1,26 +1,25 @@
 -- What heads and nodes mean from which frames are written: values (AMQP 0-9-1, section 4.2.5.5),
 -- fields and frames. Members that are not named here may be any.
+use Rattle.amqp_types.specs as types
 use Rattle.std.specs.Prelude.{◌≡◌, ◌<◌, ◌≤◌, ◌^◌, ◌+◌, ℕ, zero, suc, ℤ, List, [], ◌∷◌, length, take}
 use Rattle.std.specs.Prelude.{drop, true, Some, Ok, ◌==◌, if◌then◌else◌}
 use Rattle.std.specs.Int.{w64, cast_signed, cast_unsigned}
 use Rattle.std.specs.Str.{IsUtf8}
-use Rattle.amqp_types.specs.Judging.{Judge}
-use Rattle.amqp_types.specs.Numbers.{NumberWidth, number_limit, width_of}
-use Rattle.amqp_types.specs.Flags.{bit_of}
-use Rattle.amqp_types.specs.Values.{FieldValue, Entry, boolean_value, signed_value}
-use Rattle.amqp_types.specs.Values.{unsigned_value, decimal_value, bytes_value, array_value}
-use Rattle.amqp_types.specs.Values.{table_value, void_value, items, pairs}
-use Rattle.amqp_types.specs.ValueBytes.{signed_width, unsigned_width}
-use Rattle.amqp_types.specs.ValueJudging.{filled, judge_entry, judge_value}
-use Rattle.amqp_types.specs.Settling.{settled}
-use Rattle.amqp_types.specs.Tags.{tag_byte, tag_of}
-use Rattle.amqp_types.specs.Constants.{inner_depth, protocol_byte, method_byte}
-use Rattle.amqp_types.specs.Constants.{header_byte, body_byte, heartbeat_byte}
-use Rattle.amqp_types.specs.Slots.{Item, number_item, flag_item, text_item}
-use Rattle.amqp_types.specs.Slots.{bytes_item, entries_item, Slot}
-use Rattle.amqp_types.specs.Rows.{slots_at}
-use Rattle.amqp_types.specs.Properties.{properties}
-use Rattle.amqp_types.specs.Methods.{Method}
+use types.Judging.{Judge}
+use types.Numbers.{NumberWidth, number_limit, width_of}
+use types.Flags.{bit_of}
+use types.Values.{FieldValue, Entry, boolean_value, signed_value, unsigned_value, decimal_value}
+use types.Values.{bytes_value, array_value, table_value, void_value, items, pairs}
+use types.ValueBytes.{signed_width, unsigned_width}
+use types.ValueJudging.{filled, judge_entry, judge_value}
+use types.Settling.{settled}
+use types.Tags.{tag_byte, tag_of}
+use types.Constants.{inner_depth, protocol_byte, method_byte, header_byte, body_byte}
+use types.Constants.{heartbeat_byte}
+use types.Slots.{Item, number_item, flag_item, text_item, bytes_item, entries_item, Slot}
+use types.Rows.{slots_at}
+use types.Properties.{properties}
+use types.Methods.{Method}
 use Rattle.amqp_wire.specs.Frames.{Frame, Proto, Meth, Head, Body, Beat, BadBeat}
 use Rattle.amqp_fields.specs.declared.head.Head as given
 use Rattle.amqp_fields.specs.declared.node.Node.{Node}

@@ -1,15 +1,17 @@
 -- What the quick walk leaves: a place after what was made, or none.
-use Rattle.std.specs.Prelude.{◌≡◌, ◌≤◌, ◌<◌, ◌^◌, ◌+◌, ◌-◌, ℕ, Bool, true, List, []}
-use Rattle.std.specs.Prelude.{◌∷◌, length, if◌then◌else◌, Result, Ok, false, drop}
-use Rattle.amqp_types.specs.Numbers.{bytes4, number_bytes}
-use Rattle.amqp_types.specs.Constants.{end_byte}
-use Rattle.amqp_types.specs.Properties.{Property, properties}
-use Rattle.amqp_types.specs.Slots.{Form, table_form}
-use Rattle.amqp_types.specs.Writing.{written}
+use Rattle.amqp_fields_write.specs
+use Rattle.amqp_types.specs as types
+use Rattle.std.specs.Prelude.{◌≡◌, ◌≤◌, ◌<◌, ◌^◌, ◌+◌, ◌-◌, ℕ, Bool, true, List, [], ◌∷◌, length}
+use Rattle.std.specs.Prelude.{if◌then◌else◌, Result, Ok, false, drop}
+use types.Numbers.{bytes4, number_bytes}
+use types.Constants.{end_byte}
+use types.Properties.{Property, properties}
+use types.Slots.{Form, table_form}
+use types.Writing.{written}
 use Rattle.amqp_wire.specs.Spelling.{head}
 use Rattle.amqp_fields.specs.declared.node.Node.{Node}
-use Rattle.amqp_fields_write.specs.Made.{Made, misfit}
-use Rattle.amqp_fields_write.specs.MadeFields.{is_field, is_next}
+use specs.Made.{Made, misfit}
+use specs.MadeFields.{is_field, is_next}
 use Rattle.amqp_fields.specs.Nodes.{NoneAlone, PassesEnd}
 
 -- no place: the greatest number of 8 bytes

@@ -1,19 +1,14 @@
 -- Laws of writing.
-use Rattle.std.specs.Prelude.{◌≡◌, ◌<◌, ◌^◌, ◌++◌, ℕ, Bool, List, [], length, Some, Ok}
-use Rattle.amqp_types.specs.Levels.{plain}
+use Rattle.amqp_fields_write.specs
+use Rattle.std.specs.Prelude.{◌≡◌, ◌<◌, ◌^◌, ℕ, List, Ok}
 use Rattle.amqp_types.specs.Judging.{IsBytes}
 use Rattle.amqp_wire.specs.Canonical.{canon_frames}
 use Rattle.amqp_wire.specs.Frames.{Frame}
-use Rattle.amqp_wire.specs.Fronts.{front, place}
-use Rattle.amqp_wire.specs.Spelling.{Spells, SpellsFrames}
 use Rattle.amqp_fields.specs.declared.head.Head.{Head}
 use Rattle.amqp_fields.specs.declared.node.Node.{Node}
-use Rattle.amqp_fields_write.specs.Canonical.{ContentIsCanonical, KeysAscend}
-use Rattle.amqp_fields.specs.Heads.{SayFrames}
-use Rattle.amqp_fields.specs.Laws.{AreInFront}
-use Rattle.amqp_fields_write.specs.MadeFrames.{made_frames}
-use Rattle.amqp_fields.specs.Meaning.{AreNodes, AreNodesOf, fields_of}
-use Rattle.amqp_fields_write.specs.Meant.{TellFrames, TellsField}
+use specs.Canonical.{ContentIsCanonical, KeysAscend}
+use specs.MadeFrames.{made_frames}
+use specs.Meant.{TellFrames}
 
 -- Heads and nodes that are written mean one sequence of frames.
 abbrev pub HeadsMeanOne : Type 0
@@ -22,14 +17,6 @@ HeadsMeanOne =
     (m : ℕ) (bytes : List ℕ) (fs gs : List Frame)
     → IsBytes pool → m < 2 ^ 32 → made_frames pool nodes m 0 heads ≡ Ok bytes
     → TellFrames pool nodes heads fs → TellFrames pool nodes heads gs → fs ≡ gs
-
--- What was read can be written: the nodes that reading gives of a frame, alone or with all that
--- lies inside them, are fields of this frame where their spans are taken out of what was read.
-abbrev pub ReadNodesAreMeant : Type 0
-ReadNodesAreMeant =
-    (deep : Bool) (pool bytes : List ℕ) (frame : Frame) (nodes : List Node)
-    → IsBytes pool → IsBytes bytes → Spells plain bytes frame
-    → AreNodesOf deep pool frame nodes → AreNodes (TellsField pool) (fields_of frame) nodes
 
 -- Where the keys of each table ascend, and content that stands in the pool is canonical, the bytes
 -- that are made are the canonical bytes of the frames that are meant.
@@ -40,21 +27,3 @@ CanonicalWhereKeysAscend =
     → IsBytes pool → m < 2 ^ 32 → KeysAscend pool nodes → ContentIsCanonical pool nodes
     → made_frames pool nodes m 0 heads ≡ Ok bytes
     → TellFrames pool nodes heads frames → bytes ≡ canon_frames frames
-
--- So many frames are in front of the bytes that were read, and the bytes that were made encode
--- them: the canonical bytes of both are the same.
-pub record IsWrittenAgain (m k : ℕ) (bytes : List ℕ) (used count : ℕ) (made : List ℕ) : Type 0 where
-  pub read : AreInFront m bytes used count
-  pub encodes : SpellsFrames plain (Some k) made read.frames
-  pub whole : place plain (Some k) made ≡ []
-  pub canonical : canon_frames (front plain (Some k) made) ≡ canon_frames read.frames
-
--- The heads and nodes that say the frames in front of some bytes are written, with these bytes as
--- the pool; other nodes may stand behind in the list.
-abbrev pub ReadIsWrittenAgain : Type 0
-ReadIsWrittenAgain =
-    (m k : ℕ) (deep : Bool) (bytes : List ℕ) (heads : List Head)
-    (nodes others : List Node) (used : ℕ) (made : List ℕ)
-    → IsBytes bytes → k < 2 ^ 32 → SayFrames m deep bytes 0 0 heads nodes used
-    → made_frames bytes (nodes ++ others) k 0 heads ≡ Ok made
-    → IsWrittenAgain m k bytes used (length heads) made

@@ -18,9 +18,6 @@ mod parts;
 mod refusals;
 
 pub use equality::{equal_write_errors, equal_write_refusals};
-pub use laws::{
-    canonical_where_keys_ascend, heads_mean_one, one_frame_has_same_nodes, read_is_written_again,
-    read_nodes_are_meant,
-};
+pub use laws::{canonical_where_keys_ascend, heads_mean_one};
 pub use making::{write_entries, write_frames, write_values};
 pub use refusals::{Refusal, WriteError, WriteRefusal};

@@ -131,7 +131,7 @@ fn fill_frames(
 /// or where nothing lies inside it, content that stands in the pool as bytes: what is written is canonical where the keys of
 /// each table ascend and such content is canonical (`canonical_where_keys_ascend`). The first head or node that is refused is
 /// said, from left to right, and then nothing is written. No memory is taken, and the time is linear.
-#[tactic(auto, using(crate::proofs::HeadsTold::frames_encoded, crate::proofs::HeadsTold::frames_complete, crate::proofs::HeadsTold::frames_canonical))]
+#[tactic(auto, using(crate::proofs::Encoding::frames_encoded, crate::proofs::Encoding::frames_complete, crate::proofs::Encoding::frames_canonical))]
 pub fn write_frames(
     heads: &[Head],
     nodes: &[Node],
@@ -216,7 +216,7 @@ fn fill_content(
 
 /// Writes the content of a table alone, without its length: the entries that nodes mean, in their order. Tables and arrays
 /// may nest 63 deep in their values. More bytes than a length of 4 bytes counts are refused as too long.
-#[tactic(auto, using(crate::proofs::HeadsTold::entries_encoded, crate::proofs::HeadsTold::entries_complete))]
+#[tactic(auto, using(crate::proofs::Encoding::entries_encoded, crate::proofs::Encoding::entries_complete))]
 pub fn write_entries(nodes: &[Node], pool: &[u8], out: &mut [u8]) -> Result<usize, WriteError>
     ensures made { Writes (made_entries pool.now nodes.now) out.old out.new result }
     ensures encoded { IfOk result (EncodesEntries pool.now nodes.now out.old out.new) }
@@ -230,7 +230,7 @@ pub fn write_entries(nodes: &[Node], pool: &[u8], out: &mut [u8]) -> Result<usiz
 }
 
 /// Writes the content of an array alone, without its length: the values that nodes mean, whose keys are not looked at.
-#[tactic(auto, using(crate::proofs::HeadsTold::values_encoded, crate::proofs::HeadsTold::values_complete))]
+#[tactic(auto, using(crate::proofs::Encoding::values_encoded, crate::proofs::Encoding::values_complete))]
 pub fn write_values(nodes: &[Node], pool: &[u8], out: &mut [u8]) -> Result<usize, WriteError>
     ensures made { Writes (made_values pool.now nodes.now) out.old out.new result }
     ensures encoded { IfOk result (EncodesValues pool.now nodes.now out.old out.new) }

@@ -1,22 +1,11 @@
--- Typed frames and content headers as contracts see them. What speaks of no typed
--- frame is passed on.
-use Rattle.amqp_types.specs.ContentHeaders.{ContentHeader}
-use Rattle.amqp_properties.specs.Options.{options}
+-- Typed frames as contracts see them. What speaks of no typed frame is passed on.
+pub use Rattle.amqp_properties.specs.Headers.{header_of}
 use Rattle.amqp_protocol.specs.Classes.{method_of}
 pub use Rattle.amqp_wire.specs.Frames.{Frame, Proto, Meth, Head, Body, Beat}
 pub use Rattle.amqp_wire.specs.Frames.{BadBeat, Raw, raw_as, raw_of, channel_id_of}
 pub use Rattle.amqp_wire.specs.Frames.{IsHeader, beat_on, IsTyped, OwnsMemory}
-use Rattle.amqp_frame.specs.declared.content_header.AMQPContentHeader.{AMQPContentHeader}
 use Rattle.amqp_frame.specs.declared.frame.AMQPFrame.{AMQPFrame}
 use Rattle.amqp_frame.specs.declared.frame.AMQPFrame.TheVariants as frames
-
--- a content header as contracts see it
-abbrev pub header_of : AMQPContentHeader → ContentHeader
-header_of header = record {
-  class_id = header.class_id;
-  body_size = header.body_size;
-  options = options header.properties;
-}
 
 -- a frame as contracts see it
 abbrev pub frame_of : AMQPFrame → Frame

@@ -4,7 +4,7 @@ ghost use Rattle.std.specs.Prelude.{◌≡◌, ◌↔◌, IfOk, IsTrue, Some};
 ghost use Rattle.amqp_frame.specs.Frames.{frame_of, channel_id_of, IsHeader};
 ghost use Rattle.amqp_wire.specs.Display.{frame_text};
 
-use crate::content_header::AMQPContentHeader;
+use amqp_properties::AMQPContentHeader;
 use amqp_protocol::AMQPClass;
 use amqp_types::{ByteArray, ChannelId, NoMemory};
 use amqp_wire::ProtocolVersion;

@@ -11,8 +11,8 @@ ghost use Rattle.amqp_wire.specs.Canonical.{canon, size_of, framed_size, SliceAn
 ghost use Rattle.amqp_wire.specs.Spelling.{framed};
 ghost use Rattle.amqp_frame.specs.Frames.{frame_of, header_of};
 
-use crate::content_header::{AMQPContentHeader, put_content_header, size_content_header};
 use crate::frame::AMQPFrame;
+use amqp_properties::{AMQPContentHeader, put_content_header, size_content_header};
 use amqp_protocol::{AMQPClass, put_class, size_class};
 use amqp_types::{ChannelId, FRAME_BODY, FRAME_HEADER, FRAME_METHOD, GenError, grow, put_bytes};
 pub use amqp_wire::generation::{

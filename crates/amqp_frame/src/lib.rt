@@ -2,7 +2,6 @@
 //! amqp_wire has of frames as borrowed bytes is passed on.
 #![tactic(auto)]
 
-mod content_header;
 mod equality;
 mod frame;
 pub mod generation;
@@ -11,6 +10,9 @@ mod laws;
 pub mod outline;
 pub mod parsing;
 
+pub use amqp_properties::{
+    AMQPContentHeader, content_header_held, equal_content_headers, parse_content_header,
+};
 pub use amqp_types::{GenError, PROTOCOL_BYTE, ParserError};
 pub use amqp_wire::{
     AMQPChannel, AMQPFrameType, AMQPRawFrame, EntryMark, FrameJudgement, FrameLayout, HasOutline,
@@ -21,14 +23,13 @@ pub use amqp_wire::{
     look_at, looking, no_frame_begins_another, one_canonical_spelling, one_meaning, put_canonical,
     raw_frame, verdicts_are_spellings, verdicts_are_stable, version, written_again,
 };
-pub use content_header::{AMQPContentHeader, parse_content_header};
-pub use equality::{equal_content_headers, equal_frames};
+pub use equality::equal_frames;
 pub use frame::{AMQPFrame, release};
 pub use generation::{
     frame_head, frame_size, gen_frame, gen_frame_slice, header_bytes, heartbeat_bytes, put_around,
     put_frame, put_framed,
 };
-pub use held::{content_header_held, frame_held};
+pub use held::frame_held;
 pub use laws::frame_reads_back;
 pub use outline::{FrameOutline, outline_front, outline_raw};
 pub use parsing::{

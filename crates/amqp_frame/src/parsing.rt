@@ -13,9 +13,9 @@ ghost use Rattle.amqp_wire.specs.Verdicts.{IsPayloadError, all_of};
 ghost use Rattle.amqp_wire.specs.Verdicts.{judge_frame, decode_raw, decode_payload};
 ghost use Rattle.amqp_frame.specs.Frames.{frame_of, header_of, raw_of, beat_on, OwnsMemory};
 
-use crate::content_header::AMQPContentHeader;
-pub use crate::content_header::parse_content_header;
 use crate::frame::AMQPFrame;
+use amqp_properties::AMQPContentHeader;
+pub use amqp_properties::parse_content_header;
 use amqp_protocol::{AMQPClass, parse_class};
 use amqp_types::{ByteArray, ChannelId, ParserError};
 pub use amqp_wire::parsing::{

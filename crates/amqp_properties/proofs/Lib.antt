@@ -4,3 +4,4 @@ pub mod Sizes
 pub mod Chained
 pub mod Holding
 pub mod EqualProperties
+pub mod EqualHeaders

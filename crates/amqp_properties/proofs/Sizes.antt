@@ -1,14 +1,15 @@
--- The size of all properties, from those of each: only a table is refused.
-use Rattle.std.proofs.Common.{◌≡◌, ℕ, ◌+◌, ◌||◌, List, [], ◌∷◌, length, Bool, true, false, Option, Some, None, option_map}
+-- The size of all properties, from those of each: only a table is refused. And that of a content header, from theirs.
+use Rattle.std.proofs.Common.{◌≡◌, ℕ, ◌+◌, ◌||◌, List, [], ◌∷◌, ◌++◌, length, Bool, true, false, Option, Some, None, option_map}
 use Rattle.std.proofs.Common.{Ok, Err, refl, ap, arith}
 use Rattle.std.proofs.lemmas.List.{length-append}
 use Rattle.amqp_types.specs.Numbers.{bytes2, number_bytes}
 use Rattle.amqp_types.specs.Sizes.{measured}
 use Rattle.amqp_types.specs.Slots.{Item, number_item, text_item, entries_item}
-use Rattle.amqp_types.specs.SlotBytes.{form_bytes}
+use Rattle.amqp_types.specs.SlotBytes.{form_bytes, slots_bytes}
 use Rattle.amqp_types.specs.Properties.{Property, properties}
 use Rattle.amqp_types.specs.PropertyBytes.{mask_of, optional_bytes, set_bytes, properties_bytes, properties_size, is_deep_option, is_long_option}
 use Rattle.amqp_types.specs.PropertyBytes.{any_deep_option, any_long_option}
+use Rattle.amqp_types.specs.ContentHeaders.{ContentHeader, header_slots, header_items, content_header_bytes, content_header_size}
 use Rattle.amqp_types.specs.declared.errors.GenError.{GenError}
 use Rattle.amqp_types.proofs.Numbers.{number_bytes-length}
 use Rattle.amqp_properties.specs.Options.{options}
@@ -124,3 +125,18 @@ pub size_counted : (p : AMQPProperties) (headers : List ℕ) (rest n : ℕ) → 
     → Ok (rest + n) ≡ properties_size (options p)
 unfolding properties_size
 size_counted p headers rest n sum h = rw (only_headers_deep p, only_headers_long p) (counted _ _ headers (properties_bytes (options p)) rest n sum h)
+
+-- ---- content headers
+
+start_counted : (deep long : Bool) (start rest : List ℕ) (n : ℕ) → length start ≡ 12
+    → measured deep long rest ≡ Ok n → measured deep long (start ++ rest) ≡ Ok (12 + n)
+start_counted true long start rest n twelve h = absurd cc
+start_counted false true start rest n twelve h = absurd cc
+start_counted false false start rest n twelve h = let same : length rest ≡ n = cc in ap Ok (omega (arith, length-append start rest, twelve, same))
+
+-- the size of a content header by that of its properties
+pub header_counted : (header : ContentHeader) (n : ℕ) → properties_size header.options ≡ Ok n → content_header_size header ≡ Ok (12 + n)
+unfolding content_header_size content_header_bytes properties_size slots_bytes form_bytes header_slots
+header_counted header n h =
+    start_counted (any_deep_option header.options) (any_long_option header.options)
+    (slots_bytes header_slots (header_items header)) (properties_bytes header.options) n refl h

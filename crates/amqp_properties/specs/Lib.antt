@@ -1,4 +1,5 @@
 -- The definitions of amqp_properties.
 pub mod Options
+pub mod Headers
 pub mod OptionalFields
 pub mod HeldOptions

@@ -12,6 +12,7 @@ use amqp_channel::{channel, confirm, tx};
 use amqp_connection::{access, connection};
 use amqp_topology::{exchange, queue};
 use amqp_types::{GenError, Identifier, NoMemory, ParserError, parse_id};
+use amqp_values::{copied, in_variant};
 use std::alloc::Global;
 
 /// A method of any class.
@@ -96,14 +97,14 @@ impl AMQPClass {
         ensures { IfOk result (λ copied. copied ≡ self.now) }
     {
         match self {
-            AMQPClass::Basic(method) => Ok(AMQPClass::Basic(method.copy(alloc)?)),
-            AMQPClass::Connection(method) => Ok(AMQPClass::Connection(method.copy(alloc)?)),
-            AMQPClass::Channel(method) => Ok(AMQPClass::Channel(method.copy(alloc)?)),
-            AMQPClass::Access(method) => Ok(AMQPClass::Access(method.copy(alloc)?)),
-            AMQPClass::Exchange(method) => Ok(AMQPClass::Exchange(method.copy(alloc)?)),
-            AMQPClass::Queue(method) => Ok(AMQPClass::Queue(method.copy(alloc)?)),
-            AMQPClass::Tx(method) => Ok(AMQPClass::Tx(method.copy(alloc)?)),
-            AMQPClass::Confirm(method) => Ok(AMQPClass::Confirm(method.copy(alloc)?)),
+            AMQPClass::Basic(method) => copied!(method.copy(alloc), AMQPClass::Basic),
+            AMQPClass::Connection(method) => copied!(method.copy(alloc), AMQPClass::Connection),
+            AMQPClass::Channel(method) => copied!(method.copy(alloc), AMQPClass::Channel),
+            AMQPClass::Access(method) => copied!(method.copy(alloc), AMQPClass::Access),
+            AMQPClass::Exchange(method) => copied!(method.copy(alloc), AMQPClass::Exchange),
+            AMQPClass::Queue(method) => copied!(method.copy(alloc), AMQPClass::Queue),
+            AMQPClass::Tx(method) => copied!(method.copy(alloc), AMQPClass::Tx),
+            AMQPClass::Confirm(method) => copied!(method.copy(alloc), AMQPClass::Confirm),
         }
     }
 }
@@ -118,38 +119,17 @@ fn parse_in_class(
     ensures { Parses method_of result i.now (judge_in_class class) }
 {
     match class {
-        60 => {
-            let (used, method) = basic::parse_basic(alloc, i)?;
-            Ok((used, AMQPClass::Basic(method)))
-        }
-        10 => {
-            let (used, method) = connection::parse_connection(alloc, i)?;
-            Ok((used, AMQPClass::Connection(method)))
-        }
-        20 => {
-            let (used, method) = channel::parse_channel(alloc, i)?;
-            Ok((used, AMQPClass::Channel(method)))
-        }
-        30 => {
-            let (used, method) = access::parse_access(alloc, i)?;
-            Ok((used, AMQPClass::Access(method)))
-        }
-        40 => {
-            let (used, method) = exchange::parse_exchange(alloc, i)?;
-            Ok((used, AMQPClass::Exchange(method)))
-        }
-        50 => {
-            let (used, method) = queue::parse_queue(alloc, i)?;
-            Ok((used, AMQPClass::Queue(method)))
-        }
-        90 => {
-            let (used, method) = tx::parse_tx(alloc, i)?;
-            Ok((used, AMQPClass::Tx(method)))
-        }
-        85 => {
-            let (used, method) = confirm::parse_confirm(alloc, i)?;
-            Ok((used, AMQPClass::Confirm(method)))
-        }
+        60 => in_variant!(basic::parse_basic(alloc, i), AMQPClass::Basic),
+        10 => in_variant!(
+            connection::parse_connection(alloc, i),
+            AMQPClass::Connection
+        ),
+        20 => in_variant!(channel::parse_channel(alloc, i), AMQPClass::Channel),
+        30 => in_variant!(access::parse_access(alloc, i), AMQPClass::Access),
+        40 => in_variant!(exchange::parse_exchange(alloc, i), AMQPClass::Exchange),
+        50 => in_variant!(queue::parse_queue(alloc, i), AMQPClass::Queue),
+        90 => in_variant!(tx::parse_tx(alloc, i), AMQPClass::Tx),
+        85 => in_variant!(confirm::parse_confirm(alloc, i), AMQPClass::Confirm),
         _ => Err(ParserError::UnknownClass),
     }
 }

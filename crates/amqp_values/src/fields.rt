@@ -1,7 +1,7 @@
 //! Fields that are written one after another: measured, put into a slice, or appended to a vector.
 
 ghost use Rattle.std.specs.Prelude.{◌≡◌, ◌≤◌, ◌<◌, ◌+◌, ◌*◌, ◌^◌, ◌++◌, ◌||◌, ℕ, List};
-ghost use Rattle.std.specs.Prelude.{Bool, Ok, false, length, IfOk, IsOk};
+ghost use Rattle.std.specs.Prelude.{Bool, Ok, drop, false, length, IfOk, IsOk};
 ghost use Rattle.amqp_types.specs.Sizes.{measured};
 ghost use Rattle.amqp_types.specs.Writing.{Puts, Appends};
 ghost use Rattle.amqp_values.specs.Fields.{field_bytes, is_deep_field, is_long_field, fields_bytes};
@@ -186,4 +186,40 @@ pub fn gen_fields(out: &mut Vec<u8>, fields: &[Field<'_>]) -> Result<(), GenErro
     let at = grow(out, size)?;
     put_fields(out, at, fields);
     Ok(())
+}
+
+/// The size of the fields of a method with its id: all but the first, which is the id of its class.
+pub fn size_method_fields(fields: &[Field<'_>]) -> Result<u64, GenError>
+    requires few { length fields.now ≤ 64 }
+    ensures size { result ≡ fields_size (drop 1 fields.now) }
+    ensures bound { IfOk result (λ n. n ≤ 64 * 2 ^ 33) }
+{
+    match fields {
+        [] => size_fields(fields),
+        [_, rest @ ..] => size_fields(rest),
+    }
+}
+
+/// Puts the fields of a method with its id at a place of a slice, and returns the place after them.
+pub fn put_method_fields(buf: &mut [u8], at: usize, fields: &[Field<'_>]) -> usize
+    requires fits { IsOk (fields_size (drop 1 fields.now)) }
+    requires room { at + length (fields_bytes (drop 1 fields.now)) ≤ length buf.old }
+    ensures { Puts buf.old buf.new at (fields_bytes (drop 1 fields.now)) result }
+{
+    match fields {
+        [] => put_fields(buf, at, fields),
+        [_, rest @ ..] => put_fields(buf, at, rest),
+    }
+}
+
+/// Appends the fields of a method with its id to a vector.
+pub fn gen_method_fields(out: &mut Vec<u8>, fields: &[Field<'_>]) -> Result<(), GenError>
+    requires few { length fields.now ≤ 64 }
+    ensures { Appends out.old.items out.new.items (fields_size (drop 1 fields.now))
+        (fields_bytes (drop 1 fields.now)) result }
+{
+    match fields {
+        [] => gen_fields(out, fields),
+        [_, rest @ ..] => gen_fields(out, rest),
+    }
 }

@@ -239,3 +239,14 @@ macro_rules! in_variant {
         Ok((used, $variant(method)))
     }};
 }
+
+/// What a call returns that copies a method, with the copy in its variant. No copy fails but for want of memory.
+#[macro_export]
+macro_rules! copied {
+    ($copy:expr, $variant:path) => {
+        match $copy {
+            Ok(method) => Ok($variant(method)),
+            Err(_) => Err($crate::NoMemory),
+        }
+    };
+}

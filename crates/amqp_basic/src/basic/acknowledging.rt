@@ -11,7 +11,7 @@ ghost use Rattle.amqp_basic.specs.Basic.{recover_method, recover_ok_method, nack
 
 use amqp_values::{
     Boolean, Field, GenError, Identifier, LongLongUInt, ParserError, SlotReader, byte_of_flags,
-    flag_of_byte, gen_fields, put_fields, size_fields,
+    flag_of_byte, gen_method_fields, put_method_fields, size_method_fields,
 };
 use std::alloc::Global;
 
@@ -69,7 +69,7 @@ pub fn parse_ack(_alloc: Global, i: &[u8]) -> Result<(usize, Ack), ParserError>
     Ok((slots.used(i), method))
 }
 
-/// Its ids and fields, in order.
+/// Its ids and fields, in order, and nothing after them, as most frames have it.
 #[tactic(auto, unfolding(amqp_values::proofs::OneMethod::listed))]
 pub(super) fn ack_fields(method: &Ack) -> [Field<'_>; 4]
     ensures { ListsMethod result (ack_method method.now) }
@@ -86,7 +86,7 @@ pub(super) fn ack_fields(method: &Ack) -> [Field<'_>; 4]
 pub fn size_ack(method: &Ack) -> Result<u64, GenError>
     ensures { Measures result (method_size (ack_method method.now)) }
 {
-    size_fields(&ack_fields(method)[1..])
+    size_method_fields(&ack_fields(method))
 }
 
 /// Puts the method id and the fields of `Ack` at a place of a slice, and returns the place after.
@@ -95,7 +95,7 @@ pub fn put_ack(buf: &mut [u8], at: usize, method: &Ack) -> usize
         (method_bytes (ack_method method.now)) }
     ensures { Puts buf.old buf.new at (method_bytes (ack_method method.now)) result }
 {
-    put_fields(buf, at, &ack_fields(method)[1..])
+    put_method_fields(buf, at, &ack_fields(method))
 }
 
 /// Appends the method id and the fields of `Ack` to a vector.
@@ -103,7 +103,7 @@ pub fn gen_ack(_alloc: Global, out: &mut Vec<u8>, method: &Ack) -> Result<(), Ge
     ensures { Appends out.old.items out.new.items (method_size (ack_method method.now))
         (method_bytes (ack_method method.now)) result }
 {
-    gen_fields(out, &ack_fields(method)[1..])
+    gen_method_fields(out, &ack_fields(method))
 }
 
 /// The client rejects a message.
@@ -162,7 +162,7 @@ pub fn parse_reject(_alloc: Global, i: &[u8]) -> Result<(usize, Reject), ParserE
 
 /// Its ids and fields, in order.
 #[tactic(auto, unfolding(amqp_values::proofs::OneMethod::listed))]
-pub(super) fn reject_fields(method: &Reject) -> [Field<'_>; 4]
+pub(super) fn reject_fields(method: &Reject) -> [Field<'_>; 7]
     ensures { ListsMethod result (reject_method method.now) }
 {
     [
@@ -170,6 +170,9 @@ pub(super) fn reject_fields(method: &Reject) -> [Field<'_>; 4]
         Field::ShortUInt(90),
         Field::LongLongUInt(method.delivery_tag),
         Field::Flags(byte_of_flags(&[method.requeue])),
+        Field::Nothing,
+        Field::Nothing,
+        Field::Nothing,
     ]
 }
 
@@ -177,7 +180,7 @@ pub(super) fn reject_fields(method: &Reject) -> [Field<'_>; 4]
 pub fn size_reject(method: &Reject) -> Result<u64, GenError>
     ensures { Measures result (method_size (reject_method method.now)) }
 {
-    size_fields(&reject_fields(method)[1..])
+    size_method_fields(&reject_fields(method))
 }
 
 /// Puts the method id and the fields of `Reject` at a place of a slice, and returns the place after.
@@ -186,7 +189,7 @@ pub fn put_reject(buf: &mut [u8], at: usize, method: &Reject) -> usize
         (method_bytes (reject_method method.now)) }
     ensures { Puts buf.old buf.new at (method_bytes (reject_method method.now)) result }
 {
-    put_fields(buf, at, &reject_fields(method)[1..])
+    put_method_fields(buf, at, &reject_fields(method))
 }
 
 /// Appends the method id and the fields of `Reject` to a vector.
@@ -194,7 +197,7 @@ pub fn gen_reject(_alloc: Global, out: &mut Vec<u8>, method: &Reject) -> Result<
     ensures { Appends out.old.items out.new.items (method_size (reject_method method.now))
         (method_bytes (reject_method method.now)) result }
 {
-    gen_fields(out, &reject_fields(method)[1..])
+    gen_method_fields(out, &reject_fields(method))
 }
 
 /// The client asks for all messages again that it has not acknowledged, and expects no reply.
@@ -245,13 +248,17 @@ pub fn parse_recover_async(_alloc: Global, i: &[u8]) -> Result<(usize, RecoverAs
 
 /// Its ids and fields, in order.
 #[tactic(auto, unfolding(amqp_values::proofs::OneMethod::listed))]
-pub(super) fn recover_async_fields(method: &RecoverAsync) -> [Field<'_>; 3]
+pub(super) fn recover_async_fields(method: &RecoverAsync) -> [Field<'_>; 7]
     ensures { ListsMethod result (recover_async_method method.now) }
 {
     [
         Field::ShortUInt(60),
         Field::ShortUInt(100),
         Field::Flags(byte_of_flags(&[method.requeue])),
+        Field::Nothing,
+        Field::Nothing,
+        Field::Nothing,
+        Field::Nothing,
     ]
 }
 
@@ -259,7 +266,7 @@ pub(super) fn recover_async_fields(method: &RecoverAsync) -> [Field<'_>; 3]
 pub fn size_recover_async(method: &RecoverAsync) -> Result<u64, GenError>
     ensures { Measures result (method_size (recover_async_method method.now)) }
 {
-    size_fields(&recover_async_fields(method)[1..])
+    size_method_fields(&recover_async_fields(method))
 }
 
 /// Puts the method id and the fields of `RecoverAsync` at a place of a slice, and returns the place after.
@@ -268,7 +275,7 @@ pub fn put_recover_async(buf: &mut [u8], at: usize, method: &RecoverAsync) -> us
         (method_bytes (recover_async_method method.now)) }
     ensures { Puts buf.old buf.new at (method_bytes (recover_async_method method.now)) result }
 {
-    put_fields(buf, at, &recover_async_fields(method)[1..])
+    put_method_fields(buf, at, &recover_async_fields(method))
 }
 
 /// Appends the method id and the fields of `RecoverAsync` to a vector.
@@ -280,7 +287,7 @@ pub fn gen_recover_async(
     ensures { Appends out.old.items out.new.items (method_size (recover_async_method method.now))
         (method_bytes (recover_async_method method.now)) result }
 {
-    gen_fields(out, &recover_async_fields(method)[1..])
+    gen_method_fields(out, &recover_async_fields(method))
 }
 
 /// The client asks for all messages again that it has not acknowledged.
@@ -331,13 +338,17 @@ pub fn parse_recover(_alloc: Global, i: &[u8]) -> Result<(usize, Recover), Parse
 
 /// Its ids and fields, in order.
 #[tactic(auto, unfolding(amqp_values::proofs::OneMethod::listed))]
-pub(super) fn recover_fields(method: &Recover) -> [Field<'_>; 3]
+pub(super) fn recover_fields(method: &Recover) -> [Field<'_>; 7]
     ensures { ListsMethod result (recover_method method.now) }
 {
     [
         Field::ShortUInt(60),
         Field::ShortUInt(110),
         Field::Flags(byte_of_flags(&[method.requeue])),
+        Field::Nothing,
+        Field::Nothing,
+        Field::Nothing,
+        Field::Nothing,
     ]
 }
 
@@ -345,7 +356,7 @@ pub(super) fn recover_fields(method: &Recover) -> [Field<'_>; 3]
 pub fn size_recover(method: &Recover) -> Result<u64, GenError>
     ensures { Measures result (method_size (recover_method method.now)) }
 {
-    size_fields(&recover_fields(method)[1..])
+    size_method_fields(&recover_fields(method))
 }
 
 /// Puts the method id and the fields of `Recover` at a place of a slice, and returns the place after.
@@ -354,7 +365,7 @@ pub fn put_recover(buf: &mut [u8], at: usize, method: &Recover) -> usize
         (method_bytes (recover_method method.now)) }
     ensures { Puts buf.old buf.new at (method_bytes (recover_method method.now)) result }
 {
-    put_fields(buf, at, &recover_fields(method)[1..])
+    put_method_fields(buf, at, &recover_fields(method))
 }
 
 /// Appends the method id and the fields of `Recover` to a vector.
@@ -362,7 +373,7 @@ pub fn gen_recover(_alloc: Global, out: &mut Vec<u8>, method: &Recover) -> Resul
     ensures { Appends out.old.items out.new.items (method_size (recover_method method.now))
         (method_bytes (recover_method method.now)) result }
 {
-    gen_fields(out, &recover_fields(method)[1..])
+    gen_method_fields(out, &recover_fields(method))
 }
 
 /// The messages will be sent again.
@@ -397,17 +408,25 @@ pub fn parse_recover_ok(_alloc: Global, i: &[u8]) -> Result<(usize, RecoverOk), 
 
 /// Its ids and fields, in order.
 #[tactic(auto, unfolding(amqp_values::proofs::OneMethod::listed))]
-pub(super) fn recover_ok_fields(_method: &RecoverOk) -> [Field<'_>; 2]
+pub(super) fn recover_ok_fields(_method: &RecoverOk) -> [Field<'_>; 7]
     ensures { ListsMethod result (recover_ok_method _method.now) }
 {
-    [Field::ShortUInt(60), Field::ShortUInt(111)]
+    [
+        Field::ShortUInt(60),
+        Field::ShortUInt(111),
+        Field::Nothing,
+        Field::Nothing,
+        Field::Nothing,
+        Field::Nothing,
+        Field::Nothing,
+    ]
 }
 
 /// The size in bytes of the method id and the fields of `RecoverOk`.
 pub fn size_recover_ok(method: &RecoverOk) -> Result<u64, GenError>
     ensures { Measures result (method_size (recover_ok_method method.now)) }
 {
-    size_fields(&recover_ok_fields(method)[1..])
+    size_method_fields(&recover_ok_fields(method))
 }
 
 /// Puts the method id and the fields of `RecoverOk` at a place of a slice, and returns the place after.
@@ -416,7 +435,7 @@ pub fn put_recover_ok(buf: &mut [u8], at: usize, method: &RecoverOk) -> usize
         (method_bytes (recover_ok_method method.now)) }
     ensures { Puts buf.old buf.new at (method_bytes (recover_ok_method method.now)) result }
 {
-    put_fields(buf, at, &recover_ok_fields(method)[1..])
+    put_method_fields(buf, at, &recover_ok_fields(method))
 }
 
 /// Appends the method id and the fields of `RecoverOk` to a vector.
@@ -424,7 +443,7 @@ pub fn gen_recover_ok(_alloc: Global, out: &mut Vec<u8>, method: &RecoverOk) -> 
     ensures { Appends out.old.items out.new.items (method_size (recover_ok_method method.now))
         (method_bytes (recover_ok_method method.now)) result }
 {
-    gen_fields(out, &recover_ok_fields(method)[1..])
+    gen_method_fields(out, &recover_ok_fields(method))
 }
 
 /// A peer rejects messages.
@@ -489,7 +508,7 @@ pub fn parse_nack(_alloc: Global, i: &[u8]) -> Result<(usize, Nack), ParserError
 
 /// Its ids and fields, in order.
 #[tactic(auto, unfolding(amqp_values::proofs::OneMethod::listed))]
-pub(super) fn nack_fields(method: &Nack) -> [Field<'_>; 4]
+pub(super) fn nack_fields(method: &Nack) -> [Field<'_>; 7]
     ensures { ListsMethod result (nack_method method.now) }
 {
     [
@@ -497,6 +516,9 @@ pub(super) fn nack_fields(method: &Nack) -> [Field<'_>; 4]
         Field::ShortUInt(120),
         Field::LongLongUInt(method.delivery_tag),
         Field::Flags(byte_of_flags(&[method.multiple, method.requeue])),
+        Field::Nothing,
+        Field::Nothing,
+        Field::Nothing,
     ]
 }
 
@@ -504,7 +526,7 @@ pub(super) fn nack_fields(method: &Nack) -> [Field<'_>; 4]
 pub fn size_nack(method: &Nack) -> Result<u64, GenError>
     ensures { Measures result (method_size (nack_method method.now)) }
 {
-    size_fields(&nack_fields(method)[1..])
+    size_method_fields(&nack_fields(method))
 }
 
 /// Puts the method id and the fields of `Nack` at a place of a slice, and returns the place after.
@@ -513,7 +535,7 @@ pub fn put_nack(buf: &mut [u8], at: usize, method: &Nack) -> usize
         (method_bytes (nack_method method.now)) }
     ensures { Puts buf.old buf.new at (method_bytes (nack_method method.now)) result }
 {
-    put_fields(buf, at, &nack_fields(method)[1..])
+    put_method_fields(buf, at, &nack_fields(method))
 }
 
 /// Appends the method id and the fields of `Nack` to a vector.
@@ -521,5 +543,5 @@ pub fn gen_nack(_alloc: Global, out: &mut Vec<u8>, method: &Nack) -> Result<(), 
     ensures { Appends out.old.items out.new.items (method_size (nack_method method.now))
         (method_bytes (nack_method method.now)) result }
 {
-    gen_fields(out, &nack_fields(method)[1..])
+    gen_method_fields(out, &nack_fields(method))
 }

@@ -11,8 +11,8 @@ ghost use Rattle.amqp_basic.specs.Basic.{consume_ok_method, cancel_method, cance
 
 use amqp_values::{
     Boolean, Field, FieldTable, Flags, GenError, Identifier, NoMemory, ParserError,
-    ReservedShortUInt, ShortString, ShortUInt, SlotReader, byte_of_flags, flag_of_byte, gen_fields,
-    put_fields, size_fields,
+    ReservedShortUInt, ShortString, ShortUInt, SlotReader, byte_of_flags, copied, flag_of_byte,
+    gen_method_fields, put_method_fields, size_method_fields,
 };
 use std::alloc::Global;
 
@@ -74,7 +74,7 @@ pub fn parse_qos(_alloc: Global, i: &[u8]) -> Result<(usize, Qos), ParserError>
 
 /// Its ids and fields, in order.
 #[tactic(auto, unfolding(amqp_values::proofs::OneMethod::listed))]
-pub(super) fn qos_fields(method: &Qos) -> [Field<'_>; 5]
+pub(super) fn qos_fields(method: &Qos) -> [Field<'_>; 7]
     ensures { ListsMethod result (qos_method method.now) }
 {
     [
@@ -83,6 +83,8 @@ pub(super) fn qos_fields(method: &Qos) -> [Field<'_>; 5]
         Field::LongUInt(0), // reserved
         Field::ShortUInt(method.prefetch_count),
         Field::Flags(byte_of_flags(&[method.global])),
+        Field::Nothing,
+        Field::Nothing,
     ]
 }
 
@@ -90,7 +92,7 @@ pub(super) fn qos_fields(method: &Qos) -> [Field<'_>; 5]
 pub fn size_qos(method: &Qos) -> Result<u64, GenError>
     ensures { Measures result (method_size (qos_method method.now)) }
 {
-    size_fields(&qos_fields(method)[1..])
+    size_method_fields(&qos_fields(method))
 }
 
 /// Puts the method id and the fields of `Qos` at a place of a slice, and returns the place after.
@@ -99,7 +101,7 @@ pub fn put_qos(buf: &mut [u8], at: usize, method: &Qos) -> usize
         (method_bytes (qos_method method.now)) }
     ensures { Puts buf.old buf.new at (method_bytes (qos_method method.now)) result }
 {
-    put_fields(buf, at, &qos_fields(method)[1..])
+    put_method_fields(buf, at, &qos_fields(method))
 }
 
 /// Appends the method id and the fields of `Qos` to a vector.
@@ -107,7 +109,7 @@ pub fn gen_qos(_alloc: Global, out: &mut Vec<u8>, method: &Qos) -> Result<(), Ge
     ensures { Appends out.old.items out.new.items (method_size (qos_method method.now))
         (method_bytes (qos_method method.now)) result }
 {
-    gen_fields(out, &qos_fields(method)[1..])
+    gen_method_fields(out, &qos_fields(method))
 }
 
 /// The limit holds.
@@ -142,17 +144,25 @@ pub fn parse_qos_ok(_alloc: Global, i: &[u8]) -> Result<(usize, QosOk), ParserEr
 
 /// Its ids and fields, in order.
 #[tactic(auto, unfolding(amqp_values::proofs::OneMethod::listed))]
-pub(super) fn qos_ok_fields(_method: &QosOk) -> [Field<'_>; 2]
+pub(super) fn qos_ok_fields(_method: &QosOk) -> [Field<'_>; 7]
     ensures { ListsMethod result (qos_ok_method _method.now) }
 {
-    [Field::ShortUInt(60), Field::ShortUInt(11)]
+    [
+        Field::ShortUInt(60),
+        Field::ShortUInt(11),
+        Field::Nothing,
+        Field::Nothing,
+        Field::Nothing,
+        Field::Nothing,
+        Field::Nothing,
+    ]
 }
 
 /// The size in bytes of the method id and the fields of `QosOk`.
 pub fn size_qos_ok(method: &QosOk) -> Result<u64, GenError>
     ensures { Measures result (method_size (qos_ok_method method.now)) }
 {
-    size_fields(&qos_ok_fields(method)[1..])
+    size_method_fields(&qos_ok_fields(method))
 }
 
 /// Puts the method id and the fields of `QosOk` at a place of a slice, and returns the place after.
@@ -161,7 +171,7 @@ pub fn put_qos_ok(buf: &mut [u8], at: usize, method: &QosOk) -> usize
         (method_bytes (qos_ok_method method.now)) }
     ensures { Puts buf.old buf.new at (method_bytes (qos_ok_method method.now)) result }
 {
-    put_fields(buf, at, &qos_ok_fields(method)[1..])
+    put_method_fields(buf, at, &qos_ok_fields(method))
 }
 
 /// Appends the method id and the fields of `QosOk` to a vector.
@@ -169,7 +179,7 @@ pub fn gen_qos_ok(_alloc: Global, out: &mut Vec<u8>, method: &QosOk) -> Result<(
     ensures { Appends out.old.items out.new.items (method_size (qos_ok_method method.now))
         (method_bytes (qos_ok_method method.now)) result }
 {
-    gen_fields(out, &qos_ok_fields(method)[1..])
+    gen_method_fields(out, &qos_ok_fields(method))
 }
 
 /// The client starts to consume from a queue.
@@ -291,7 +301,7 @@ pub(super) fn consume_fields(method: &Consume) -> [Field<'_>; 7]
 pub fn size_consume(method: &Consume) -> Result<u64, GenError>
     ensures { Measures result (method_size (consume_method method.now)) }
 {
-    size_fields(&consume_fields(method)[1..])
+    size_method_fields(&consume_fields(method))
 }
 
 /// Puts the method id and the fields of `Consume` at a place of a slice, and returns the place after.
@@ -300,7 +310,7 @@ pub fn put_consume(buf: &mut [u8], at: usize, method: &Consume) -> usize
         (method_bytes (consume_method method.now)) }
     ensures { Puts buf.old buf.new at (method_bytes (consume_method method.now)) result }
 {
-    put_fields(buf, at, &consume_fields(method)[1..])
+    put_method_fields(buf, at, &consume_fields(method))
 }
 
 /// Appends the method id and the fields of `Consume` to a vector.
@@ -308,7 +318,7 @@ pub fn gen_consume(_alloc: Global, out: &mut Vec<u8>, method: &Consume) -> Resul
     ensures { Appends out.old.items out.new.items (method_size (consume_method method.now))
         (method_bytes (consume_method method.now)) result }
 {
-    gen_fields(out, &consume_fields(method)[1..])
+    gen_method_fields(out, &consume_fields(method))
 }
 
 /// The consumer is known by this tag.
@@ -365,13 +375,17 @@ pub fn parse_consume_ok(alloc: Global, i: &[u8]) -> Result<(usize, ConsumeOk), P
 
 /// Its ids and fields, in order.
 #[tactic(auto, unfolding(amqp_values::proofs::OneMethod::listed))]
-pub(super) fn consume_ok_fields(method: &ConsumeOk) -> [Field<'_>; 3]
+pub(super) fn consume_ok_fields(method: &ConsumeOk) -> [Field<'_>; 7]
     ensures { ListsMethod result (consume_ok_method method.now) }
 {
     [
         Field::ShortUInt(60),
         Field::ShortUInt(21),
         Field::ShortString(&method.consumer_tag),
+        Field::Nothing,
+        Field::Nothing,
+        Field::Nothing,
+        Field::Nothing,
     ]
 }
 
@@ -379,7 +393,7 @@ pub(super) fn consume_ok_fields(method: &ConsumeOk) -> [Field<'_>; 3]
 pub fn size_consume_ok(method: &ConsumeOk) -> Result<u64, GenError>
     ensures { Measures result (method_size (consume_ok_method method.now)) }
 {
-    size_fields(&consume_ok_fields(method)[1..])
+    size_method_fields(&consume_ok_fields(method))
 }
 
 /// Puts the method id and the fields of `ConsumeOk` at a place of a slice, and returns the place after.
@@ -388,7 +402,7 @@ pub fn put_consume_ok(buf: &mut [u8], at: usize, method: &ConsumeOk) -> usize
         (method_bytes (consume_ok_method method.now)) }
     ensures { Puts buf.old buf.new at (method_bytes (consume_ok_method method.now)) result }
 {
-    put_fields(buf, at, &consume_ok_fields(method)[1..])
+    put_method_fields(buf, at, &consume_ok_fields(method))
 }
 
 /// Appends the method id and the fields of `ConsumeOk` to a vector.
@@ -396,7 +410,7 @@ pub fn gen_consume_ok(_alloc: Global, out: &mut Vec<u8>, method: &ConsumeOk) -> 
     ensures { Appends out.old.items out.new.items (method_size (consume_ok_method method.now))
         (method_bytes (consume_ok_method method.now)) result }
 {
-    gen_fields(out, &consume_ok_fields(method)[1..])
+    gen_method_fields(out, &consume_ok_fields(method))
 }
 
 /// A peer ends a consumer.
@@ -461,7 +475,7 @@ pub fn parse_cancel(alloc: Global, i: &[u8]) -> Result<(usize, Cancel), ParserEr
 
 /// Its ids and fields, in order.
 #[tactic(auto, unfolding(amqp_values::proofs::OneMethod::listed))]
-pub(super) fn cancel_fields(method: &Cancel) -> [Field<'_>; 4]
+pub(super) fn cancel_fields(method: &Cancel) -> [Field<'_>; 7]
     ensures { ListsMethod result (cancel_method method.now) }
 {
     [
@@ -469,6 +483,9 @@ pub(super) fn cancel_fields(method: &Cancel) -> [Field<'_>; 4]
         Field::ShortUInt(30),
         Field::ShortString(&method.consumer_tag),
         Field::Flags(byte_of_flags(&[method.nowait])),
+        Field::Nothing,
+        Field::Nothing,
+        Field::Nothing,
     ]
 }
 
@@ -476,7 +493,7 @@ pub(super) fn cancel_fields(method: &Cancel) -> [Field<'_>; 4]
 pub fn size_cancel(method: &Cancel) -> Result<u64, GenError>
     ensures { Measures result (method_size (cancel_method method.now)) }
 {
-    size_fields(&cancel_fields(method)[1..])
+    size_method_fields(&cancel_fields(method))
 }
 
 /// Puts the method id and the fields of `Cancel` at a place of a slice, and returns the place after.
@@ -485,7 +502,7 @@ pub fn put_cancel(buf: &mut [u8], at: usize, method: &Cancel) -> usize
         (method_bytes (cancel_method method.now)) }
     ensures { Puts buf.old buf.new at (method_bytes (cancel_method method.now)) result }
 {
-    put_fields(buf, at, &cancel_fields(method)[1..])
+    put_method_fields(buf, at, &cancel_fields(method))
 }
 
 /// Appends the method id and the fields of `Cancel` to a vector.
@@ -493,7 +510,7 @@ pub fn gen_cancel(_alloc: Global, out: &mut Vec<u8>, method: &Cancel) -> Result<
     ensures { Appends out.old.items out.new.items (method_size (cancel_method method.now))
         (method_bytes (cancel_method method.now)) result }
 {
-    gen_fields(out, &cancel_fields(method)[1..])
+    gen_method_fields(out, &cancel_fields(method))
 }
 
 /// The consumer has ended.
@@ -550,13 +567,17 @@ pub fn parse_cancel_ok(alloc: Global, i: &[u8]) -> Result<(usize, CancelOk), Par
 
 /// Its ids and fields, in order.
 #[tactic(auto, unfolding(amqp_values::proofs::OneMethod::listed))]
-pub(super) fn cancel_ok_fields(method: &CancelOk) -> [Field<'_>; 3]
+pub(super) fn cancel_ok_fields(method: &CancelOk) -> [Field<'_>; 7]
     ensures { ListsMethod result (cancel_ok_method method.now) }
 {
     [
         Field::ShortUInt(60),
         Field::ShortUInt(31),
         Field::ShortString(&method.consumer_tag),
+        Field::Nothing,
+        Field::Nothing,
+        Field::Nothing,
+        Field::Nothing,
     ]
 }
 
@@ -564,7 +585,7 @@ pub(super) fn cancel_ok_fields(method: &CancelOk) -> [Field<'_>; 3]
 pub fn size_cancel_ok(method: &CancelOk) -> Result<u64, GenError>
     ensures { Measures result (method_size (cancel_ok_method method.now)) }
 {
-    size_fields(&cancel_ok_fields(method)[1..])
+    size_method_fields(&cancel_ok_fields(method))
 }
 
 /// Puts the method id and the fields of `CancelOk` at a place of a slice, and returns the place after.
@@ -573,7 +594,7 @@ pub fn put_cancel_ok(buf: &mut [u8], at: usize, method: &CancelOk) -> usize
         (method_bytes (cancel_ok_method method.now)) }
     ensures { Puts buf.old buf.new at (method_bytes (cancel_ok_method method.now)) result }
 {
-    put_fields(buf, at, &cancel_ok_fields(method)[1..])
+    put_method_fields(buf, at, &cancel_ok_fields(method))
 }
 
 /// Appends the method id and the fields of `CancelOk` to a vector.
@@ -581,5 +602,5 @@ pub fn gen_cancel_ok(_alloc: Global, out: &mut Vec<u8>, method: &CancelOk) -> Re
     ensures { Appends out.old.items out.new.items (method_size (cancel_ok_method method.now))
         (method_bytes (cancel_ok_method method.now)) result }
 {
-    gen_fields(out, &cancel_ok_fields(method)[1..])
+    gen_method_fields(out, &cancel_ok_fields(method))
 }

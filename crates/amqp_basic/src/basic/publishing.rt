@@ -11,8 +11,8 @@ ghost use Rattle.amqp_basic.specs.Basic.{get_ok_method, get_empty_method};
 
 use amqp_values::{
     Boolean, Field, Flags, GenError, Identifier, LongLongUInt, LongUInt, NoMemory, ParserError,
-    ReservedShortUInt, ShortString, ShortUInt, SlotReader, byte_of_flags, flag_of_byte, gen_fields,
-    put_fields, size_fields,
+    ReservedShortUInt, ShortString, ShortUInt, SlotReader, byte_of_flags, copied, flag_of_byte,
+    gen_method_fields, put_method_fields, size_method_fields,
 };
 use std::alloc::Global;
 
@@ -91,7 +91,7 @@ pub fn parse_publish(alloc: Global, i: &[u8]) -> Result<(usize, Publish), Parser
     Ok((slots.used(i), method))
 }
 
-/// Its ids and fields, in order.
+/// Its ids and fields, in order, and nothing after them, as most frames have it.
 #[tactic(auto, unfolding(amqp_values::proofs::OneMethod::listed))]
 pub(super) fn publish_fields(method: &Publish) -> [Field<'_>; 6]
     ensures { ListsMethod result (publish_method method.now) }
@@ -110,7 +110,7 @@ pub(super) fn publish_fields(method: &Publish) -> [Field<'_>; 6]
 pub fn size_publish(method: &Publish) -> Result<u64, GenError>
     ensures { Measures result (method_size (publish_method method.now)) }
 {
-    size_fields(&publish_fields(method)[1..])
+    size_method_fields(&publish_fields(method))
 }
 
 /// Puts the method id and the fields of `Publish` at a place of a slice, and returns the place after.
@@ -119,7 +119,7 @@ pub fn put_publish(buf: &mut [u8], at: usize, method: &Publish) -> usize
         (method_bytes (publish_method method.now)) }
     ensures { Puts buf.old buf.new at (method_bytes (publish_method method.now)) result }
 {
-    put_fields(buf, at, &publish_fields(method)[1..])
+    put_method_fields(buf, at, &publish_fields(method))
 }
 
 /// Appends the method id and the fields of `Publish` to a vector.
@@ -127,7 +127,7 @@ pub fn gen_publish(_alloc: Global, out: &mut Vec<u8>, method: &Publish) -> Resul
     ensures { Appends out.old.items out.new.items (method_size (publish_method method.now))
         (method_bytes (publish_method method.now)) result }
 {
-    gen_fields(out, &publish_fields(method)[1..])
+    gen_method_fields(out, &publish_fields(method))
 }
 
 /// The server hands back the message that follows, which it could not deliver.
@@ -205,7 +205,7 @@ pub fn parse_return(alloc: Global, i: &[u8]) -> Result<(usize, Return), ParserEr
 
 /// Its ids and fields, in order.
 #[tactic(auto, unfolding(amqp_values::proofs::OneMethod::listed))]
-pub(super) fn return_fields(method: &Return) -> [Field<'_>; 6]
+pub(super) fn return_fields(method: &Return) -> [Field<'_>; 7]
     ensures { ListsMethod result (return_method method.now) }
 {
     [
@@ -215,6 +215,7 @@ pub(super) fn return_fields(method: &Return) -> [Field<'_>; 6]
         Field::ShortString(&method.reply_text),
         Field::ShortString(&method.exchange),
         Field::ShortString(&method.routing_key),
+        Field::Nothing,
     ]
 }
 
@@ -222,7 +223,7 @@ pub(super) fn return_fields(method: &Return) -> [Field<'_>; 6]
 pub fn size_return(method: &Return) -> Result<u64, GenError>
     ensures { Measures result (method_size (return_method method.now)) }
 {
-    size_fields(&return_fields(method)[1..])
+    size_method_fields(&return_fields(method))
 }
 
 /// Puts the method id and the fields of `Return` at a place of a slice, and returns the place after.
@@ -231,7 +232,7 @@ pub fn put_return(buf: &mut [u8], at: usize, method: &Return) -> usize
         (method_bytes (return_method method.now)) }
     ensures { Puts buf.old buf.new at (method_bytes (return_method method.now)) result }
 {
-    put_fields(buf, at, &return_fields(method)[1..])
+    put_method_fields(buf, at, &return_fields(method))
 }
 
 /// Appends the method id and the fields of `Return` to a vector.
@@ -239,7 +240,7 @@ pub fn gen_return(_alloc: Global, out: &mut Vec<u8>, method: &Return) -> Result<
     ensures { Appends out.old.items out.new.items (method_size (return_method method.now))
         (method_bytes (return_method method.now)) result }
 {
-    gen_fields(out, &return_fields(method)[1..])
+    gen_method_fields(out, &return_fields(method))
 }
 
 /// The server sends the message that follows to a consumer.
@@ -344,7 +345,7 @@ pub(super) fn deliver_fields(method: &Deliver) -> [Field<'_>; 7]
 pub fn size_deliver(method: &Deliver) -> Result<u64, GenError>
     ensures { Measures result (method_size (deliver_method method.now)) }
 {
-    size_fields(&deliver_fields(method)[1..])
+    size_method_fields(&deliver_fields(method))
 }
 
 /// Puts the method id and the fields of `Deliver` at a place of a slice, and returns the place after.
@@ -353,7 +354,7 @@ pub fn put_deliver(buf: &mut [u8], at: usize, method: &Deliver) -> usize
         (method_bytes (deliver_method method.now)) }
     ensures { Puts buf.old buf.new at (method_bytes (deliver_method method.now)) result }
 {
-    put_fields(buf, at, &deliver_fields(method)[1..])
+    put_method_fields(buf, at, &deliver_fields(method))
 }
 
 /// Appends the method id and the fields of `Deliver` to a vector.
@@ -361,7 +362,7 @@ pub fn gen_deliver(_alloc: Global, out: &mut Vec<u8>, method: &Deliver) -> Resul
     ensures { Appends out.old.items out.new.items (method_size (deliver_method method.now))
         (method_bytes (deliver_method method.now)) result }
 {
-    gen_fields(out, &deliver_fields(method)[1..])
+    gen_method_fields(out, &deliver_fields(method))
 }
 
 /// The client asks a queue for one message.
@@ -426,7 +427,7 @@ pub fn parse_get(alloc: Global, i: &[u8]) -> Result<(usize, Get), ParserError>
 
 /// Its ids and fields, in order.
 #[tactic(auto, unfolding(amqp_values::proofs::OneMethod::listed))]
-pub(super) fn get_fields(method: &Get) -> [Field<'_>; 5]
+pub(super) fn get_fields(method: &Get) -> [Field<'_>; 7]
     ensures { ListsMethod result (get_method method.now) }
 {
     [
@@ -435,6 +436,8 @@ pub(super) fn get_fields(method: &Get) -> [Field<'_>; 5]
         Field::ShortUInt(0), // reserved
         Field::ShortString(&method.queue),
         Field::Flags(byte_of_flags(&[method.no_ack])),
+        Field::Nothing,
+        Field::Nothing,
     ]
 }
 
@@ -442,7 +445,7 @@ pub(super) fn get_fields(method: &Get) -> [Field<'_>; 5]
 pub fn size_get(method: &Get) -> Result<u64, GenError>
     ensures { Measures result (method_size (get_method method.now)) }
 {
-    size_fields(&get_fields(method)[1..])
+    size_method_fields(&get_fields(method))
 }
 
 /// Puts the method id and the fields of `Get` at a place of a slice, and returns the place after.
@@ -451,7 +454,7 @@ pub fn put_get(buf: &mut [u8], at: usize, method: &Get) -> usize
         (method_bytes (get_method method.now)) }
     ensures { Puts buf.old buf.new at (method_bytes (get_method method.now)) result }
 {
-    put_fields(buf, at, &get_fields(method)[1..])
+    put_method_fields(buf, at, &get_fields(method))
 }
 
 /// Appends the method id and the fields of `Get` to a vector.
@@ -459,7 +462,7 @@ pub fn gen_get(_alloc: Global, out: &mut Vec<u8>, method: &Get) -> Result<(), Ge
     ensures { Appends out.old.items out.new.items (method_size (get_method method.now))
         (method_bytes (get_method method.now)) result }
 {
-    gen_fields(out, &get_fields(method)[1..])
+    gen_method_fields(out, &get_fields(method))
 }
 
 /// The server sends the message that follows, which was asked for.
@@ -564,7 +567,7 @@ pub(super) fn get_ok_fields(method: &GetOk) -> [Field<'_>; 7]
 pub fn size_get_ok(method: &GetOk) -> Result<u64, GenError>
     ensures { Measures result (method_size (get_ok_method method.now)) }
 {
-    size_fields(&get_ok_fields(method)[1..])
+    size_method_fields(&get_ok_fields(method))
 }
 
 /// Puts the method id and the fields of `GetOk` at a place of a slice, and returns the place after.
@@ -573,7 +576,7 @@ pub fn put_get_ok(buf: &mut [u8], at: usize, method: &GetOk) -> usize
         (method_bytes (get_ok_method method.now)) }
     ensures { Puts buf.old buf.new at (method_bytes (get_ok_method method.now)) result }
 {
-    put_fields(buf, at, &get_ok_fields(method)[1..])
+    put_method_fields(buf, at, &get_ok_fields(method))
 }
 
 /// Appends the method id and the fields of `GetOk` to a vector.
@@ -581,7 +584,7 @@ pub fn gen_get_ok(_alloc: Global, out: &mut Vec<u8>, method: &GetOk) -> Result<(
     ensures { Appends out.old.items out.new.items (method_size (get_ok_method method.now))
         (method_bytes (get_ok_method method.now)) result }
 {
-    gen_fields(out, &get_ok_fields(method)[1..])
+    gen_method_fields(out, &get_ok_fields(method))
 }
 
 /// The queue has no message.
@@ -617,13 +620,17 @@ pub fn parse_get_empty(_alloc: Global, i: &[u8]) -> Result<(usize, GetEmpty), Pa
 
 /// Its ids and fields, in order.
 #[tactic(auto, unfolding(amqp_values::proofs::OneMethod::listed))]
-pub(super) fn get_empty_fields(_method: &GetEmpty) -> [Field<'_>; 3]
+pub(super) fn get_empty_fields(_method: &GetEmpty) -> [Field<'_>; 7]
     ensures { ListsMethod result (get_empty_method _method.now) }
 {
     [
         Field::ShortUInt(60),
         Field::ShortUInt(72),
         Field::ShortShortUInt(0), // reserved, no text
+        Field::Nothing,
+        Field::Nothing,
+        Field::Nothing,
+        Field::Nothing,
     ]
 }
 
@@ -631,7 +638,7 @@ pub(super) fn get_empty_fields(_method: &GetEmpty) -> [Field<'_>; 3]
 pub fn size_get_empty(method: &GetEmpty) -> Result<u64, GenError>
     ensures { Measures result (method_size (get_empty_method method.now)) }
 {
-    size_fields(&get_empty_fields(method)[1..])
+    size_method_fields(&get_empty_fields(method))
 }
 
 /// Puts the method id and the fields of `GetEmpty` at a place of a slice, and returns the place after.
@@ -640,7 +647,7 @@ pub fn put_get_empty(buf: &mut [u8], at: usize, method: &GetEmpty) -> usize
         (method_bytes (get_empty_method method.now)) }
     ensures { Puts buf.old buf.new at (method_bytes (get_empty_method method.now)) result }
 {
-    put_fields(buf, at, &get_empty_fields(method)[1..])
+    put_method_fields(buf, at, &get_empty_fields(method))
 }
 
 /// Appends the method id and the fields of `GetEmpty` to a vector.
@@ -648,5 +655,5 @@ pub fn gen_get_empty(_alloc: Global, out: &mut Vec<u8>, method: &GetEmpty) -> Re
     ensures { Appends out.old.items out.new.items (method_size (get_empty_method method.now))
         (method_bytes (get_empty_method method.now)) result }
 {
-    gen_fields(out, &get_empty_fields(method)[1..])
+    gen_method_fields(out, &get_empty_fields(method))
 }

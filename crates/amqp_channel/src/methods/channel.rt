@@ -15,8 +15,8 @@ ghost use Rattle.amqp_channel.specs.Channel.{close_ok_method, method_of};
 
 use amqp_values::{
     Boolean, Field, GenError, Identifier, NoMemory, ParserError, ShortString, ShortUInt,
-    SlotReader, byte_of_flags, fields_held, flag_of_byte, gen_fields, in_variant, parse_id,
-    put_fields, size_fields,
+    SlotReader, byte_of_flags, copied, fields_held, flag_of_byte, gen_fields, gen_method_fields,
+    in_variant, parse_id, put_fields, put_method_fields, size_fields, size_method_fields,
 };
 use std::alloc::Global;
 
@@ -53,13 +53,16 @@ pub fn parse_open(_alloc: Global, i: &[u8]) -> Result<(usize, Open), ParserError
 
 /// Its ids and fields, in order.
 #[tactic(auto, unfolding(amqp_values::proofs::OneMethod::listed))]
-fn open_fields(_method: &Open) -> [Field<'_>; 3]
+fn open_fields(_method: &Open) -> [Field<'_>; 6]
     ensures { ListsMethod result (open_method _method.now) }
 {
     [
         Field::ShortUInt(20),
         Field::ShortUInt(10),
         Field::ShortShortUInt(0), // reserved, no text
+        Field::Nothing,
+        Field::Nothing,
+        Field::Nothing,
     ]
 }
 
@@ -67,7 +70,7 @@ fn open_fields(_method: &Open) -> [Field<'_>; 3]
 pub fn size_open(method: &Open) -> Result<u64, GenError>
     ensures { Measures result (method_size (open_method method.now)) }
 {
-    size_fields(&open_fields(method)[1..])
+    size_method_fields(&open_fields(method))
 }
 
 /// Puts the method id and the fields of `Open` at a place of a slice, and returns the place after.
@@ -76,7 +79,7 @@ pub fn put_open(buf: &mut [u8], at: usize, method: &Open) -> usize
         (method_bytes (open_method method.now)) }
     ensures { Puts buf.old buf.new at (method_bytes (open_method method.now)) result }
 {
-    put_fields(buf, at, &open_fields(method)[1..])
+    put_method_fields(buf, at, &open_fields(method))
 }
 
 /// Appends the method id and the fields of `Open` to a vector.
@@ -84,7 +87,7 @@ pub fn gen_open(_alloc: Global, out: &mut Vec<u8>, method: &Open) -> Result<(), 
     ensures { Appends out.old.items out.new.items (method_size (open_method method.now))
         (method_bytes (open_method method.now)) result }
 {
-    gen_fields(out, &open_fields(method)[1..])
+    gen_method_fields(out, &open_fields(method))
 }
 
 /// The channel is open.
@@ -120,13 +123,16 @@ pub fn parse_open_ok(_alloc: Global, i: &[u8]) -> Result<(usize, OpenOk), Parser
 
 /// Its ids and fields, in order.
 #[tactic(auto, unfolding(amqp_values::proofs::OneMethod::listed))]
-fn open_ok_fields(_method: &OpenOk) -> [Field<'_>; 3]
+fn open_ok_fields(_method: &OpenOk) -> [Field<'_>; 6]
     ensures { ListsMethod result (open_ok_method _method.now) }
 {
     [
         Field::ShortUInt(20),
         Field::ShortUInt(11),
         Field::LongUInt(0), // reserved, no text
+        Field::Nothing,
+        Field::Nothing,
+        Field::Nothing,
     ]
 }
 
@@ -134,7 +140,7 @@ fn open_ok_fields(_method: &OpenOk) -> [Field<'_>; 3]
 pub fn size_open_ok(method: &OpenOk) -> Result<u64, GenError>
     ensures { Measures result (method_size (open_ok_method method.now)) }
 {
-    size_fields(&open_ok_fields(method)[1..])
+    size_method_fields(&open_ok_fields(method))
 }
 
 /// Puts the method id and the fields of `OpenOk` at a place of a slice, and returns the place after.
@@ -143,7 +149,7 @@ pub fn put_open_ok(buf: &mut [u8], at: usize, method: &OpenOk) -> usize
         (method_bytes (open_ok_method method.now)) }
     ensures { Puts buf.old buf.new at (method_bytes (open_ok_method method.now)) result }
 {
-    put_fields(buf, at, &open_ok_fields(method)[1..])
+    put_method_fields(buf, at, &open_ok_fields(method))
 }
 
 /// Appends the method id and the fields of `OpenOk` to a vector.
@@ -151,7 +157,7 @@ pub fn gen_open_ok(_alloc: Global, out: &mut Vec<u8>, method: &OpenOk) -> Result
     ensures { Appends out.old.items out.new.items (method_size (open_ok_method method.now))
         (method_bytes (open_ok_method method.now)) result }
 {
-    gen_fields(out, &open_ok_fields(method)[1..])
+    gen_method_fields(out, &open_ok_fields(method))
 }
 
 /// A peer asks the other to stop sending content, or to go on.
@@ -202,13 +208,16 @@ pub fn parse_flow(_alloc: Global, i: &[u8]) -> Result<(usize, Flow), ParserError
 
 /// Its ids and fields, in order.
 #[tactic(auto, unfolding(amqp_values::proofs::OneMethod::listed))]
-fn flow_fields(method: &Flow) -> [Field<'_>; 3]
+fn flow_fields(method: &Flow) -> [Field<'_>; 6]
     ensures { ListsMethod result (flow_method method.now) }
 {
     [
         Field::ShortUInt(20),
         Field::ShortUInt(20),
         Field::Flags(byte_of_flags(&[method.active])),
+        Field::Nothing,
+        Field::Nothing,
+        Field::Nothing,
     ]
 }
 
@@ -216,7 +225,7 @@ fn flow_fields(method: &Flow) -> [Field<'_>; 3]
 pub fn size_flow(method: &Flow) -> Result<u64, GenError>
     ensures { Measures result (method_size (flow_method method.now)) }
 {
-    size_fields(&flow_fields(method)[1..])
+    size_method_fields(&flow_fields(method))
 }
 
 /// Puts the method id and the fields of `Flow` at a place of a slice, and returns the place after.
@@ -225,7 +234,7 @@ pub fn put_flow(buf: &mut [u8], at: usize, method: &Flow) -> usize
         (method_bytes (flow_method method.now)) }
     ensures { Puts buf.old buf.new at (method_bytes (flow_method method.now)) result }
 {
-    put_fields(buf, at, &flow_fields(method)[1..])
+    put_method_fields(buf, at, &flow_fields(method))
 }
 
 /// Appends the method id and the fields of `Flow` to a vector.
@@ -233,7 +242,7 @@ pub fn gen_flow(_alloc: Global, out: &mut Vec<u8>, method: &Flow) -> Result<(), 
     ensures { Appends out.old.items out.new.items (method_size (flow_method method.now))
         (method_bytes (flow_method method.now)) result }
 {
-    gen_fields(out, &flow_fields(method)[1..])
+    gen_method_fields(out, &flow_fields(method))
 }
 
 /// The other peer says whether it sends content.
@@ -284,13 +293,16 @@ pub fn parse_flow_ok(_alloc: Global, i: &[u8]) -> Result<(usize, FlowOk), Parser
 
 /// Its ids and fields, in order.
 #[tactic(auto, unfolding(amqp_values::proofs::OneMethod::listed))]
-fn flow_ok_fields(method: &FlowOk) -> [Field<'_>; 3]
+fn flow_ok_fields(method: &FlowOk) -> [Field<'_>; 6]
     ensures { ListsMethod result (flow_ok_method method.now) }
 {
     [
         Field::ShortUInt(20),
         Field::ShortUInt(21),
         Field::Flags(byte_of_flags(&[method.active])),
+        Field::Nothing,
+        Field::Nothing,
+        Field::Nothing,
     ]
 }
 
@@ -298,7 +310,7 @@ fn flow_ok_fields(method: &FlowOk) -> [Field<'_>; 3]
 pub fn size_flow_ok(method: &FlowOk) -> Result<u64, GenError>
     ensures { Measures result (method_size (flow_ok_method method.now)) }
 {
-    size_fields(&flow_ok_fields(method)[1..])
+    size_method_fields(&flow_ok_fields(method))
 }
 
 /// Puts the method id and the fields of `FlowOk` at a place of a slice, and returns the place after.
@@ -307,7 +319,7 @@ pub fn put_flow_ok(buf: &mut [u8], at: usize, method: &FlowOk) -> usize
         (method_bytes (flow_ok_method method.now)) }
     ensures { Puts buf.old buf.new at (method_bytes (flow_ok_method method.now)) result }
 {
-    put_fields(buf, at, &flow_ok_fields(method)[1..])
+    put_method_fields(buf, at, &flow_ok_fields(method))
 }
 
 /// Appends the method id and the fields of `FlowOk` to a vector.
@@ -315,7 +327,7 @@ pub fn gen_flow_ok(_alloc: Global, out: &mut Vec<u8>, method: &FlowOk) -> Result
     ensures { Appends out.old.items out.new.items (method_size (flow_ok_method method.now))
         (method_bytes (flow_ok_method method.now)) result }
 {
-    gen_fields(out, &flow_ok_fields(method)[1..])
+    gen_method_fields(out, &flow_ok_fields(method))
 }
 
 /// A peer closes the channel, and says why.
@@ -410,7 +422,7 @@ fn close_fields(method: &Close) -> [Field<'_>; 6]
 pub fn size_close(method: &Close) -> Result<u64, GenError>
     ensures { Measures result (method_size (close_method method.now)) }
 {
-    size_fields(&close_fields(method)[1..])
+    size_method_fields(&close_fields(method))
 }
 
 /// Puts the method id and the fields of `Close` at a place of a slice, and returns the place after.
@@ -419,7 +431,7 @@ pub fn put_close(buf: &mut [u8], at: usize, method: &Close) -> usize
         (method_bytes (close_method method.now)) }
     ensures { Puts buf.old buf.new at (method_bytes (close_method method.now)) result }
 {
-    put_fields(buf, at, &close_fields(method)[1..])
+    put_method_fields(buf, at, &close_fields(method))
 }
 
 /// Appends the method id and the fields of `Close` to a vector.
@@ -427,7 +439,7 @@ pub fn gen_close(_alloc: Global, out: &mut Vec<u8>, method: &Close) -> Result<()
     ensures { Appends out.old.items out.new.items (method_size (close_method method.now))
         (method_bytes (close_method method.now)) result }
 {
-    gen_fields(out, &close_fields(method)[1..])
+    gen_method_fields(out, &close_fields(method))
 }
 
 /// The other peer has heard that the channel is closed.
@@ -462,17 +474,24 @@ pub fn parse_close_ok(_alloc: Global, i: &[u8]) -> Result<(usize, CloseOk), Pars
 
 /// Its ids and fields, in order.
 #[tactic(auto, unfolding(amqp_values::proofs::OneMethod::listed))]
-fn close_ok_fields(_method: &CloseOk) -> [Field<'_>; 2]
+fn close_ok_fields(_method: &CloseOk) -> [Field<'_>; 6]
     ensures { ListsMethod result (close_ok_method _method.now) }
 {
-    [Field::ShortUInt(20), Field::ShortUInt(41)]
+    [
+        Field::ShortUInt(20),
+        Field::ShortUInt(41),
+        Field::Nothing,
+        Field::Nothing,
+        Field::Nothing,
+        Field::Nothing,
+    ]
 }
 
 /// The size in bytes of the method id and the fields of `CloseOk`.
 pub fn size_close_ok(method: &CloseOk) -> Result<u64, GenError>
     ensures { Measures result (method_size (close_ok_method method.now)) }
 {
-    size_fields(&close_ok_fields(method)[1..])
+    size_method_fields(&close_ok_fields(method))
 }
 
 /// Puts the method id and the fields of `CloseOk` at a place of a slice, and returns the place after.
@@ -481,7 +500,7 @@ pub fn put_close_ok(buf: &mut [u8], at: usize, method: &CloseOk) -> usize
         (method_bytes (close_ok_method method.now)) }
     ensures { Puts buf.old buf.new at (method_bytes (close_ok_method method.now)) result }
 {
-    put_fields(buf, at, &close_ok_fields(method)[1..])
+    put_method_fields(buf, at, &close_ok_fields(method))
 }
 
 /// Appends the method id and the fields of `CloseOk` to a vector.
@@ -489,7 +508,7 @@ pub fn gen_close_ok(_alloc: Global, out: &mut Vec<u8>, method: &CloseOk) -> Resu
     ensures { Appends out.old.items out.new.items (method_size (close_ok_method method.now))
         (method_bytes (close_ok_method method.now)) result }
 {
-    gen_fields(out, &close_ok_fields(method)[1..])
+    gen_method_fields(out, &close_ok_fields(method))
 }
 
 /// A method of the class.
@@ -541,12 +560,12 @@ impl AMQPMethod {
         ensures { IfOk result (λ copied. copied ≡ self.now) }
     {
         match self {
-            AMQPMethod::Open(method) => Ok(AMQPMethod::Open(method.clone()?)),
-            AMQPMethod::OpenOk(method) => Ok(AMQPMethod::OpenOk(method.clone()?)),
-            AMQPMethod::Flow(method) => Ok(AMQPMethod::Flow(method.clone()?)),
-            AMQPMethod::FlowOk(method) => Ok(AMQPMethod::FlowOk(method.clone()?)),
-            AMQPMethod::Close(method) => Ok(AMQPMethod::Close(method.copy(alloc)?)),
-            AMQPMethod::CloseOk(method) => Ok(AMQPMethod::CloseOk(method.clone()?)),
+            AMQPMethod::Open(method) => copied!(method.clone(), AMQPMethod::Open),
+            AMQPMethod::OpenOk(method) => copied!(method.clone(), AMQPMethod::OpenOk),
+            AMQPMethod::Flow(method) => copied!(method.clone(), AMQPMethod::Flow),
+            AMQPMethod::FlowOk(method) => copied!(method.clone(), AMQPMethod::FlowOk),
+            AMQPMethod::Close(method) => copied!(method.copy(alloc), AMQPMethod::Close),
+            AMQPMethod::CloseOk(method) => copied!(method.clone(), AMQPMethod::CloseOk),
         }
     }
 }
@@ -577,25 +596,25 @@ pub fn parse_channel(alloc: Global, i: &[u8]) -> Result<(usize, AMQPMethod), Par
     Ok((n + used, method))
 }
 
-/// Calls a function with the ids and fields of a method, after the arguments given.
-macro_rules! with_fields {
-    ($method:expr, $call:ident($($argument:expr),*)) => {
-        match $method {
-            AMQPMethod::Open(method) => $call($($argument,)* &open_fields(method)),
-            AMQPMethod::OpenOk(method) => $call($($argument,)* &open_ok_fields(method)),
-            AMQPMethod::Flow(method) => $call($($argument,)* &flow_fields(method)),
-            AMQPMethod::FlowOk(method) => $call($($argument,)* &flow_ok_fields(method)),
-            AMQPMethod::Close(method) => $call($($argument,)* &close_fields(method)),
-            AMQPMethod::CloseOk(method) => $call($($argument,)* &close_ok_fields(method)),
-        }
-    };
+/// The ids and fields of a method, in order, and then nothing up to the most that a method of the class has.
+fn method_fields(method: &AMQPMethod) -> [Field<'_>; 6]
+    ensures { ListsMethod result (method_of method.now) }
+{
+    match method {
+        AMQPMethod::Open(method) => open_fields(method),
+        AMQPMethod::OpenOk(method) => open_ok_fields(method),
+        AMQPMethod::Flow(method) => flow_fields(method),
+        AMQPMethod::FlowOk(method) => flow_ok_fields(method),
+        AMQPMethod::Close(method) => close_fields(method),
+        AMQPMethod::CloseOk(method) => close_ok_fields(method),
+    }
 }
 
 /// The size in bytes of the class id, the method id and the fields.
 pub fn size_channel(method: &AMQPMethod) -> Result<u64, GenError>
     ensures { Measures result (payload_size (method_of method.now)) }
 {
-    with_fields!(method, size_fields())
+    size_fields(&method_fields(method))
 }
 
 /// Puts the class id, the method id and the fields at a place of a slice, and returns the place after.
@@ -604,7 +623,7 @@ pub fn put_channel(buf: &mut [u8], at: usize, method: &AMQPMethod) -> usize
         (payload_bytes (method_of method.now)) }
     ensures { Puts buf.old buf.new at (payload_bytes (method_of method.now)) result }
 {
-    with_fields!(method, put_fields(buf, at))
+    put_fields(buf, at, &method_fields(method))
 }
 
 /// Appends the class id, the method id and the fields to a vector.
@@ -612,12 +631,12 @@ pub fn gen_channel(_alloc: Global, out: &mut Vec<u8>, method: &AMQPMethod) -> Re
     ensures { Appends out.old.items out.new.items (payload_size (method_of method.now))
         (payload_bytes (method_of method.now)) result }
 {
-    with_fields!(method, gen_fields(out))
+    gen_fields(out, &method_fields(method))
 }
 
 /// A method of the class is held, whatever a program does: the premise of the laws that read canonical bytes back.
 pub fn channel_method_held(method: &AMQPMethod)
     ensures { IsHeldMethod (method_of method.now) }
 {
-    with_fields!(method, fields_held())
+    fields_held(&method_fields(method))
 }

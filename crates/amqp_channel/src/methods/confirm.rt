@@ -12,8 +12,9 @@ ghost use Rattle.amqp_values.specs.MethodFields.{ListsMethod};
 ghost use Rattle.amqp_channel.specs.Confirm.{select_method, select_ok_method, method_of};
 
 use amqp_values::{
-    Boolean, Field, GenError, Identifier, NoMemory, ParserError, SlotReader, byte_of_flags,
-    fields_held, flag_of_byte, gen_fields, in_variant, parse_id, put_fields, size_fields,
+    Boolean, Field, GenError, Identifier, NoMemory, ParserError, SlotReader, byte_of_flags, copied,
+    fields_held, flag_of_byte, gen_fields, gen_method_fields, in_variant, parse_id, put_fields,
+    put_method_fields, size_fields, size_method_fields,
 };
 use std::alloc::Global;
 
@@ -79,7 +80,7 @@ fn select_fields(method: &Select) -> [Field<'_>; 3]
 pub fn size_select(method: &Select) -> Result<u64, GenError>
     ensures { Measures result (method_size (select_method method.now)) }
 {
-    size_fields(&select_fields(method)[1..])
+    size_method_fields(&select_fields(method))
 }
 
 /// Puts the method id and the fields of `Select` at a place of a slice, and returns the place after.
@@ -88,7 +89,7 @@ pub fn put_select(buf: &mut [u8], at: usize, method: &Select) -> usize
         (method_bytes (select_method method.now)) }
     ensures { Puts buf.old buf.new at (method_bytes (select_method method.now)) result }
 {
-    put_fields(buf, at, &select_fields(method)[1..])
+    put_method_fields(buf, at, &select_fields(method))
 }
 
 /// Appends the method id and the fields of `Select` to a vector.
@@ -96,7 +97,7 @@ pub fn gen_select(_alloc: Global, out: &mut Vec<u8>, method: &Select) -> Result<
     ensures { Appends out.old.items out.new.items (method_size (select_method method.now))
         (method_bytes (select_method method.now)) result }
 {
-    gen_fields(out, &select_fields(method)[1..])
+    gen_method_fields(out, &select_fields(method))
 }
 
 /// The channel confirms what is published.
@@ -131,17 +132,17 @@ pub fn parse_select_ok(_alloc: Global, i: &[u8]) -> Result<(usize, SelectOk), Pa
 
 /// Its ids and fields, in order.
 #[tactic(auto, unfolding(amqp_values::proofs::OneMethod::listed))]
-fn select_ok_fields(_method: &SelectOk) -> [Field<'_>; 2]
+fn select_ok_fields(_method: &SelectOk) -> [Field<'_>; 3]
     ensures { ListsMethod result (select_ok_method _method.now) }
 {
-    [Field::ShortUInt(85), Field::ShortUInt(11)]
+    [Field::ShortUInt(85), Field::ShortUInt(11), Field::Nothing]
 }
 
 /// The size in bytes of the method id and the fields of `SelectOk`.
 pub fn size_select_ok(method: &SelectOk) -> Result<u64, GenError>
     ensures { Measures result (method_size (select_ok_method method.now)) }
 {
-    size_fields(&select_ok_fields(method)[1..])
+    size_method_fields(&select_ok_fields(method))
 }
 
 /// Puts the method id and the fields of `SelectOk` at a place of a slice, and returns the place after.
@@ -150,7 +151,7 @@ pub fn put_select_ok(buf: &mut [u8], at: usize, method: &SelectOk) -> usize
         (method_bytes (select_ok_method method.now)) }
     ensures { Puts buf.old buf.new at (method_bytes (select_ok_method method.now)) result }
 {
-    put_fields(buf, at, &select_ok_fields(method)[1..])
+    put_method_fields(buf, at, &select_ok_fields(method))
 }
 
 /// Appends the method id and the fields of `SelectOk` to a vector.
@@ -158,7 +159,7 @@ pub fn gen_select_ok(_alloc: Global, out: &mut Vec<u8>, method: &SelectOk) -> Re
     ensures { Appends out.old.items out.new.items (method_size (select_ok_method method.now))
         (method_bytes (select_ok_method method.now)) result }
 {
-    gen_fields(out, &select_ok_fields(method)[1..])
+    gen_method_fields(out, &select_ok_fields(method))
 }
 
 /// A method of the class.
@@ -194,8 +195,8 @@ impl AMQPMethod {
         ensures { IfOk result (λ copied. copied ≡ self.now) }
     {
         match self {
-            AMQPMethod::Select(method) => Ok(AMQPMethod::Select(method.clone()?)),
-            AMQPMethod::SelectOk(method) => Ok(AMQPMethod::SelectOk(method.clone()?)),
+            AMQPMethod::Select(method) => copied!(method.clone(), AMQPMethod::Select),
+            AMQPMethod::SelectOk(method) => copied!(method.clone(), AMQPMethod::SelectOk),
         }
     }
 }
@@ -224,21 +225,21 @@ pub fn parse_confirm(alloc: Global, i: &[u8]) -> Result<(usize, AMQPMethod), Par
     Ok((n + used, method))
 }
 
-/// Calls a function with the ids and fields of a method, after the arguments given.
-macro_rules! with_fields {
-    ($method:expr, $call:ident($($argument:expr),*)) => {
-        match $method {
-            AMQPMethod::Select(method) => $call($($argument,)* &select_fields(method)),
-            AMQPMethod::SelectOk(method) => $call($($argument,)* &select_ok_fields(method)),
-        }
-    };
+/// The ids and fields of a method, in order, and then nothing up to the most that a method of the class has.
+fn method_fields(method: &AMQPMethod) -> [Field<'_>; 3]
+    ensures { ListsMethod result (method_of method.now) }
+{
+    match method {
+        AMQPMethod::Select(method) => select_fields(method),
+        AMQPMethod::SelectOk(method) => select_ok_fields(method),
+    }
 }
 
 /// The size in bytes of the class id, the method id and the fields.
 pub fn size_confirm(method: &AMQPMethod) -> Result<u64, GenError>
     ensures { Measures result (payload_size (method_of method.now)) }
 {
-    with_fields!(method, size_fields())
+    size_fields(&method_fields(method))
 }
 
 /// Puts the class id, the method id and the fields at a place of a slice, and returns the place after.
@@ -247,7 +248,7 @@ pub fn put_confirm(buf: &mut [u8], at: usize, method: &AMQPMethod) -> usize
         (payload_bytes (method_of method.now)) }
     ensures { Puts buf.old buf.new at (payload_bytes (method_of method.now)) result }
 {
-    with_fields!(method, put_fields(buf, at))
+    put_fields(buf, at, &method_fields(method))
 }
 
 /// Appends the class id, the method id and the fields to a vector.
@@ -255,12 +256,12 @@ pub fn gen_confirm(_alloc: Global, out: &mut Vec<u8>, method: &AMQPMethod) -> Re
     ensures { Appends out.old.items out.new.items (payload_size (method_of method.now))
         (payload_bytes (method_of method.now)) result }
 {
-    with_fields!(method, gen_fields(out))
+    gen_fields(out, &method_fields(method))
 }
 
 /// A method of the class is held, whatever a program does: the premise of the laws that read canonical bytes back.
 pub fn confirm_method_held(method: &AMQPMethod)
     ensures { IsHeldMethod (method_of method.now) }
 {
-    with_fields!(method, fields_held())
+    fields_held(&method_fields(method))
 }

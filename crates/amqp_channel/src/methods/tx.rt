@@ -13,8 +13,9 @@ ghost use Rattle.amqp_channel.specs.Tx.{commit_ok_method, rollback_method};
 ghost use Rattle.amqp_channel.specs.Tx.{rollback_ok_method, method_of};
 
 use amqp_values::{
-    Field, GenError, Identifier, NoMemory, ParserError, SlotReader, fields_held, gen_fields,
-    in_variant, parse_id, put_fields, size_fields,
+    Field, GenError, Identifier, NoMemory, ParserError, SlotReader, copied, fields_held,
+    gen_fields, gen_method_fields, in_variant, parse_id, put_fields, put_method_fields,
+    size_fields, size_method_fields,
 };
 use std::alloc::Global;
 
@@ -60,7 +61,7 @@ fn select_fields(_method: &Select) -> [Field<'_>; 2]
 pub fn size_select(method: &Select) -> Result<u64, GenError>
     ensures { Measures result (method_size (select_method method.now)) }
 {
-    size_fields(&select_fields(method)[1..])
+    size_method_fields(&select_fields(method))
 }
 
 /// Puts the method id and the fields of `Select` at a place of a slice, and returns the place after.
@@ -69,7 +70,7 @@ pub fn put_select(buf: &mut [u8], at: usize, method: &Select) -> usize
         (method_bytes (select_method method.now)) }
     ensures { Puts buf.old buf.new at (method_bytes (select_method method.now)) result }
 {
-    put_fields(buf, at, &select_fields(method)[1..])
+    put_method_fields(buf, at, &select_fields(method))
 }
 
 /// Appends the method id and the fields of `Select` to a vector.
@@ -77,7 +78,7 @@ pub fn gen_select(_alloc: Global, out: &mut Vec<u8>, method: &Select) -> Result<
     ensures { Appends out.old.items out.new.items (method_size (select_method method.now))
         (method_bytes (select_method method.now)) result }
 {
-    gen_fields(out, &select_fields(method)[1..])
+    gen_method_fields(out, &select_fields(method))
 }
 
 /// The channel has transactions.
@@ -122,7 +123,7 @@ fn select_ok_fields(_method: &SelectOk) -> [Field<'_>; 2]
 pub fn size_select_ok(method: &SelectOk) -> Result<u64, GenError>
     ensures { Measures result (method_size (select_ok_method method.now)) }
 {
-    size_fields(&select_ok_fields(method)[1..])
+    size_method_fields(&select_ok_fields(method))
 }
 
 /// Puts the method id and the fields of `SelectOk` at a place of a slice, and returns the place after.
@@ -131,7 +132,7 @@ pub fn put_select_ok(buf: &mut [u8], at: usize, method: &SelectOk) -> usize
         (method_bytes (select_ok_method method.now)) }
     ensures { Puts buf.old buf.new at (method_bytes (select_ok_method method.now)) result }
 {
-    put_fields(buf, at, &select_ok_fields(method)[1..])
+    put_method_fields(buf, at, &select_ok_fields(method))
 }
 
 /// Appends the method id and the fields of `SelectOk` to a vector.
@@ -139,7 +140,7 @@ pub fn gen_select_ok(_alloc: Global, out: &mut Vec<u8>, method: &SelectOk) -> Re
     ensures { Appends out.old.items out.new.items (method_size (select_ok_method method.now))
         (method_bytes (select_ok_method method.now)) result }
 {
-    gen_fields(out, &select_ok_fields(method)[1..])
+    gen_method_fields(out, &select_ok_fields(method))
 }
 
 /// The client commits the transaction.
@@ -184,7 +185,7 @@ fn commit_fields(_method: &Commit) -> [Field<'_>; 2]
 pub fn size_commit(method: &Commit) -> Result<u64, GenError>
     ensures { Measures result (method_size (commit_method method.now)) }
 {
-    size_fields(&commit_fields(method)[1..])
+    size_method_fields(&commit_fields(method))
 }
 
 /// Puts the method id and the fields of `Commit` at a place of a slice, and returns the place after.
@@ -193,7 +194,7 @@ pub fn put_commit(buf: &mut [u8], at: usize, method: &Commit) -> usize
         (method_bytes (commit_method method.now)) }
     ensures { Puts buf.old buf.new at (method_bytes (commit_method method.now)) result }
 {
-    put_fields(buf, at, &commit_fields(method)[1..])
+    put_method_fields(buf, at, &commit_fields(method))
 }
 
 /// Appends the method id and the fields of `Commit` to a vector.
@@ -201,7 +202,7 @@ pub fn gen_commit(_alloc: Global, out: &mut Vec<u8>, method: &Commit) -> Result<
     ensures { Appends out.old.items out.new.items (method_size (commit_method method.now))
         (method_bytes (commit_method method.now)) result }
 {
-    gen_fields(out, &commit_fields(method)[1..])
+    gen_method_fields(out, &commit_fields(method))
 }
 
 /// The transaction is committed.
@@ -246,7 +247,7 @@ fn commit_ok_fields(_method: &CommitOk) -> [Field<'_>; 2]
 pub fn size_commit_ok(method: &CommitOk) -> Result<u64, GenError>
     ensures { Measures result (method_size (commit_ok_method method.now)) }
 {
-    size_fields(&commit_ok_fields(method)[1..])
+    size_method_fields(&commit_ok_fields(method))
 }
 
 /// Puts the method id and the fields of `CommitOk` at a place of a slice, and returns the place after.
@@ -255,7 +256,7 @@ pub fn put_commit_ok(buf: &mut [u8], at: usize, method: &CommitOk) -> usize
         (method_bytes (commit_ok_method method.now)) }
     ensures { Puts buf.old buf.new at (method_bytes (commit_ok_method method.now)) result }
 {
-    put_fields(buf, at, &commit_ok_fields(method)[1..])
+    put_method_fields(buf, at, &commit_ok_fields(method))
 }
 
 /// Appends the method id and the fields of `CommitOk` to a vector.
@@ -263,7 +264,7 @@ pub fn gen_commit_ok(_alloc: Global, out: &mut Vec<u8>, method: &CommitOk) -> Re
     ensures { Appends out.old.items out.new.items (method_size (commit_ok_method method.now))
         (method_bytes (commit_ok_method method.now)) result }
 {
-    gen_fields(out, &commit_ok_fields(method)[1..])
+    gen_method_fields(out, &commit_ok_fields(method))
 }
 
 /// The client abandons the transaction.
@@ -308,7 +309,7 @@ fn rollback_fields(_method: &Rollback) -> [Field<'_>; 2]
 pub fn size_rollback(method: &Rollback) -> Result<u64, GenError>
     ensures { Measures result (method_size (rollback_method method.now)) }
 {
-    size_fields(&rollback_fields(method)[1..])
+    size_method_fields(&rollback_fields(method))
 }
 
 /// Puts the method id and the fields of `Rollback` at a place of a slice, and returns the place after.
@@ -317,7 +318,7 @@ pub fn put_rollback(buf: &mut [u8], at: usize, method: &Rollback) -> usize
         (method_bytes (rollback_method method.now)) }
     ensures { Puts buf.old buf.new at (method_bytes (rollback_method method.now)) result }
 {
-    put_fields(buf, at, &rollback_fields(method)[1..])
+    put_method_fields(buf, at, &rollback_fields(method))
 }
 
 /// Appends the method id and the fields of `Rollback` to a vector.
@@ -325,7 +326,7 @@ pub fn gen_rollback(_alloc: Global, out: &mut Vec<u8>, method: &Rollback) -> Res
     ensures { Appends out.old.items out.new.items (method_size (rollback_method method.now))
         (method_bytes (rollback_method method.now)) result }
 {
-    gen_fields(out, &rollback_fields(method)[1..])
+    gen_method_fields(out, &rollback_fields(method))
 }
 
 /// The transaction is abandoned.
@@ -370,7 +371,7 @@ fn rollback_ok_fields(_method: &RollbackOk) -> [Field<'_>; 2]
 pub fn size_rollback_ok(method: &RollbackOk) -> Result<u64, GenError>
     ensures { Measures result (method_size (rollback_ok_method method.now)) }
 {
-    size_fields(&rollback_ok_fields(method)[1..])
+    size_method_fields(&rollback_ok_fields(method))
 }
 
 /// Puts the method id and the fields of `RollbackOk` at a place of a slice, and returns the place after.
@@ -379,7 +380,7 @@ pub fn put_rollback_ok(buf: &mut [u8], at: usize, method: &RollbackOk) -> usize
         (method_bytes (rollback_ok_method method.now)) }
     ensures { Puts buf.old buf.new at (method_bytes (rollback_ok_method method.now)) result }
 {
-    put_fields(buf, at, &rollback_ok_fields(method)[1..])
+    put_method_fields(buf, at, &rollback_ok_fields(method))
 }
 
 /// Appends the method id and the fields of `RollbackOk` to a vector.
@@ -391,7 +392,7 @@ pub fn gen_rollback_ok(
     ensures { Appends out.old.items out.new.items (method_size (rollback_ok_method method.now))
         (method_bytes (rollback_ok_method method.now)) result }
 {
-    gen_fields(out, &rollback_ok_fields(method)[1..])
+    gen_method_fields(out, &rollback_ok_fields(method))
 }
 
 /// A method of the class.
@@ -443,12 +444,12 @@ impl AMQPMethod {
         ensures { IfOk result (λ copied. copied ≡ self.now) }
     {
         match self {
-            AMQPMethod::Select(method) => Ok(AMQPMethod::Select(method.clone()?)),
-            AMQPMethod::SelectOk(method) => Ok(AMQPMethod::SelectOk(method.clone()?)),
-            AMQPMethod::Commit(method) => Ok(AMQPMethod::Commit(method.clone()?)),
-            AMQPMethod::CommitOk(method) => Ok(AMQPMethod::CommitOk(method.clone()?)),
-            AMQPMethod::Rollback(method) => Ok(AMQPMethod::Rollback(method.clone()?)),
-            AMQPMethod::RollbackOk(method) => Ok(AMQPMethod::RollbackOk(method.clone()?)),
+            AMQPMethod::Select(method) => copied!(method.clone(), AMQPMethod::Select),
+            AMQPMethod::SelectOk(method) => copied!(method.clone(), AMQPMethod::SelectOk),
+            AMQPMethod::Commit(method) => copied!(method.clone(), AMQPMethod::Commit),
+            AMQPMethod::CommitOk(method) => copied!(method.clone(), AMQPMethod::CommitOk),
+            AMQPMethod::Rollback(method) => copied!(method.clone(), AMQPMethod::Rollback),
+            AMQPMethod::RollbackOk(method) => copied!(method.clone(), AMQPMethod::RollbackOk),
         }
     }
 }
@@ -481,25 +482,25 @@ pub fn parse_tx(alloc: Global, i: &[u8]) -> Result<(usize, AMQPMethod), ParserEr
     Ok((n + used, method))
 }
 
-/// Calls a function with the ids and fields of a method, after the arguments given.
-macro_rules! with_fields {
-    ($method:expr, $call:ident($($argument:expr),*)) => {
-        match $method {
-            AMQPMethod::Select(method) => $call($($argument,)* &select_fields(method)),
-            AMQPMethod::SelectOk(method) => $call($($argument,)* &select_ok_fields(method)),
-            AMQPMethod::Commit(method) => $call($($argument,)* &commit_fields(method)),
-            AMQPMethod::CommitOk(method) => $call($($argument,)* &commit_ok_fields(method)),
-            AMQPMethod::Rollback(method) => $call($($argument,)* &rollback_fields(method)),
-            AMQPMethod::RollbackOk(method) => $call($($argument,)* &rollback_ok_fields(method)),
-        }
-    };
+/// The ids and fields of a method, in order, and then nothing up to the most that a method of the class has.
+fn method_fields(method: &AMQPMethod) -> [Field<'_>; 2]
+    ensures { ListsMethod result (method_of method.now) }
+{
+    match method {
+        AMQPMethod::Select(method) => select_fields(method),
+        AMQPMethod::SelectOk(method) => select_ok_fields(method),
+        AMQPMethod::Commit(method) => commit_fields(method),
+        AMQPMethod::CommitOk(method) => commit_ok_fields(method),
+        AMQPMethod::Rollback(method) => rollback_fields(method),
+        AMQPMethod::RollbackOk(method) => rollback_ok_fields(method),
+    }
 }
 
 /// The size in bytes of the class id, the method id and the fields.
 pub fn size_tx(method: &AMQPMethod) -> Result<u64, GenError>
     ensures { Measures result (payload_size (method_of method.now)) }
 {
-    with_fields!(method, size_fields())
+    size_fields(&method_fields(method))
 }
 
 /// Puts the class id, the method id and the fields at a place of a slice, and returns the place after.
@@ -508,7 +509,7 @@ pub fn put_tx(buf: &mut [u8], at: usize, method: &AMQPMethod) -> usize
         (payload_bytes (method_of method.now)) }
     ensures { Puts buf.old buf.new at (payload_bytes (method_of method.now)) result }
 {
-    with_fields!(method, put_fields(buf, at))
+    put_fields(buf, at, &method_fields(method))
 }
 
 /// Appends the class id, the method id and the fields to a vector.
@@ -516,12 +517,12 @@ pub fn gen_tx(_alloc: Global, out: &mut Vec<u8>, method: &AMQPMethod) -> Result<
     ensures { Appends out.old.items out.new.items (payload_size (method_of method.now))
         (payload_bytes (method_of method.now)) result }
 {
-    with_fields!(method, gen_fields(out))
+    gen_fields(out, &method_fields(method))
 }
 
 /// A method of the class is held, whatever a program does: the premise of the laws that read canonical bytes back.
 pub fn tx_method_held(method: &AMQPMethod)
     ensures { IsHeldMethod (method_of method.now) }
 {
-    with_fields!(method, fields_held())
+    fields_held(&method_fields(method))
 }

@@ -13,8 +13,8 @@ ghost use Rattle.amqp_connection.specs.Access.{request_method, request_ok_method
 
 use amqp_values::{
     Boolean, Field, Flags, GenError, Identifier, NoMemory, ParserError, ShortString, SlotReader,
-    byte_of_flags, fields_held, flag_of_byte, gen_fields, in_variant, parse_id, put_fields,
-    size_fields,
+    byte_of_flags, copied, fields_held, flag_of_byte, gen_fields, gen_method_fields, in_variant,
+    parse_id, put_fields, put_method_fields, size_fields, size_method_fields,
 };
 use std::alloc::Global;
 
@@ -127,7 +127,7 @@ fn request_fields(method: &Request) -> [Field<'_>; 4]
 pub fn size_request(method: &Request) -> Result<u64, GenError>
     ensures { Measures result (method_size (request_method method.now)) }
 {
-    size_fields(&request_fields(method)[1..])
+    size_method_fields(&request_fields(method))
 }
 
 /// Puts the method id and the fields of `Request` at a place of a slice, and returns the place after.
@@ -136,7 +136,7 @@ pub fn put_request(buf: &mut [u8], at: usize, method: &Request) -> usize
         (method_bytes (request_method method.now)) }
     ensures { Puts buf.old buf.new at (method_bytes (request_method method.now)) result }
 {
-    put_fields(buf, at, &request_fields(method)[1..])
+    put_method_fields(buf, at, &request_fields(method))
 }
 
 /// Appends the method id and the fields of `Request` to a vector.
@@ -144,7 +144,7 @@ pub fn gen_request(_alloc: Global, out: &mut Vec<u8>, method: &Request) -> Resul
     ensures { Appends out.old.items out.new.items (method_size (request_method method.now))
         (method_bytes (request_method method.now)) result }
 {
-    gen_fields(out, &request_fields(method)[1..])
+    gen_method_fields(out, &request_fields(method))
 }
 
 /// The access is granted. The ticket, which is reserved, is written as 1.
@@ -180,13 +180,14 @@ pub fn parse_request_ok(_alloc: Global, i: &[u8]) -> Result<(usize, RequestOk), 
 
 /// Its ids and fields, in order.
 #[tactic(auto, unfolding(amqp_values::proofs::OneMethod::listed))]
-fn request_ok_fields(_method: &RequestOk) -> [Field<'_>; 3]
+fn request_ok_fields(_method: &RequestOk) -> [Field<'_>; 4]
     ensures { ListsMethod result (request_ok_method _method.now) }
 {
     [
         Field::ShortUInt(30),
         Field::ShortUInt(11),
         Field::ShortUInt(1), // reserved
+        Field::Nothing,
     ]
 }
 
@@ -194,7 +195,7 @@ fn request_ok_fields(_method: &RequestOk) -> [Field<'_>; 3]
 pub fn size_request_ok(method: &RequestOk) -> Result<u64, GenError>
     ensures { Measures result (method_size (request_ok_method method.now)) }
 {
-    size_fields(&request_ok_fields(method)[1..])
+    size_method_fields(&request_ok_fields(method))
 }
 
 /// Puts the method id and the fields of `RequestOk` at a place of a slice, and returns the place after.
@@ -203,7 +204,7 @@ pub fn put_request_ok(buf: &mut [u8], at: usize, method: &RequestOk) -> usize
         (method_bytes (request_ok_method method.now)) }
     ensures { Puts buf.old buf.new at (method_bytes (request_ok_method method.now)) result }
 {
-    put_fields(buf, at, &request_ok_fields(method)[1..])
+    put_method_fields(buf, at, &request_ok_fields(method))
 }
 
 /// Appends the method id and the fields of `RequestOk` to a vector.
@@ -211,7 +212,7 @@ pub fn gen_request_ok(_alloc: Global, out: &mut Vec<u8>, method: &RequestOk) -> 
     ensures { Appends out.old.items out.new.items (method_size (request_ok_method method.now))
         (method_bytes (request_ok_method method.now)) result }
 {
-    gen_fields(out, &request_ok_fields(method)[1..])
+    gen_method_fields(out, &request_ok_fields(method))
 }
 
 /// A method of the class.
@@ -247,8 +248,8 @@ impl AMQPMethod {
         ensures { IfOk result (λ copied. copied ≡ self.now) }
     {
         match self {
-            AMQPMethod::Request(method) => Ok(AMQPMethod::Request(method.copy(alloc)?)),
-            AMQPMethod::RequestOk(method) => Ok(AMQPMethod::RequestOk(method.clone()?)),
+            AMQPMethod::Request(method) => copied!(method.copy(alloc), AMQPMethod::Request),
+            AMQPMethod::RequestOk(method) => copied!(method.clone(), AMQPMethod::RequestOk),
         }
     }
 }
@@ -275,21 +276,21 @@ pub fn parse_access(alloc: Global, i: &[u8]) -> Result<(usize, AMQPMethod), Pars
     Ok((n + used, method))
 }
 
-/// Calls a function with the ids and fields of a method, after the arguments given.
-macro_rules! with_fields {
-    ($method:expr, $call:ident($($argument:expr),*)) => {
-        match $method {
-            AMQPMethod::Request(method) => $call($($argument,)* &request_fields(method)),
-            AMQPMethod::RequestOk(method) => $call($($argument,)* &request_ok_fields(method)),
-        }
-    };
+/// The ids and fields of a method, in order, and then nothing up to the most that a method of the class has.
+fn method_fields(method: &AMQPMethod) -> [Field<'_>; 4]
+    ensures { ListsMethod result (method_of method.now) }
+{
+    match method {
+        AMQPMethod::Request(method) => request_fields(method),
+        AMQPMethod::RequestOk(method) => request_ok_fields(method),
+    }
 }
 
 /// The size in bytes of the class id, the method id and the fields.
 pub fn size_access(method: &AMQPMethod) -> Result<u64, GenError>
     ensures { Measures result (payload_size (method_of method.now)) }
 {
-    with_fields!(method, size_fields())
+    size_fields(&method_fields(method))
 }
 
 /// Puts the class id, the method id and the fields at a place of a slice, and returns the place after.
@@ -298,7 +299,7 @@ pub fn put_access(buf: &mut [u8], at: usize, method: &AMQPMethod) -> usize
         (payload_bytes (method_of method.now)) }
     ensures { Puts buf.old buf.new at (payload_bytes (method_of method.now)) result }
 {
-    with_fields!(method, put_fields(buf, at))
+    put_fields(buf, at, &method_fields(method))
 }
 
 /// Appends the class id, the method id and the fields to a vector.
@@ -306,12 +307,12 @@ pub fn gen_access(_alloc: Global, out: &mut Vec<u8>, method: &AMQPMethod) -> Res
     ensures { Appends out.old.items out.new.items (payload_size (method_of method.now))
         (payload_bytes (method_of method.now)) result }
 {
-    with_fields!(method, gen_fields(out))
+    gen_fields(out, &method_fields(method))
 }
 
 /// A method of the class is held, whatever a program does: the premise of the laws that read canonical bytes back.
 pub fn access_method_held(method: &AMQPMethod)
     ensures { IsHeldMethod (method_of method.now) }
 {
-    with_fields!(method, fields_held())
+    fields_held(&method_fields(method))
 }

@@ -10,11 +10,12 @@ ghost use Rattle.amqp_types.specs.Writing.{Puts, Appends};
 ghost use Rattle.amqp_types.specs.Methods.{judge_method, judge_in_class};
 ghost use Rattle.amqp_types.specs.Methods.{payload_bytes, payload_size};
 ghost use Rattle.amqp_laws.specs.HeldMethods.{IsHeldMethod};
+ghost use Rattle.amqp_values.specs.MethodFields.{ListsMethod};
 ghost use Rattle.amqp_connection.specs.Connection.{method_of};
 
 use amqp_values::{
-    GenError, Identifier, NoMemory, ParserError, fields_held, gen_fields, in_variant, parse_id,
-    put_fields, size_fields,
+    Field, GenError, Identifier, NoMemory, ParserError, copied, fields_held, gen_fields,
+    in_variant, parse_id, put_fields, size_fields,
 };
 pub use negotiating::{
     Secure, SecureOk, Start, StartOk, Tune, TuneOk, gen_secure, gen_secure_ok, gen_start,
@@ -115,20 +116,26 @@ impl AMQPMethod {
         ensures { IfOk result (λ copied. copied ≡ self.now) }
     {
         match self {
-            AMQPMethod::Start(method) => Ok(AMQPMethod::Start(method.copy(alloc)?)),
-            AMQPMethod::StartOk(method) => Ok(AMQPMethod::StartOk(method.copy(alloc)?)),
-            AMQPMethod::Secure(method) => Ok(AMQPMethod::Secure(method.copy(alloc)?)),
-            AMQPMethod::SecureOk(method) => Ok(AMQPMethod::SecureOk(method.copy(alloc)?)),
-            AMQPMethod::Tune(method) => Ok(AMQPMethod::Tune(method.clone()?)),
-            AMQPMethod::TuneOk(method) => Ok(AMQPMethod::TuneOk(method.clone()?)),
-            AMQPMethod::Open(method) => Ok(AMQPMethod::Open(method.copy(alloc)?)),
-            AMQPMethod::OpenOk(method) => Ok(AMQPMethod::OpenOk(method.clone()?)),
-            AMQPMethod::Close(method) => Ok(AMQPMethod::Close(method.copy(alloc)?)),
-            AMQPMethod::CloseOk(method) => Ok(AMQPMethod::CloseOk(method.clone()?)),
-            AMQPMethod::Blocked(method) => Ok(AMQPMethod::Blocked(method.copy(alloc)?)),
-            AMQPMethod::Unblocked(method) => Ok(AMQPMethod::Unblocked(method.clone()?)),
-            AMQPMethod::UpdateSecret(method) => Ok(AMQPMethod::UpdateSecret(method.copy(alloc)?)),
-            AMQPMethod::UpdateSecretOk(method) => Ok(AMQPMethod::UpdateSecretOk(method.clone()?)),
+            AMQPMethod::Start(method) => copied!(method.copy(alloc), AMQPMethod::Start),
+            AMQPMethod::StartOk(method) => copied!(method.copy(alloc), AMQPMethod::StartOk),
+            AMQPMethod::Secure(method) => copied!(method.copy(alloc), AMQPMethod::Secure),
+            AMQPMethod::SecureOk(method) => copied!(method.copy(alloc), AMQPMethod::SecureOk),
+            AMQPMethod::Tune(method) => copied!(method.clone(), AMQPMethod::Tune),
+            AMQPMethod::TuneOk(method) => copied!(method.clone(), AMQPMethod::TuneOk),
+            AMQPMethod::Open(method) => copied!(method.copy(alloc), AMQPMethod::Open),
+            AMQPMethod::OpenOk(method) => copied!(method.clone(), AMQPMethod::OpenOk),
+            AMQPMethod::Close(method) => copied!(method.copy(alloc), AMQPMethod::Close),
+            AMQPMethod::CloseOk(method) => copied!(method.clone(), AMQPMethod::CloseOk),
+            AMQPMethod::Blocked(method) => copied!(method.copy(alloc), AMQPMethod::Blocked),
+            AMQPMethod::Unblocked(method) => copied!(method.clone(), AMQPMethod::Unblocked),
+            AMQPMethod::UpdateSecret(method) => copied!(
+                method.copy(alloc),
+                AMQPMethod::UpdateSecret
+            ),
+            AMQPMethod::UpdateSecretOk(method) => copied!(
+                method.clone(),
+                AMQPMethod::UpdateSecretOk
+            ),
         }
     }
 }
@@ -167,33 +174,33 @@ pub fn parse_connection(alloc: Global, i: &[u8]) -> Result<(usize, AMQPMethod), 
     Ok((n + used, method))
 }
 
-/// Calls a function with the ids and fields of a method, after the arguments given.
-macro_rules! with_fields {
-    ($method:expr, $call:ident($($argument:expr),*)) => {
-        match $method {
-            AMQPMethod::Start(method) => $call($($argument,)* &negotiating::start_fields(method)),
-            AMQPMethod::StartOk(method) => $call($($argument,)* &negotiating::start_ok_fields(method)),
-            AMQPMethod::Secure(method) => $call($($argument,)* &negotiating::secure_fields(method)),
-            AMQPMethod::SecureOk(method) => $call($($argument,)* &negotiating::secure_ok_fields(method)),
-            AMQPMethod::Tune(method) => $call($($argument,)* &negotiating::tune_fields(method)),
-            AMQPMethod::TuneOk(method) => $call($($argument,)* &negotiating::tune_ok_fields(method)),
-            AMQPMethod::Open(method) => $call($($argument,)* &opening::open_fields(method)),
-            AMQPMethod::OpenOk(method) => $call($($argument,)* &opening::open_ok_fields(method)),
-            AMQPMethod::Close(method) => $call($($argument,)* &opening::close_fields(method)),
-            AMQPMethod::CloseOk(method) => $call($($argument,)* &opening::close_ok_fields(method)),
-            AMQPMethod::Blocked(method) => $call($($argument,)* &opening::blocked_fields(method)),
-            AMQPMethod::Unblocked(method) => $call($($argument,)* &opening::unblocked_fields(method)),
-            AMQPMethod::UpdateSecret(method) => $call($($argument,)* &opening::update_secret_fields(method)),
-            AMQPMethod::UpdateSecretOk(method) => $call($($argument,)* &opening::update_secret_ok_fields(method)),
-        }
-    };
+/// The ids and fields of a method, in order, and then nothing up to the most that a method of the class has.
+fn method_fields(method: &AMQPMethod) -> [Field<'_>; 7]
+    ensures { ListsMethod result (method_of method.now) }
+{
+    match method {
+        AMQPMethod::Start(method) => negotiating::start_fields(method),
+        AMQPMethod::StartOk(method) => negotiating::start_ok_fields(method),
+        AMQPMethod::Secure(method) => negotiating::secure_fields(method),
+        AMQPMethod::SecureOk(method) => negotiating::secure_ok_fields(method),
+        AMQPMethod::Tune(method) => negotiating::tune_fields(method),
+        AMQPMethod::TuneOk(method) => negotiating::tune_ok_fields(method),
+        AMQPMethod::Open(method) => opening::open_fields(method),
+        AMQPMethod::OpenOk(method) => opening::open_ok_fields(method),
+        AMQPMethod::Close(method) => opening::close_fields(method),
+        AMQPMethod::CloseOk(method) => opening::close_ok_fields(method),
+        AMQPMethod::Blocked(method) => opening::blocked_fields(method),
+        AMQPMethod::Unblocked(method) => opening::unblocked_fields(method),
+        AMQPMethod::UpdateSecret(method) => opening::update_secret_fields(method),
+        AMQPMethod::UpdateSecretOk(method) => opening::update_secret_ok_fields(method),
+    }
 }
 
 /// The size in bytes of the class id, the method id and the fields.
 pub fn size_connection(method: &AMQPMethod) -> Result<u64, GenError>
     ensures { Measures result (payload_size (method_of method.now)) }
 {
-    with_fields!(method, size_fields())
+    size_fields(&method_fields(method))
 }
 
 /// Puts the class id, the method id and the fields at a place of a slice, and returns the place after.
@@ -202,7 +209,7 @@ pub fn put_connection(buf: &mut [u8], at: usize, method: &AMQPMethod) -> usize
         (payload_bytes (method_of method.now)) }
     ensures { Puts buf.old buf.new at (payload_bytes (method_of method.now)) result }
 {
-    with_fields!(method, put_fields(buf, at))
+    put_fields(buf, at, &method_fields(method))
 }
 
 /// Appends the class id, the method id and the fields to a vector.
@@ -214,12 +221,12 @@ pub fn gen_connection(
     ensures { Appends out.old.items out.new.items (payload_size (method_of method.now))
         (payload_bytes (method_of method.now)) result }
 {
-    with_fields!(method, gen_fields(out))
+    gen_fields(out, &method_fields(method))
 }
 
 /// A method of the class is held, whatever a program does: the premise of the laws that read canonical bytes back.
 pub fn connection_method_held(method: &AMQPMethod)
     ensures { IsHeldMethod (method_of method.now) }
 {
-    with_fields!(method, fields_held())
+    fields_held(&method_fields(method))
 }

@@ -11,8 +11,8 @@ ghost use Rattle.amqp_exchange.specs.Exchange.{unbind_method, unbind_ok_method};
 
 use amqp_values::{
     Boolean, Field, FieldTable, Flags, GenError, Identifier, NoMemory, ParserError,
-    ReservedShortUInt, ShortString, SlotReader, byte_of_flags, flag_of_byte, gen_fields,
-    put_fields, size_fields,
+    ReservedShortUInt, ShortString, SlotReader, byte_of_flags, copied, flag_of_byte,
+    gen_method_fields, put_method_fields, size_method_fields,
 };
 use std::alloc::Global;
 
@@ -119,7 +119,7 @@ pub(super) fn bind_fields(method: &Bind) -> [Field<'_>; 8]
 pub fn size_bind(method: &Bind) -> Result<u64, GenError>
     ensures { Measures result (method_size (bind_method method.now)) }
 {
-    size_fields(&bind_fields(method)[1..])
+    size_method_fields(&bind_fields(method))
 }
 
 /// Puts the method id and the fields of `Bind` at a place of a slice, and returns the place after.
@@ -128,7 +128,7 @@ pub fn put_bind(buf: &mut [u8], at: usize, method: &Bind) -> usize
         (method_bytes (bind_method method.now)) }
     ensures { Puts buf.old buf.new at (method_bytes (bind_method method.now)) result }
 {
-    put_fields(buf, at, &bind_fields(method)[1..])
+    put_method_fields(buf, at, &bind_fields(method))
 }
 
 /// Appends the method id and the fields of `Bind` to a vector.
@@ -136,7 +136,7 @@ pub fn gen_bind(_alloc: Global, out: &mut Vec<u8>, method: &Bind) -> Result<(), 
     ensures { Appends out.old.items out.new.items (method_size (bind_method method.now))
         (method_bytes (bind_method method.now)) result }
 {
-    gen_fields(out, &bind_fields(method)[1..])
+    gen_method_fields(out, &bind_fields(method))
 }
 
 /// The exchange is bound.
@@ -171,17 +171,26 @@ pub fn parse_bind_ok(_alloc: Global, i: &[u8]) -> Result<(usize, BindOk), Parser
 
 /// Its ids and fields, in order.
 #[tactic(auto, unfolding(amqp_values::proofs::OneMethod::listed))]
-pub(super) fn bind_ok_fields(_method: &BindOk) -> [Field<'_>; 2]
+pub(super) fn bind_ok_fields(_method: &BindOk) -> [Field<'_>; 8]
     ensures { ListsMethod result (bind_ok_method _method.now) }
 {
-    [Field::ShortUInt(40), Field::ShortUInt(31)]
+    [
+        Field::ShortUInt(40),
+        Field::ShortUInt(31),
+        Field::Nothing,
+        Field::Nothing,
+        Field::Nothing,
+        Field::Nothing,
+        Field::Nothing,
+        Field::Nothing,
+    ]
 }
 
 /// The size in bytes of the method id and the fields of `BindOk`.
 pub fn size_bind_ok(method: &BindOk) -> Result<u64, GenError>
     ensures { Measures result (method_size (bind_ok_method method.now)) }
 {
-    size_fields(&bind_ok_fields(method)[1..])
+    size_method_fields(&bind_ok_fields(method))
 }
 
 /// Puts the method id and the fields of `BindOk` at a place of a slice, and returns the place after.
@@ -190,7 +199,7 @@ pub fn put_bind_ok(buf: &mut [u8], at: usize, method: &BindOk) -> usize
         (method_bytes (bind_ok_method method.now)) }
     ensures { Puts buf.old buf.new at (method_bytes (bind_ok_method method.now)) result }
 {
-    put_fields(buf, at, &bind_ok_fields(method)[1..])
+    put_method_fields(buf, at, &bind_ok_fields(method))
 }
 
 /// Appends the method id and the fields of `BindOk` to a vector.
@@ -198,7 +207,7 @@ pub fn gen_bind_ok(_alloc: Global, out: &mut Vec<u8>, method: &BindOk) -> Result
     ensures { Appends out.old.items out.new.items (method_size (bind_ok_method method.now))
         (method_bytes (bind_ok_method method.now)) result }
 {
-    gen_fields(out, &bind_ok_fields(method)[1..])
+    gen_method_fields(out, &bind_ok_fields(method))
 }
 
 /// The client unbinds an exchange from another one.
@@ -304,7 +313,7 @@ pub(super) fn unbind_fields(method: &Unbind) -> [Field<'_>; 8]
 pub fn size_unbind(method: &Unbind) -> Result<u64, GenError>
     ensures { Measures result (method_size (unbind_method method.now)) }
 {
-    size_fields(&unbind_fields(method)[1..])
+    size_method_fields(&unbind_fields(method))
 }
 
 /// Puts the method id and the fields of `Unbind` at a place of a slice, and returns the place after.
@@ -313,7 +322,7 @@ pub fn put_unbind(buf: &mut [u8], at: usize, method: &Unbind) -> usize
         (method_bytes (unbind_method method.now)) }
     ensures { Puts buf.old buf.new at (method_bytes (unbind_method method.now)) result }
 {
-    put_fields(buf, at, &unbind_fields(method)[1..])
+    put_method_fields(buf, at, &unbind_fields(method))
 }
 
 /// Appends the method id and the fields of `Unbind` to a vector.
@@ -321,7 +330,7 @@ pub fn gen_unbind(_alloc: Global, out: &mut Vec<u8>, method: &Unbind) -> Result<
     ensures { Appends out.old.items out.new.items (method_size (unbind_method method.now))
         (method_bytes (unbind_method method.now)) result }
 {
-    gen_fields(out, &unbind_fields(method)[1..])
+    gen_method_fields(out, &unbind_fields(method))
 }
 
 /// The exchange is unbound.
@@ -356,17 +365,26 @@ pub fn parse_unbind_ok(_alloc: Global, i: &[u8]) -> Result<(usize, UnbindOk), Pa
 
 /// Its ids and fields, in order.
 #[tactic(auto, unfolding(amqp_values::proofs::OneMethod::listed))]
-pub(super) fn unbind_ok_fields(_method: &UnbindOk) -> [Field<'_>; 2]
+pub(super) fn unbind_ok_fields(_method: &UnbindOk) -> [Field<'_>; 8]
     ensures { ListsMethod result (unbind_ok_method _method.now) }
 {
-    [Field::ShortUInt(40), Field::ShortUInt(51)]
+    [
+        Field::ShortUInt(40),
+        Field::ShortUInt(51),
+        Field::Nothing,
+        Field::Nothing,
+        Field::Nothing,
+        Field::Nothing,
+        Field::Nothing,
+        Field::Nothing,
+    ]
 }
 
 /// The size in bytes of the method id and the fields of `UnbindOk`.
 pub fn size_unbind_ok(method: &UnbindOk) -> Result<u64, GenError>
     ensures { Measures result (method_size (unbind_ok_method method.now)) }
 {
-    size_fields(&unbind_ok_fields(method)[1..])
+    size_method_fields(&unbind_ok_fields(method))
 }
 
 /// Puts the method id and the fields of `UnbindOk` at a place of a slice, and returns the place after.
@@ -375,7 +393,7 @@ pub fn put_unbind_ok(buf: &mut [u8], at: usize, method: &UnbindOk) -> usize
         (method_bytes (unbind_ok_method method.now)) }
     ensures { Puts buf.old buf.new at (method_bytes (unbind_ok_method method.now)) result }
 {
-    put_fields(buf, at, &unbind_ok_fields(method)[1..])
+    put_method_fields(buf, at, &unbind_ok_fields(method))
 }
 
 /// Appends the method id and the fields of `UnbindOk` to a vector.
@@ -383,5 +401,5 @@ pub fn gen_unbind_ok(_alloc: Global, out: &mut Vec<u8>, method: &UnbindOk) -> Re
     ensures { Appends out.old.items out.new.items (method_size (unbind_ok_method method.now))
         (method_bytes (unbind_ok_method method.now)) result }
 {
-    gen_fields(out, &unbind_ok_fields(method)[1..])
+    gen_method_fields(out, &unbind_ok_fields(method))
 }

@@ -11,8 +11,8 @@ ghost use Rattle.amqp_exchange.specs.Exchange.{delete_method, delete_ok_method};
 
 use amqp_values::{
     Boolean, Field, FieldTable, Flags, GenError, Identifier, NoMemory, ParserError,
-    ReservedShortUInt, ShortString, SlotReader, byte_of_flags, flag_of_byte, gen_fields,
-    put_fields, size_fields,
+    ReservedShortUInt, ShortString, SlotReader, byte_of_flags, copied, flag_of_byte,
+    gen_method_fields, put_method_fields, size_method_fields,
 };
 use std::alloc::Global;
 
@@ -118,7 +118,7 @@ pub fn parse_declare(alloc: Global, i: &[u8]) -> Result<(usize, Declare), Parser
 
 /// Its ids and fields, in order.
 #[tactic(auto, unfolding(amqp_values::proofs::OneMethod::listed))]
-pub(super) fn declare_fields(method: &Declare) -> [Field<'_>; 7]
+pub(super) fn declare_fields(method: &Declare) -> [Field<'_>; 8]
     ensures { ListsMethod result (declare_method method.now) }
 {
     [
@@ -135,6 +135,7 @@ pub(super) fn declare_fields(method: &Declare) -> [Field<'_>; 7]
             method.nowait,
         ])),
         Field::Table(&method.arguments),
+        Field::Nothing,
     ]
 }
 
@@ -142,7 +143,7 @@ pub(super) fn declare_fields(method: &Declare) -> [Field<'_>; 7]
 pub fn size_declare(method: &Declare) -> Result<u64, GenError>
     ensures { Measures result (method_size (declare_method method.now)) }
 {
-    size_fields(&declare_fields(method)[1..])
+    size_method_fields(&declare_fields(method))
 }
 
 /// Puts the method id and the fields of `Declare` at a place of a slice, and returns the place after.
@@ -151,7 +152,7 @@ pub fn put_declare(buf: &mut [u8], at: usize, method: &Declare) -> usize
         (method_bytes (declare_method method.now)) }
     ensures { Puts buf.old buf.new at (method_bytes (declare_method method.now)) result }
 {
-    put_fields(buf, at, &declare_fields(method)[1..])
+    put_method_fields(buf, at, &declare_fields(method))
 }
 
 /// Appends the method id and the fields of `Declare` to a vector.
@@ -159,7 +160,7 @@ pub fn gen_declare(_alloc: Global, out: &mut Vec<u8>, method: &Declare) -> Resul
     ensures { Appends out.old.items out.new.items (method_size (declare_method method.now))
         (method_bytes (declare_method method.now)) result }
 {
-    gen_fields(out, &declare_fields(method)[1..])
+    gen_method_fields(out, &declare_fields(method))
 }
 
 /// The exchange is there.
@@ -194,17 +195,26 @@ pub fn parse_declare_ok(_alloc: Global, i: &[u8]) -> Result<(usize, DeclareOk), 
 
 /// Its ids and fields, in order.
 #[tactic(auto, unfolding(amqp_values::proofs::OneMethod::listed))]
-pub(super) fn declare_ok_fields(_method: &DeclareOk) -> [Field<'_>; 2]
+pub(super) fn declare_ok_fields(_method: &DeclareOk) -> [Field<'_>; 8]
     ensures { ListsMethod result (declare_ok_method _method.now) }
 {
-    [Field::ShortUInt(40), Field::ShortUInt(11)]
+    [
+        Field::ShortUInt(40),
+        Field::ShortUInt(11),
+        Field::Nothing,
+        Field::Nothing,
+        Field::Nothing,
+        Field::Nothing,
+        Field::Nothing,
+        Field::Nothing,
+    ]
 }
 
 /// The size in bytes of the method id and the fields of `DeclareOk`.
 pub fn size_declare_ok(method: &DeclareOk) -> Result<u64, GenError>
     ensures { Measures result (method_size (declare_ok_method method.now)) }
 {
-    size_fields(&declare_ok_fields(method)[1..])
+    size_method_fields(&declare_ok_fields(method))
 }
 
 /// Puts the method id and the fields of `DeclareOk` at a place of a slice, and returns the place after.
@@ -213,7 +223,7 @@ pub fn put_declare_ok(buf: &mut [u8], at: usize, method: &DeclareOk) -> usize
         (method_bytes (declare_ok_method method.now)) }
     ensures { Puts buf.old buf.new at (method_bytes (declare_ok_method method.now)) result }
 {
-    put_fields(buf, at, &declare_ok_fields(method)[1..])
+    put_method_fields(buf, at, &declare_ok_fields(method))
 }
 
 /// Appends the method id and the fields of `DeclareOk` to a vector.
@@ -221,7 +231,7 @@ pub fn gen_declare_ok(_alloc: Global, out: &mut Vec<u8>, method: &DeclareOk) -> 
     ensures { Appends out.old.items out.new.items (method_size (declare_ok_method method.now))
         (method_bytes (declare_ok_method method.now)) result }
 {
-    gen_fields(out, &declare_ok_fields(method)[1..])
+    gen_method_fields(out, &declare_ok_fields(method))
 }
 
 /// The client deletes an exchange.
@@ -293,7 +303,7 @@ pub fn parse_delete(alloc: Global, i: &[u8]) -> Result<(usize, Delete), ParserEr
 
 /// Its ids and fields, in order.
 #[tactic(auto, unfolding(amqp_values::proofs::OneMethod::listed))]
-pub(super) fn delete_fields(method: &Delete) -> [Field<'_>; 5]
+pub(super) fn delete_fields(method: &Delete) -> [Field<'_>; 8]
     ensures { ListsMethod result (delete_method method.now) }
 {
     [
@@ -302,6 +312,9 @@ pub(super) fn delete_fields(method: &Delete) -> [Field<'_>; 5]
         Field::ShortUInt(0), // reserved
         Field::ShortString(&method.exchange),
         Field::Flags(byte_of_flags(&[method.if_unused, method.nowait])),
+        Field::Nothing,
+        Field::Nothing,
+        Field::Nothing,
     ]
 }
 
@@ -309,7 +322,7 @@ pub(super) fn delete_fields(method: &Delete) -> [Field<'_>; 5]
 pub fn size_delete(method: &Delete) -> Result<u64, GenError>
     ensures { Measures result (method_size (delete_method method.now)) }
 {
-    size_fields(&delete_fields(method)[1..])
+    size_method_fields(&delete_fields(method))
 }
 
 /// Puts the method id and the fields of `Delete` at a place of a slice, and returns the place after.
@@ -318,7 +331,7 @@ pub fn put_delete(buf: &mut [u8], at: usize, method: &Delete) -> usize
         (method_bytes (delete_method method.now)) }
     ensures { Puts buf.old buf.new at (method_bytes (delete_method method.now)) result }
 {
-    put_fields(buf, at, &delete_fields(method)[1..])
+    put_method_fields(buf, at, &delete_fields(method))
 }
 
 /// Appends the method id and the fields of `Delete` to a vector.
@@ -326,7 +339,7 @@ pub fn gen_delete(_alloc: Global, out: &mut Vec<u8>, method: &Delete) -> Result<
     ensures { Appends out.old.items out.new.items (method_size (delete_method method.now))
         (method_bytes (delete_method method.now)) result }
 {
-    gen_fields(out, &delete_fields(method)[1..])
+    gen_method_fields(out, &delete_fields(method))
 }
 
 /// The exchange is deleted.
@@ -361,17 +374,26 @@ pub fn parse_delete_ok(_alloc: Global, i: &[u8]) -> Result<(usize, DeleteOk), Pa
 
 /// Its ids and fields, in order.
 #[tactic(auto, unfolding(amqp_values::proofs::OneMethod::listed))]
-pub(super) fn delete_ok_fields(_method: &DeleteOk) -> [Field<'_>; 2]
+pub(super) fn delete_ok_fields(_method: &DeleteOk) -> [Field<'_>; 8]
     ensures { ListsMethod result (delete_ok_method _method.now) }
 {
-    [Field::ShortUInt(40), Field::ShortUInt(21)]
+    [
+        Field::ShortUInt(40),
+        Field::ShortUInt(21),
+        Field::Nothing,
+        Field::Nothing,
+        Field::Nothing,
+        Field::Nothing,
+        Field::Nothing,
+        Field::Nothing,
+    ]
 }
 
 /// The size in bytes of the method id and the fields of `DeleteOk`.
 pub fn size_delete_ok(method: &DeleteOk) -> Result<u64, GenError>
     ensures { Measures result (method_size (delete_ok_method method.now)) }
 {
-    size_fields(&delete_ok_fields(method)[1..])
+    size_method_fields(&delete_ok_fields(method))
 }
 
 /// Puts the method id and the fields of `DeleteOk` at a place of a slice, and returns the place after.
@@ -380,7 +402,7 @@ pub fn put_delete_ok(buf: &mut [u8], at: usize, method: &DeleteOk) -> usize
         (method_bytes (delete_ok_method method.now)) }
     ensures { Puts buf.old buf.new at (method_bytes (delete_ok_method method.now)) result }
 {
-    put_fields(buf, at, &delete_ok_fields(method)[1..])
+    put_method_fields(buf, at, &delete_ok_fields(method))
 }
 
 /// Appends the method id and the fields of `DeleteOk` to a vector.
@@ -388,5 +410,5 @@ pub fn gen_delete_ok(_alloc: Global, out: &mut Vec<u8>, method: &DeleteOk) -> Re
     ensures { Appends out.old.items out.new.items (method_size (delete_ok_method method.now))
         (method_bytes (delete_ok_method method.now)) result }
 {
-    gen_fields(out, &delete_ok_fields(method)[1..])
+    gen_method_fields(out, &delete_ok_fields(method))
 }

@@ -11,8 +11,8 @@ ghost use Rattle.amqp_topology.specs.Queue.{purge_ok_method, delete_method, dele
 
 use amqp_values::{
     Boolean, Field, FieldTable, Flags, GenError, Identifier, LongUInt, NoMemory, ParserError,
-    ReservedShortUInt, ShortString, SlotReader, byte_of_flags, flag_of_byte, gen_fields,
-    put_fields, size_fields,
+    ReservedShortUInt, ShortString, SlotReader, byte_of_flags, copied, flag_of_byte,
+    gen_method_fields, put_method_fields, size_method_fields,
 };
 use std::alloc::Global;
 
@@ -110,7 +110,7 @@ pub fn parse_declare(alloc: Global, i: &[u8]) -> Result<(usize, Declare), Parser
 
 /// Its ids and fields, in order.
 #[tactic(auto, unfolding(amqp_values::proofs::OneMethod::listed))]
-pub(super) fn declare_fields(method: &Declare) -> [Field<'_>; 6]
+pub(super) fn declare_fields(method: &Declare) -> [Field<'_>; 8]
     ensures { ListsMethod result (declare_method method.now) }
 {
     [
@@ -126,6 +126,8 @@ pub(super) fn declare_fields(method: &Declare) -> [Field<'_>; 6]
             method.nowait,
         ])),
         Field::Table(&method.arguments),
+        Field::Nothing,
+        Field::Nothing,
     ]
 }
 
@@ -133,7 +135,7 @@ pub(super) fn declare_fields(method: &Declare) -> [Field<'_>; 6]
 pub fn size_declare(method: &Declare) -> Result<u64, GenError>
     ensures { Measures result (method_size (declare_method method.now)) }
 {
-    size_fields(&declare_fields(method)[1..])
+    size_method_fields(&declare_fields(method))
 }
 
 /// Puts the method id and the fields of `Declare` at a place of a slice, and returns the place after.
@@ -142,7 +144,7 @@ pub fn put_declare(buf: &mut [u8], at: usize, method: &Declare) -> usize
         (method_bytes (declare_method method.now)) }
     ensures { Puts buf.old buf.new at (method_bytes (declare_method method.now)) result }
 {
-    put_fields(buf, at, &declare_fields(method)[1..])
+    put_method_fields(buf, at, &declare_fields(method))
 }
 
 /// Appends the method id and the fields of `Declare` to a vector.
@@ -150,7 +152,7 @@ pub fn gen_declare(_alloc: Global, out: &mut Vec<u8>, method: &Declare) -> Resul
     ensures { Appends out.old.items out.new.items (method_size (declare_method method.now))
         (method_bytes (declare_method method.now)) result }
 {
-    gen_fields(out, &declare_fields(method)[1..])
+    gen_method_fields(out, &declare_fields(method))
 }
 
 /// The queue is there.
@@ -222,7 +224,7 @@ pub fn parse_declare_ok(alloc: Global, i: &[u8]) -> Result<(usize, DeclareOk), P
 
 /// Its ids and fields, in order.
 #[tactic(auto, unfolding(amqp_values::proofs::OneMethod::listed))]
-pub(super) fn declare_ok_fields(method: &DeclareOk) -> [Field<'_>; 5]
+pub(super) fn declare_ok_fields(method: &DeclareOk) -> [Field<'_>; 8]
     ensures { ListsMethod result (declare_ok_method method.now) }
 {
     [
@@ -231,6 +233,9 @@ pub(super) fn declare_ok_fields(method: &DeclareOk) -> [Field<'_>; 5]
         Field::ShortString(&method.queue),
         Field::LongUInt(method.message_count),
         Field::LongUInt(method.consumer_count),
+        Field::Nothing,
+        Field::Nothing,
+        Field::Nothing,
     ]
 }
 
@@ -238,7 +243,7 @@ pub(super) fn declare_ok_fields(method: &DeclareOk) -> [Field<'_>; 5]
 pub fn size_declare_ok(method: &DeclareOk) -> Result<u64, GenError>
     ensures { Measures result (method_size (declare_ok_method method.now)) }
 {
-    size_fields(&declare_ok_fields(method)[1..])
+    size_method_fields(&declare_ok_fields(method))
 }
 
 /// Puts the method id and the fields of `DeclareOk` at a place of a slice, and returns the place after.
@@ -247,7 +252,7 @@ pub fn put_declare_ok(buf: &mut [u8], at: usize, method: &DeclareOk) -> usize
         (method_bytes (declare_ok_method method.now)) }
     ensures { Puts buf.old buf.new at (method_bytes (declare_ok_method method.now)) result }
 {
-    put_fields(buf, at, &declare_ok_fields(method)[1..])
+    put_method_fields(buf, at, &declare_ok_fields(method))
 }
 
 /// Appends the method id and the fields of `DeclareOk` to a vector.
@@ -255,7 +260,7 @@ pub fn gen_declare_ok(_alloc: Global, out: &mut Vec<u8>, method: &DeclareOk) -> 
     ensures { Appends out.old.items out.new.items (method_size (declare_ok_method method.now))
         (method_bytes (declare_ok_method method.now)) result }
 {
-    gen_fields(out, &declare_ok_fields(method)[1..])
+    gen_method_fields(out, &declare_ok_fields(method))
 }
 
 /// The client empties a queue.
@@ -320,7 +325,7 @@ pub fn parse_purge(alloc: Global, i: &[u8]) -> Result<(usize, Purge), ParserErro
 
 /// Its ids and fields, in order.
 #[tactic(auto, unfolding(amqp_values::proofs::OneMethod::listed))]
-pub(super) fn purge_fields(method: &Purge) -> [Field<'_>; 5]
+pub(super) fn purge_fields(method: &Purge) -> [Field<'_>; 8]
     ensures { ListsMethod result (purge_method method.now) }
 {
     [
@@ -329,6 +334,9 @@ pub(super) fn purge_fields(method: &Purge) -> [Field<'_>; 5]
         Field::ShortUInt(0), // reserved
         Field::ShortString(&method.queue),
         Field::Flags(byte_of_flags(&[method.nowait])),
+        Field::Nothing,
+        Field::Nothing,
+        Field::Nothing,
     ]
 }
 
@@ -336,7 +344,7 @@ pub(super) fn purge_fields(method: &Purge) -> [Field<'_>; 5]
 pub fn size_purge(method: &Purge) -> Result<u64, GenError>
     ensures { Measures result (method_size (purge_method method.now)) }
 {
-    size_fields(&purge_fields(method)[1..])
+    size_method_fields(&purge_fields(method))
 }
 
 /// Puts the method id and the fields of `Purge` at a place of a slice, and returns the place after.
@@ -345,7 +353,7 @@ pub fn put_purge(buf: &mut [u8], at: usize, method: &Purge) -> usize
         (method_bytes (purge_method method.now)) }
     ensures { Puts buf.old buf.new at (method_bytes (purge_method method.now)) result }
 {
-    put_fields(buf, at, &purge_fields(method)[1..])
+    put_method_fields(buf, at, &purge_fields(method))
 }
 
 /// Appends the method id and the fields of `Purge` to a vector.
@@ -353,7 +361,7 @@ pub fn gen_purge(_alloc: Global, out: &mut Vec<u8>, method: &Purge) -> Result<()
     ensures { Appends out.old.items out.new.items (method_size (purge_method method.now))
         (method_bytes (purge_method method.now)) result }
 {
-    gen_fields(out, &purge_fields(method)[1..])
+    gen_method_fields(out, &purge_fields(method))
 }
 
 /// The queue is empty, and so many messages were in it.
@@ -402,13 +410,18 @@ pub fn parse_purge_ok(_alloc: Global, i: &[u8]) -> Result<(usize, PurgeOk), Pars
 
 /// Its ids and fields, in order.
 #[tactic(auto, unfolding(amqp_values::proofs::OneMethod::listed))]
-pub(super) fn purge_ok_fields(method: &PurgeOk) -> [Field<'_>; 3]
+pub(super) fn purge_ok_fields(method: &PurgeOk) -> [Field<'_>; 8]
     ensures { ListsMethod result (purge_ok_method method.now) }
 {
     [
         Field::ShortUInt(50),
         Field::ShortUInt(31),
         Field::LongUInt(method.message_count),
+        Field::Nothing,
+        Field::Nothing,
+        Field::Nothing,
+        Field::Nothing,
+        Field::Nothing,
     ]
 }
 
@@ -416,7 +429,7 @@ pub(super) fn purge_ok_fields(method: &PurgeOk) -> [Field<'_>; 3]
 pub fn size_purge_ok(method: &PurgeOk) -> Result<u64, GenError>
     ensures { Measures result (method_size (purge_ok_method method.now)) }
 {
-    size_fields(&purge_ok_fields(method)[1..])
+    size_method_fields(&purge_ok_fields(method))
 }
 
 /// Puts the method id and the fields of `PurgeOk` at a place of a slice, and returns the place after.
@@ -425,7 +438,7 @@ pub fn put_purge_ok(buf: &mut [u8], at: usize, method: &PurgeOk) -> usize
         (method_bytes (purge_ok_method method.now)) }
     ensures { Puts buf.old buf.new at (method_bytes (purge_ok_method method.now)) result }
 {
-    put_fields(buf, at, &purge_ok_fields(method)[1..])
+    put_method_fields(buf, at, &purge_ok_fields(method))
 }
 
 /// Appends the method id and the fields of `PurgeOk` to a vector.
@@ -433,7 +446,7 @@ pub fn gen_purge_ok(_alloc: Global, out: &mut Vec<u8>, method: &PurgeOk) -> Resu
     ensures { Appends out.old.items out.new.items (method_size (purge_ok_method method.now))
         (method_bytes (purge_ok_method method.now)) result }
 {
-    gen_fields(out, &purge_ok_fields(method)[1..])
+    gen_method_fields(out, &purge_ok_fields(method))
 }
 
 /// The client deletes a queue.
@@ -512,7 +525,7 @@ pub fn parse_delete(alloc: Global, i: &[u8]) -> Result<(usize, Delete), ParserEr
 
 /// Its ids and fields, in order.
 #[tactic(auto, unfolding(amqp_values::proofs::OneMethod::listed))]
-pub(super) fn delete_fields(method: &Delete) -> [Field<'_>; 5]
+pub(super) fn delete_fields(method: &Delete) -> [Field<'_>; 8]
     ensures { ListsMethod result (delete_method method.now) }
 {
     [
@@ -521,6 +534,9 @@ pub(super) fn delete_fields(method: &Delete) -> [Field<'_>; 5]
         Field::ShortUInt(0), // reserved
         Field::ShortString(&method.queue),
         Field::Flags(byte_of_flags(&[method.if_unused, method.if_empty, method.nowait])),
+        Field::Nothing,
+        Field::Nothing,
+        Field::Nothing,
     ]
 }
 
@@ -528,7 +544,7 @@ pub(super) fn delete_fields(method: &Delete) -> [Field<'_>; 5]
 pub fn size_delete(method: &Delete) -> Result<u64, GenError>
     ensures { Measures result (method_size (delete_method method.now)) }
 {
-    size_fields(&delete_fields(method)[1..])
+    size_method_fields(&delete_fields(method))
 }
 
 /// Puts the method id and the fields of `Delete` at a place of a slice, and returns the place after.
@@ -537,7 +553,7 @@ pub fn put_delete(buf: &mut [u8], at: usize, method: &Delete) -> usize
         (method_bytes (delete_method method.now)) }
     ensures { Puts buf.old buf.new at (method_bytes (delete_method method.now)) result }
 {
-    put_fields(buf, at, &delete_fields(method)[1..])
+    put_method_fields(buf, at, &delete_fields(method))
 }
 
 /// Appends the method id and the fields of `Delete` to a vector.
@@ -545,7 +561,7 @@ pub fn gen_delete(_alloc: Global, out: &mut Vec<u8>, method: &Delete) -> Result<
     ensures { Appends out.old.items out.new.items (method_size (delete_method method.now))
         (method_bytes (delete_method method.now)) result }
 {
-    gen_fields(out, &delete_fields(method)[1..])
+    gen_method_fields(out, &delete_fields(method))
 }
 
 /// The queue is deleted, and so many messages were in it.
@@ -594,13 +610,18 @@ pub fn parse_delete_ok(_alloc: Global, i: &[u8]) -> Result<(usize, DeleteOk), Pa
 
 /// Its ids and fields, in order.
 #[tactic(auto, unfolding(amqp_values::proofs::OneMethod::listed))]
-pub(super) fn delete_ok_fields(method: &DeleteOk) -> [Field<'_>; 3]
+pub(super) fn delete_ok_fields(method: &DeleteOk) -> [Field<'_>; 8]
     ensures { ListsMethod result (delete_ok_method method.now) }
 {
     [
         Field::ShortUInt(50),
         Field::ShortUInt(41),
         Field::LongUInt(method.message_count),
+        Field::Nothing,
+        Field::Nothing,
+        Field::Nothing,
+        Field::Nothing,
+        Field::Nothing,
     ]
 }
 
@@ -608,7 +629,7 @@ pub(super) fn delete_ok_fields(method: &DeleteOk) -> [Field<'_>; 3]
 pub fn size_delete_ok(method: &DeleteOk) -> Result<u64, GenError>
     ensures { Measures result (method_size (delete_ok_method method.now)) }
 {
-    size_fields(&delete_ok_fields(method)[1..])
+    size_method_fields(&delete_ok_fields(method))
 }
 
 /// Puts the method id and the fields of `DeleteOk` at a place of a slice, and returns the place after.
@@ -617,7 +638,7 @@ pub fn put_delete_ok(buf: &mut [u8], at: usize, method: &DeleteOk) -> usize
         (method_bytes (delete_ok_method method.now)) }
     ensures { Puts buf.old buf.new at (method_bytes (delete_ok_method method.now)) result }
 {
-    put_fields(buf, at, &delete_ok_fields(method)[1..])
+    put_method_fields(buf, at, &delete_ok_fields(method))
 }
 
 /// Appends the method id and the fields of `DeleteOk` to a vector.
@@ -625,5 +646,5 @@ pub fn gen_delete_ok(_alloc: Global, out: &mut Vec<u8>, method: &DeleteOk) -> Re
     ensures { Appends out.old.items out.new.items (method_size (delete_ok_method method.now))
         (method_bytes (delete_ok_method method.now)) result }
 {
-    gen_fields(out, &delete_ok_fields(method)[1..])
+    gen_method_fields(out, &delete_ok_fields(method))
 }

@@ -11,7 +11,8 @@ ghost use Rattle.amqp_connection.specs.Connection.{secure_ok_method, tune_method
 
 use amqp_values::{
     Field, FieldTable, GenError, Identifier, LongString, LongUInt, NoMemory, ParserError,
-    ShortShortUInt, ShortString, ShortUInt, SlotReader, gen_fields, put_fields, size_fields,
+    ShortShortUInt, ShortString, ShortUInt, SlotReader, copied, gen_method_fields,
+    put_method_fields, size_method_fields,
 };
 use std::alloc::Global;
 
@@ -115,7 +116,7 @@ pub(super) fn start_fields(method: &Start) -> [Field<'_>; 7]
 pub fn size_start(method: &Start) -> Result<u64, GenError>
     ensures { Measures result (method_size (start_method method.now)) }
 {
-    size_fields(&start_fields(method)[1..])
+    size_method_fields(&start_fields(method))
 }
 
 /// Puts the method id and the fields of `Start` at a place of a slice, and returns the place after.
@@ -124,7 +125,7 @@ pub fn put_start(buf: &mut [u8], at: usize, method: &Start) -> usize
         (method_bytes (start_method method.now)) }
     ensures { Puts buf.old buf.new at (method_bytes (start_method method.now)) result }
 {
-    put_fields(buf, at, &start_fields(method)[1..])
+    put_method_fields(buf, at, &start_fields(method))
 }
 
 /// Appends the method id and the fields of `Start` to a vector.
@@ -132,7 +133,7 @@ pub fn gen_start(_alloc: Global, out: &mut Vec<u8>, method: &Start) -> Result<()
     ensures { Appends out.old.items out.new.items (method_size (start_method method.now))
         (method_bytes (start_method method.now)) result }
 {
-    gen_fields(out, &start_fields(method)[1..])
+    gen_method_fields(out, &start_fields(method))
 }
 
 /// The client chooses how it proves who it is.
@@ -210,7 +211,7 @@ pub fn parse_start_ok(alloc: Global, i: &[u8]) -> Result<(usize, StartOk), Parse
 
 /// Its ids and fields, in order.
 #[tactic(auto, unfolding(amqp_values::proofs::OneMethod::listed))]
-pub(super) fn start_ok_fields(method: &StartOk) -> [Field<'_>; 6]
+pub(super) fn start_ok_fields(method: &StartOk) -> [Field<'_>; 7]
     ensures { ListsMethod result (start_ok_method method.now) }
 {
     [
@@ -220,6 +221,7 @@ pub(super) fn start_ok_fields(method: &StartOk) -> [Field<'_>; 6]
         Field::ShortString(&method.mechanism),
         Field::LongString(&method.response),
         Field::ShortString(&method.locale),
+        Field::Nothing,
     ]
 }
 
@@ -227,7 +229,7 @@ pub(super) fn start_ok_fields(method: &StartOk) -> [Field<'_>; 6]
 pub fn size_start_ok(method: &StartOk) -> Result<u64, GenError>
     ensures { Measures result (method_size (start_ok_method method.now)) }
 {
-    size_fields(&start_ok_fields(method)[1..])
+    size_method_fields(&start_ok_fields(method))
 }
 
 /// Puts the method id and the fields of `StartOk` at a place of a slice, and returns the place after.
@@ -236,7 +238,7 @@ pub fn put_start_ok(buf: &mut [u8], at: usize, method: &StartOk) -> usize
         (method_bytes (start_ok_method method.now)) }
     ensures { Puts buf.old buf.new at (method_bytes (start_ok_method method.now)) result }
 {
-    put_fields(buf, at, &start_ok_fields(method)[1..])
+    put_method_fields(buf, at, &start_ok_fields(method))
 }
 
 /// Appends the method id and the fields of `StartOk` to a vector.
@@ -244,7 +246,7 @@ pub fn gen_start_ok(_alloc: Global, out: &mut Vec<u8>, method: &StartOk) -> Resu
     ensures { Appends out.old.items out.new.items (method_size (start_ok_method method.now))
         (method_bytes (start_ok_method method.now)) result }
 {
-    gen_fields(out, &start_ok_fields(method)[1..])
+    gen_method_fields(out, &start_ok_fields(method))
 }
 
 /// The server asks the client for more proof of who it is.
@@ -301,13 +303,17 @@ pub fn parse_secure(alloc: Global, i: &[u8]) -> Result<(usize, Secure), ParserEr
 
 /// Its ids and fields, in order.
 #[tactic(auto, unfolding(amqp_values::proofs::OneMethod::listed))]
-pub(super) fn secure_fields(method: &Secure) -> [Field<'_>; 3]
+pub(super) fn secure_fields(method: &Secure) -> [Field<'_>; 7]
     ensures { ListsMethod result (secure_method method.now) }
 {
     [
         Field::ShortUInt(10),
         Field::ShortUInt(20),
         Field::LongString(&method.challenge),
+        Field::Nothing,
+        Field::Nothing,
+        Field::Nothing,
+        Field::Nothing,
     ]
 }
 
@@ -315,7 +321,7 @@ pub(super) fn secure_fields(method: &Secure) -> [Field<'_>; 3]
 pub fn size_secure(method: &Secure) -> Result<u64, GenError>
     ensures { Measures result (method_size (secure_method method.now)) }
 {
-    size_fields(&secure_fields(method)[1..])
+    size_method_fields(&secure_fields(method))
 }
 
 /// Puts the method id and the fields of `Secure` at a place of a slice, and returns the place after.
@@ -324,7 +330,7 @@ pub fn put_secure(buf: &mut [u8], at: usize, method: &Secure) -> usize
         (method_bytes (secure_method method.now)) }
     ensures { Puts buf.old buf.new at (method_bytes (secure_method method.now)) result }
 {
-    put_fields(buf, at, &secure_fields(method)[1..])
+    put_method_fields(buf, at, &secure_fields(method))
 }
 
 /// Appends the method id and the fields of `Secure` to a vector.
@@ -332,7 +338,7 @@ pub fn gen_secure(_alloc: Global, out: &mut Vec<u8>, method: &Secure) -> Result<
     ensures { Appends out.old.items out.new.items (method_size (secure_method method.now))
         (method_bytes (secure_method method.now)) result }
 {
-    gen_fields(out, &secure_fields(method)[1..])
+    gen_method_fields(out, &secure_fields(method))
 }
 
 /// The client responds to the challenge of the server.
@@ -389,13 +395,17 @@ pub fn parse_secure_ok(alloc: Global, i: &[u8]) -> Result<(usize, SecureOk), Par
 
 /// Its ids and fields, in order.
 #[tactic(auto, unfolding(amqp_values::proofs::OneMethod::listed))]
-pub(super) fn secure_ok_fields(method: &SecureOk) -> [Field<'_>; 3]
+pub(super) fn secure_ok_fields(method: &SecureOk) -> [Field<'_>; 7]
     ensures { ListsMethod result (secure_ok_method method.now) }
 {
     [
         Field::ShortUInt(10),
         Field::ShortUInt(21),
         Field::LongString(&method.response),
+        Field::Nothing,
+        Field::Nothing,
+        Field::Nothing,
+        Field::Nothing,
     ]
 }
 
@@ -403,7 +413,7 @@ pub(super) fn secure_ok_fields(method: &SecureOk) -> [Field<'_>; 3]
 pub fn size_secure_ok(method: &SecureOk) -> Result<u64, GenError>
     ensures { Measures result (method_size (secure_ok_method method.now)) }
 {
-    size_fields(&secure_ok_fields(method)[1..])
+    size_method_fields(&secure_ok_fields(method))
 }
 
 /// Puts the method id and the fields of `SecureOk` at a place of a slice, and returns the place after.
@@ -412,7 +422,7 @@ pub fn put_secure_ok(buf: &mut [u8], at: usize, method: &SecureOk) -> usize
         (method_bytes (secure_ok_method method.now)) }
     ensures { Puts buf.old buf.new at (method_bytes (secure_ok_method method.now)) result }
 {
-    put_fields(buf, at, &secure_ok_fields(method)[1..])
+    put_method_fields(buf, at, &secure_ok_fields(method))
 }
 
 /// Appends the method id and the fields of `SecureOk` to a vector.
@@ -420,7 +430,7 @@ pub fn gen_secure_ok(_alloc: Global, out: &mut Vec<u8>, method: &SecureOk) -> Re
     ensures { Appends out.old.items out.new.items (method_size (secure_ok_method method.now))
         (method_bytes (secure_ok_method method.now)) result }
 {
-    gen_fields(out, &secure_ok_fields(method)[1..])
+    gen_method_fields(out, &secure_ok_fields(method))
 }
 
 /// The server proposes limits for the connection.
@@ -486,7 +496,7 @@ pub fn parse_tune(_alloc: Global, i: &[u8]) -> Result<(usize, Tune), ParserError
 
 /// Its ids and fields, in order.
 #[tactic(auto, unfolding(amqp_values::proofs::OneMethod::listed))]
-pub(super) fn tune_fields(method: &Tune) -> [Field<'_>; 5]
+pub(super) fn tune_fields(method: &Tune) -> [Field<'_>; 7]
     ensures { ListsMethod result (tune_method method.now) }
 {
     [
@@ -495,6 +505,8 @@ pub(super) fn tune_fields(method: &Tune) -> [Field<'_>; 5]
         Field::ShortUInt(method.channel_max),
         Field::LongUInt(method.frame_max),
         Field::ShortUInt(method.heartbeat),
+        Field::Nothing,
+        Field::Nothing,
     ]
 }
 
@@ -502,7 +514,7 @@ pub(super) fn tune_fields(method: &Tune) -> [Field<'_>; 5]
 pub fn size_tune(method: &Tune) -> Result<u64, GenError>
     ensures { Measures result (method_size (tune_method method.now)) }
 {
-    size_fields(&tune_fields(method)[1..])
+    size_method_fields(&tune_fields(method))
 }
 
 /// Puts the method id and the fields of `Tune` at a place of a slice, and returns the place after.
@@ -511,7 +523,7 @@ pub fn put_tune(buf: &mut [u8], at: usize, method: &Tune) -> usize
         (method_bytes (tune_method method.now)) }
     ensures { Puts buf.old buf.new at (method_bytes (tune_method method.now)) result }
 {
-    put_fields(buf, at, &tune_fields(method)[1..])
+    put_method_fields(buf, at, &tune_fields(method))
 }
 
 /// Appends the method id and the fields of `Tune` to a vector.
@@ -519,7 +531,7 @@ pub fn gen_tune(_alloc: Global, out: &mut Vec<u8>, method: &Tune) -> Result<(), 
     ensures { Appends out.old.items out.new.items (method_size (tune_method method.now))
         (method_bytes (tune_method method.now)) result }
 {
-    gen_fields(out, &tune_fields(method)[1..])
+    gen_method_fields(out, &tune_fields(method))
 }
 
 /// The client settles the limits.
@@ -585,7 +597,7 @@ pub fn parse_tune_ok(_alloc: Global, i: &[u8]) -> Result<(usize, TuneOk), Parser
 
 /// Its ids and fields, in order.
 #[tactic(auto, unfolding(amqp_values::proofs::OneMethod::listed))]
-pub(super) fn tune_ok_fields(method: &TuneOk) -> [Field<'_>; 5]
+pub(super) fn tune_ok_fields(method: &TuneOk) -> [Field<'_>; 7]
     ensures { ListsMethod result (tune_ok_method method.now) }
 {
     [
@@ -594,6 +606,8 @@ pub(super) fn tune_ok_fields(method: &TuneOk) -> [Field<'_>; 5]
         Field::ShortUInt(method.channel_max),
         Field::LongUInt(method.frame_max),
         Field::ShortUInt(method.heartbeat),
+        Field::Nothing,
+        Field::Nothing,
     ]
 }
 
@@ -601,7 +615,7 @@ pub(super) fn tune_ok_fields(method: &TuneOk) -> [Field<'_>; 5]
 pub fn size_tune_ok(method: &TuneOk) -> Result<u64, GenError>
     ensures { Measures result (method_size (tune_ok_method method.now)) }
 {
-    size_fields(&tune_ok_fields(method)[1..])
+    size_method_fields(&tune_ok_fields(method))
 }
 
 /// Puts the method id and the fields of `TuneOk` at a place of a slice, and returns the place after.
@@ -610,7 +624,7 @@ pub fn put_tune_ok(buf: &mut [u8], at: usize, method: &TuneOk) -> usize
         (method_bytes (tune_ok_method method.now)) }
     ensures { Puts buf.old buf.new at (method_bytes (tune_ok_method method.now)) result }
 {
-    put_fields(buf, at, &tune_ok_fields(method)[1..])
+    put_method_fields(buf, at, &tune_ok_fields(method))
 }
 
 /// Appends the method id and the fields of `TuneOk` to a vector.
@@ -618,5 +632,5 @@ pub fn gen_tune_ok(_alloc: Global, out: &mut Vec<u8>, method: &TuneOk) -> Result
     ensures { Appends out.old.items out.new.items (method_size (tune_ok_method method.now))
         (method_bytes (tune_ok_method method.now)) result }
 {
-    gen_fields(out, &tune_ok_fields(method)[1..])
+    gen_method_fields(out, &tune_ok_fields(method))
 }

@@ -13,7 +13,7 @@ ghost use Rattle.amqp_connection.specs.Connection.{update_secret_ok_method};
 
 use amqp_values::{
     Field, GenError, Identifier, LongString, NoMemory, ParserError, ShortString, ShortUInt,
-    SlotReader, gen_fields, put_fields, size_fields,
+    SlotReader, copied, gen_method_fields, put_method_fields, size_method_fields,
 };
 use std::alloc::Global;
 
@@ -73,7 +73,7 @@ pub fn parse_open(alloc: Global, i: &[u8]) -> Result<(usize, Open), ParserError>
 
 /// Its ids and fields, in order.
 #[tactic(auto, unfolding(amqp_values::proofs::OneMethod::listed))]
-pub(super) fn open_fields(method: &Open) -> [Field<'_>; 5]
+pub(super) fn open_fields(method: &Open) -> [Field<'_>; 7]
     ensures { ListsMethod result (open_method method.now) }
 {
     [
@@ -82,6 +82,8 @@ pub(super) fn open_fields(method: &Open) -> [Field<'_>; 5]
         Field::ShortString(&method.virtual_host),
         Field::ShortShortUInt(0), // reserved, no text
         Field::Flags(0), // reserved
+        Field::Nothing,
+        Field::Nothing,
     ]
 }
 
@@ -89,7 +91,7 @@ pub(super) fn open_fields(method: &Open) -> [Field<'_>; 5]
 pub fn size_open(method: &Open) -> Result<u64, GenError>
     ensures { Measures result (method_size (open_method method.now)) }
 {
-    size_fields(&open_fields(method)[1..])
+    size_method_fields(&open_fields(method))
 }
 
 /// Puts the method id and the fields of `Open` at a place of a slice, and returns the place after.
@@ -98,7 +100,7 @@ pub fn put_open(buf: &mut [u8], at: usize, method: &Open) -> usize
         (method_bytes (open_method method.now)) }
     ensures { Puts buf.old buf.new at (method_bytes (open_method method.now)) result }
 {
-    put_fields(buf, at, &open_fields(method)[1..])
+    put_method_fields(buf, at, &open_fields(method))
 }
 
 /// Appends the method id and the fields of `Open` to a vector.
@@ -106,7 +108,7 @@ pub fn gen_open(_alloc: Global, out: &mut Vec<u8>, method: &Open) -> Result<(), 
     ensures { Appends out.old.items out.new.items (method_size (open_method method.now))
         (method_bytes (open_method method.now)) result }
 {
-    gen_fields(out, &open_fields(method)[1..])
+    gen_method_fields(out, &open_fields(method))
 }
 
 /// The connection is open.
@@ -142,13 +144,17 @@ pub fn parse_open_ok(_alloc: Global, i: &[u8]) -> Result<(usize, OpenOk), Parser
 
 /// Its ids and fields, in order.
 #[tactic(auto, unfolding(amqp_values::proofs::OneMethod::listed))]
-pub(super) fn open_ok_fields(_method: &OpenOk) -> [Field<'_>; 3]
+pub(super) fn open_ok_fields(_method: &OpenOk) -> [Field<'_>; 7]
     ensures { ListsMethod result (open_ok_method _method.now) }
 {
     [
         Field::ShortUInt(10),
         Field::ShortUInt(41),
         Field::ShortShortUInt(0), // reserved, no text
+        Field::Nothing,
+        Field::Nothing,
+        Field::Nothing,
+        Field::Nothing,
     ]
 }
 
@@ -156,7 +162,7 @@ pub(super) fn open_ok_fields(_method: &OpenOk) -> [Field<'_>; 3]
 pub fn size_open_ok(method: &OpenOk) -> Result<u64, GenError>
     ensures { Measures result (method_size (open_ok_method method.now)) }
 {
-    size_fields(&open_ok_fields(method)[1..])
+    size_method_fields(&open_ok_fields(method))
 }
 
 /// Puts the method id and the fields of `OpenOk` at a place of a slice, and returns the place after.
@@ -165,7 +171,7 @@ pub fn put_open_ok(buf: &mut [u8], at: usize, method: &OpenOk) -> usize
         (method_bytes (open_ok_method method.now)) }
     ensures { Puts buf.old buf.new at (method_bytes (open_ok_method method.now)) result }
 {
-    put_fields(buf, at, &open_ok_fields(method)[1..])
+    put_method_fields(buf, at, &open_ok_fields(method))
 }
 
 /// Appends the method id and the fields of `OpenOk` to a vector.
@@ -173,7 +179,7 @@ pub fn gen_open_ok(_alloc: Global, out: &mut Vec<u8>, method: &OpenOk) -> Result
     ensures { Appends out.old.items out.new.items (method_size (open_ok_method method.now))
         (method_bytes (open_ok_method method.now)) result }
 {
-    gen_fields(out, &open_ok_fields(method)[1..])
+    gen_method_fields(out, &open_ok_fields(method))
 }
 
 /// A peer closes the connection, and says why.
@@ -251,7 +257,7 @@ pub fn parse_close(alloc: Global, i: &[u8]) -> Result<(usize, Close), ParserErro
 
 /// Its ids and fields, in order.
 #[tactic(auto, unfolding(amqp_values::proofs::OneMethod::listed))]
-pub(super) fn close_fields(method: &Close) -> [Field<'_>; 6]
+pub(super) fn close_fields(method: &Close) -> [Field<'_>; 7]
     ensures { ListsMethod result (close_method method.now) }
 {
     [
@@ -261,6 +267,7 @@ pub(super) fn close_fields(method: &Close) -> [Field<'_>; 6]
         Field::ShortString(&method.reply_text),
         Field::ShortUInt(method.class_id),
         Field::ShortUInt(method.method_id),
+        Field::Nothing,
     ]
 }
 
@@ -268,7 +275,7 @@ pub(super) fn close_fields(method: &Close) -> [Field<'_>; 6]
 pub fn size_close(method: &Close) -> Result<u64, GenError>
     ensures { Measures result (method_size (close_method method.now)) }
 {
-    size_fields(&close_fields(method)[1..])
+    size_method_fields(&close_fields(method))
 }
 
 /// Puts the method id and the fields of `Close` at a place of a slice, and returns the place after.
@@ -277,7 +284,7 @@ pub fn put_close(buf: &mut [u8], at: usize, method: &Close) -> usize
         (method_bytes (close_method method.now)) }
     ensures { Puts buf.old buf.new at (method_bytes (close_method method.now)) result }
 {
-    put_fields(buf, at, &close_fields(method)[1..])
+    put_method_fields(buf, at, &close_fields(method))
 }
 
 /// Appends the method id and the fields of `Close` to a vector.
@@ -285,7 +292,7 @@ pub fn gen_close(_alloc: Global, out: &mut Vec<u8>, method: &Close) -> Result<()
     ensures { Appends out.old.items out.new.items (method_size (close_method method.now))
         (method_bytes (close_method method.now)) result }
 {
-    gen_fields(out, &close_fields(method)[1..])
+    gen_method_fields(out, &close_fields(method))
 }
 
 /// The other peer has heard that the connection is closed.
@@ -320,17 +327,25 @@ pub fn parse_close_ok(_alloc: Global, i: &[u8]) -> Result<(usize, CloseOk), Pars
 
 /// Its ids and fields, in order.
 #[tactic(auto, unfolding(amqp_values::proofs::OneMethod::listed))]
-pub(super) fn close_ok_fields(_method: &CloseOk) -> [Field<'_>; 2]
+pub(super) fn close_ok_fields(_method: &CloseOk) -> [Field<'_>; 7]
     ensures { ListsMethod result (close_ok_method _method.now) }
 {
-    [Field::ShortUInt(10), Field::ShortUInt(51)]
+    [
+        Field::ShortUInt(10),
+        Field::ShortUInt(51),
+        Field::Nothing,
+        Field::Nothing,
+        Field::Nothing,
+        Field::Nothing,
+        Field::Nothing,
+    ]
 }
 
 /// The size in bytes of the method id and the fields of `CloseOk`.
 pub fn size_close_ok(method: &CloseOk) -> Result<u64, GenError>
     ensures { Measures result (method_size (close_ok_method method.now)) }
 {
-    size_fields(&close_ok_fields(method)[1..])
+    size_method_fields(&close_ok_fields(method))
 }
 
 /// Puts the method id and the fields of `CloseOk` at a place of a slice, and returns the place after.
@@ -339,7 +354,7 @@ pub fn put_close_ok(buf: &mut [u8], at: usize, method: &CloseOk) -> usize
         (method_bytes (close_ok_method method.now)) }
     ensures { Puts buf.old buf.new at (method_bytes (close_ok_method method.now)) result }
 {
-    put_fields(buf, at, &close_ok_fields(method)[1..])
+    put_method_fields(buf, at, &close_ok_fields(method))
 }
 
 /// Appends the method id and the fields of `CloseOk` to a vector.
@@ -347,7 +362,7 @@ pub fn gen_close_ok(_alloc: Global, out: &mut Vec<u8>, method: &CloseOk) -> Resu
     ensures { Appends out.old.items out.new.items (method_size (close_ok_method method.now))
         (method_bytes (close_ok_method method.now)) result }
 {
-    gen_fields(out, &close_ok_fields(method)[1..])
+    gen_method_fields(out, &close_ok_fields(method))
 }
 
 /// The server takes no messages for now.
@@ -404,13 +419,17 @@ pub fn parse_blocked(alloc: Global, i: &[u8]) -> Result<(usize, Blocked), Parser
 
 /// Its ids and fields, in order.
 #[tactic(auto, unfolding(amqp_values::proofs::OneMethod::listed))]
-pub(super) fn blocked_fields(method: &Blocked) -> [Field<'_>; 3]
+pub(super) fn blocked_fields(method: &Blocked) -> [Field<'_>; 7]
     ensures { ListsMethod result (blocked_method method.now) }
 {
     [
         Field::ShortUInt(10),
         Field::ShortUInt(60),
         Field::ShortString(&method.reason),
+        Field::Nothing,
+        Field::Nothing,
+        Field::Nothing,
+        Field::Nothing,
     ]
 }
 
@@ -418,7 +437,7 @@ pub(super) fn blocked_fields(method: &Blocked) -> [Field<'_>; 3]
 pub fn size_blocked(method: &Blocked) -> Result<u64, GenError>
     ensures { Measures result (method_size (blocked_method method.now)) }
 {
-    size_fields(&blocked_fields(method)[1..])
+    size_method_fields(&blocked_fields(method))
 }
 
 /// Puts the method id and the fields of `Blocked` at a place of a slice, and returns the place after.
@@ -427,7 +446,7 @@ pub fn put_blocked(buf: &mut [u8], at: usize, method: &Blocked) -> usize
         (method_bytes (blocked_method method.now)) }
     ensures { Puts buf.old buf.new at (method_bytes (blocked_method method.now)) result }
 {
-    put_fields(buf, at, &blocked_fields(method)[1..])
+    put_method_fields(buf, at, &blocked_fields(method))
 }
 
 /// Appends the method id and the fields of `Blocked` to a vector.
@@ -435,7 +454,7 @@ pub fn gen_blocked(_alloc: Global, out: &mut Vec<u8>, method: &Blocked) -> Resul
     ensures { Appends out.old.items out.new.items (method_size (blocked_method method.now))
         (method_bytes (blocked_method method.now)) result }
 {
-    gen_fields(out, &blocked_fields(method)[1..])
+    gen_method_fields(out, &blocked_fields(method))
 }
 
 /// The server takes messages again.
@@ -470,17 +489,25 @@ pub fn parse_unblocked(_alloc: Global, i: &[u8]) -> Result<(usize, Unblocked), P
 
 /// Its ids and fields, in order.
 #[tactic(auto, unfolding(amqp_values::proofs::OneMethod::listed))]
-pub(super) fn unblocked_fields(_method: &Unblocked) -> [Field<'_>; 2]
+pub(super) fn unblocked_fields(_method: &Unblocked) -> [Field<'_>; 7]
     ensures { ListsMethod result (unblocked_method _method.now) }
 {
-    [Field::ShortUInt(10), Field::ShortUInt(61)]
+    [
+        Field::ShortUInt(10),
+        Field::ShortUInt(61),
+        Field::Nothing,
+        Field::Nothing,
+        Field::Nothing,
+        Field::Nothing,
+        Field::Nothing,
+    ]
 }
 
 /// The size in bytes of the method id and the fields of `Unblocked`.
 pub fn size_unblocked(method: &Unblocked) -> Result<u64, GenError>
     ensures { Measures result (method_size (unblocked_method method.now)) }
 {
-    size_fields(&unblocked_fields(method)[1..])
+    size_method_fields(&unblocked_fields(method))
 }
 
 /// Puts the method id and the fields of `Unblocked` at a place of a slice, and returns the place after.
@@ -489,7 +516,7 @@ pub fn put_unblocked(buf: &mut [u8], at: usize, method: &Unblocked) -> usize
         (method_bytes (unblocked_method method.now)) }
     ensures { Puts buf.old buf.new at (method_bytes (unblocked_method method.now)) result }
 {
-    put_fields(buf, at, &unblocked_fields(method)[1..])
+    put_method_fields(buf, at, &unblocked_fields(method))
 }
 
 /// Appends the method id and the fields of `Unblocked` to a vector.
@@ -497,7 +524,7 @@ pub fn gen_unblocked(_alloc: Global, out: &mut Vec<u8>, method: &Unblocked) -> R
     ensures { Appends out.old.items out.new.items (method_size (unblocked_method method.now))
         (method_bytes (unblocked_method method.now)) result }
 {
-    gen_fields(out, &unblocked_fields(method)[1..])
+    gen_method_fields(out, &unblocked_fields(method))
 }
 
 /// The client renews the secret that it proved itself by.
@@ -559,7 +586,7 @@ pub fn parse_update_secret(alloc: Global, i: &[u8]) -> Result<(usize, UpdateSecr
 
 /// Its ids and fields, in order.
 #[tactic(auto, unfolding(amqp_values::proofs::OneMethod::listed))]
-pub(super) fn update_secret_fields(method: &UpdateSecret) -> [Field<'_>; 4]
+pub(super) fn update_secret_fields(method: &UpdateSecret) -> [Field<'_>; 7]
     ensures { ListsMethod result (update_secret_method method.now) }
 {
     [
@@ -567,6 +594,9 @@ pub(super) fn update_secret_fields(method: &UpdateSecret) -> [Field<'_>; 4]
         Field::ShortUInt(70),
         Field::LongString(&method.new_secret),
         Field::ShortString(&method.reason),
+        Field::Nothing,
+        Field::Nothing,
+        Field::Nothing,
     ]
 }
 
@@ -574,7 +604,7 @@ pub(super) fn update_secret_fields(method: &UpdateSecret) -> [Field<'_>; 4]
 pub fn size_update_secret(method: &UpdateSecret) -> Result<u64, GenError>
     ensures { Measures result (method_size (update_secret_method method.now)) }
 {
-    size_fields(&update_secret_fields(method)[1..])
+    size_method_fields(&update_secret_fields(method))
 }
 
 /// Puts the method id and the fields of `UpdateSecret` at a place of a slice, and returns the place after.
@@ -583,7 +613,7 @@ pub fn put_update_secret(buf: &mut [u8], at: usize, method: &UpdateSecret) -> us
         (method_bytes (update_secret_method method.now)) }
     ensures { Puts buf.old buf.new at (method_bytes (update_secret_method method.now)) result }
 {
-    put_fields(buf, at, &update_secret_fields(method)[1..])
+    put_method_fields(buf, at, &update_secret_fields(method))
 }
 
 /// Appends the method id and the fields of `UpdateSecret` to a vector.
@@ -595,7 +625,7 @@ pub fn gen_update_secret(
     ensures { Appends out.old.items out.new.items (method_size (update_secret_method method.now))
         (method_bytes (update_secret_method method.now)) result }
 {
-    gen_fields(out, &update_secret_fields(method)[1..])
+    gen_method_fields(out, &update_secret_fields(method))
 }
 
 /// The new secret is taken.
@@ -633,17 +663,25 @@ pub fn parse_update_secret_ok(
 
 /// Its ids and fields, in order.
 #[tactic(auto, unfolding(amqp_values::proofs::OneMethod::listed))]
-pub(super) fn update_secret_ok_fields(_method: &UpdateSecretOk) -> [Field<'_>; 2]
+pub(super) fn update_secret_ok_fields(_method: &UpdateSecretOk) -> [Field<'_>; 7]
     ensures { ListsMethod result (update_secret_ok_method _method.now) }
 {
-    [Field::ShortUInt(10), Field::ShortUInt(71)]
+    [
+        Field::ShortUInt(10),
+        Field::ShortUInt(71),
+        Field::Nothing,
+        Field::Nothing,
+        Field::Nothing,
+        Field::Nothing,
+        Field::Nothing,
+    ]
 }
 
 /// The size in bytes of the method id and the fields of `UpdateSecretOk`.
 pub fn size_update_secret_ok(method: &UpdateSecretOk) -> Result<u64, GenError>
     ensures { Measures result (method_size (update_secret_ok_method method.now)) }
 {
-    size_fields(&update_secret_ok_fields(method)[1..])
+    size_method_fields(&update_secret_ok_fields(method))
 }
 
 /// Puts the method id and the fields of `UpdateSecretOk` at a place of a slice, and returns the place after.
@@ -652,7 +690,7 @@ pub fn put_update_secret_ok(buf: &mut [u8], at: usize, method: &UpdateSecretOk) 
         (method_bytes (update_secret_ok_method method.now)) }
     ensures { Puts buf.old buf.new at (method_bytes (update_secret_ok_method method.now)) result }
 {
-    put_fields(buf, at, &update_secret_ok_fields(method)[1..])
+    put_method_fields(buf, at, &update_secret_ok_fields(method))
 }
 
 /// Appends the method id and the fields of `UpdateSecretOk` to a vector.
@@ -664,5 +702,5 @@ pub fn gen_update_secret_ok(
     ensures { Appends out.old.items out.new.items (method_size (update_secret_ok_method method.now))
         (method_bytes (update_secret_ok_method method.now)) result }
 {
-    gen_fields(out, &update_secret_ok_fields(method)[1..])
+    gen_method_fields(out, &update_secret_ok_fields(method))
 }

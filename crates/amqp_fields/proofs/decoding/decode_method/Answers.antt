@@ -11,7 +11,7 @@ returns-else-found-fields-clause-judged c =
     let full = rw take_rest at c.if-found-fields.false in
     let method =
     method_at c.from_be_bytes-class.result c.from_be_bytes-id.result _ _ (search rules) (search rules) c.shapes_of.ensures.slots c.in-Some.is in
-    method_read c.args.payload.now _ _ c.in-Ok.found (λ k. omega (arith, c.type_inv.payload k)) method c.in-len4-up.len_at_least
+    method_read _ _ _ _ (λ k. omega (arith, c.type_inv.payload k)) method c.in-len4-up.len_at_least
     (omega (arith, few, full)) judged
 
 pub returns-else-found-fields-clause-counts : goal.returns-else-found-fields-clause-counts
@@ -19,7 +19,7 @@ returns-else-found-fields-clause-counts c =
     let listed = rw take_rest at c.list_fields-count.ensures in
     let method =
     method_at c.from_be_bytes-class.result c.from_be_bytes-id.result _ _ (search rules) (search rules) c.shapes_of.ensures.slots c.in-Some.is in
-    method_listed c.args.deep c.args.end c.args.count c.args.payload.now _ _ _ _ _ method listed
+    method_listed _ _ _ _ _ _ _ _ _ method listed
 
 pub returns-then-found-fields-clause-faulty : goal.returns-then-found-fields-clause-faulty
 returns-then-found-fields-clause-faulty c = λ none.
@@ -27,19 +27,19 @@ returns-then-found-fields-clause-faulty c = λ none.
     let less = rw take_rest at c.if-found-fields.true in
     let method =
     method_at c.from_be_bytes-class.result c.from_be_bytes-id.result _ _ (search rules) (search rules) c.shapes_of.ensures.slots c.in-Some.is in
-    more_fields c.args.payload.now _ _ c.in-Ok.found method less judged
+    more_fields _ _ _ _ method less judged
 
 pub returns-in-Err-clause-faulty : goal.returns-in-Err-clause-faulty
 returns-in-Err-clause-faulty c = λ none.
     let judged = rw take_rest at c.in-Err.ensures.judged in
     let method =
     method_at c.from_be_bytes-class.result c.from_be_bytes-id.result _ _ (search rules) (search rules) c.shapes_of.ensures.slots c.in-Some.is in
-    no_fields c.args.payload.now _ _ c.in-Err.field-0 method judged
+    no_fields _ _ _ _ method judged
 
 pub returns-in-None-clause-faulty : goal.returns-in-None-clause-faulty
 returns-in-None-clause-faulty c = λ none.
-    no_method c.args.payload.now c.from_be_bytes-class.result c.from_be_bytes-id.result c.shapes_of.result (search rules) (search rules)
+    no_method _ c.from_be_bytes-class.result c.from_be_bytes-id.result _ (search rules) (search rules)
     c.shapes_of.ensures.slots c.in-None.is
 
 pub returns-in_default-clause-faulty : goal.returns-in_default-clause-faulty
-returns-in_default-clause-faulty c = λ none. no_ids c.args.payload.now (omega arith)
+returns-in_default-clause-faulty c = λ none. no_ids _ (omega arith)

@@ -5,5 +5,4 @@ use Rattle.amqp_fields.proofs.fields.+list_bits.Goals as goal
 
 pub returns : goal.returns
 returns t c =
-    bits_more c.args.place c.further.result c.args.flags c.args.byte _ c.args.count c.push-more.result c.list_bits.result c.bit.result c.args.nodes.now
-    c.push-more.new.nodes c.list_bits.new.nodes (grind arith) c.bit.ensures c.further.ensures (omega arith) c.push-more.ensures c.list_bits.ensures
+    bits_more _ _ _ _ _ _ _ _ _ _ _ _ (grind arith) c.bit.ensures c.further.ensures (omega arith) c.push-more.ensures c.list_bits.ensures

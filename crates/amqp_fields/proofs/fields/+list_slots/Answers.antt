@@ -9,16 +9,14 @@ use Rattle.amqp_fields.proofs.fields.+list_slots.Goals as goal
 pub returns-in-Reserved : goal.returns-in-Reserved
 returns-in-Reserved t c =
     let others = rw take_rest at c.list_slots.ensures in
-    reserved_first c.args.deep c.args.end c.args.place c.args.shapes.now
-    (slots.Kept forms.Octet) c.in-Reserved.form _ c.args.i.now c.bytes_from-rest.result.now c.args.nodes.now _ c.args.count _ c.form_size.result
+    reserved_first _ _ _ _ (slots.Kept forms.Octet) _ _ _ _ _ _ _ _ _
     c.in-len1-up.len_at_least c.in-Reserved.is (omega arith) c.form_size.ensures.used c.bytes_from-rest.ensures others
 
 pub returns-in-Kept : goal.returns-in-Kept
 unfolding listed_slot
 returns-in-Kept t c =
     let others = rw take_rest at c.list_slots-in-Kept.ensures in
-    slots_listed c.args.deep c.args.end c.args.place c.further-place-in-Kept.result c.args.shapes.now
-    (slots.Kept forms.Octet) (slots.Kept c.in-Kept.form) c.args.i.now _ c.args.nodes.now c.list_form-step.new.nodes _ c.args.count _ c.list_form-step.result
+    slots_listed _ _ _ _ _ (slots.Kept forms.Octet) (slots.Kept c.in-Kept.form) _ _ _ _ _ _ _ c.list_form-step.result
     c.in-len1-up.len_at_least c.in-Kept.is c.list_form-step.ensures.listed
     (c.further-place-in-Kept.ensures ∙ ap (next_place c.args.place) c.field_count.ensures) (take_rest c.args.i.now c.list_form-step.result.used) others
 
@@ -27,7 +25,6 @@ unfolding listed_form listed_slot
 returns-in-Kept-Flags t c =
     let flags : c.in-Kept-Flags.field-0 ≡ forms.Flags c.in-Kept-Flags.flags = rw c.in-Kept-Flags.is at c.in-Kept-Flags.field-0-is in
     let others = rw take_rest at c.list_slots-in-Kept-Flags.ensures in
-    slots_listed c.args.deep c.args.end c.args.place c.further-place.result c.args.shapes.now (slots.Kept forms.Octet)
-    (slots.Kept (forms.Flags c.in-Kept-Flags.flags)) c.args.i.now _ c.args.nodes.now c.list_flags-step.new.nodes _ c.args.count _ c.list_flags-step.result
+    slots_listed _ _ _ _ _ (slots.Kept forms.Octet) (slots.Kept (forms.Flags c.in-Kept-Flags.flags)) _ _ _ _ _ _ _ c.list_flags-step.result
     c.in-len1-up.len_at_least (c.in-Kept-Flags.is ∙ ap slots.Kept flags) c.list_flags-step.ensures.listed c.further-place.ensures
     (take_rest c.args.i.now c.list_flags-step.result.used) others

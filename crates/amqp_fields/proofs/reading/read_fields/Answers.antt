@@ -12,5 +12,5 @@ returns-clause-bound c = fields_few c.args.frame_type c.args.payload.now c.args.
 pub returns-clause-listed : goal.returns-clause-listed
 returns-clause-listed c =
     let decoded = c.in-Ok.ensures in
-    fields_listed c.args.frame_type c.args.payload.now c.args.deep c.args.nodes.now c.decode.new.nodes c.in-Ok.decoded.count
+    fields_listed _ _ _ _ _ c.in-Ok.decoded.count
     decoded.0.frame c.requires.few decoded.0.is decoded.1 (omega (arith, c.if-count-nodes.false))

@@ -1,10 +1,10 @@
 -- `lay_any_text`: what it ensures.
-use Rattle.std.proofs.Common.{arith}
-use Rattle.std.proofs.lemmas.Bool.Decides.{nat_tests}
-use Rattle.amqp_fields_write.proofs.Quick.{laid_after, tested, text_laid}
-use Rattle.amqp_fields_write.proofs.laying.lay_any_text.Goals as goal
+use Rattle.amqp_fields_write.proofs
+use proofs.Names.{numbers}
+use proofs.Quick.{laid_after, tested, text_laid}
+use proofs.laying.lay_any_text.Goals as goal
 
 pub returns : goal.returns
 returns g c =
-    text_laid _ _ (grind (arith, nat_tests, c.if-text-gt255.false)) (tested (λ is. is) c.is_fit.ensures c.if-not-is_fit.false)
+    text_laid _ _ (grind (numbers, c.if-text-gt255.false)) (tested (λ is. is) c.is_fit.ensures c.if-not-is_fit.false)
     (laid_after c.lay-place.ensures c.lay_bytes.ensures)

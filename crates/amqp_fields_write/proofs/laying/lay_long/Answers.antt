@@ -1,10 +1,10 @@
 -- `lay_long`: what it ensures.
-use Rattle.std.proofs.Common.{arith}
-use Rattle.std.proofs.lemmas.Bool.Decides.{nat_tests}
-use Rattle.amqp_fields_write.proofs.Quick.{bytes_as, long_laid}
-use Rattle.amqp_fields_write.proofs.laying.lay_long.Goals as goal
+use Rattle.amqp_fields_write.proofs
+use proofs.Names.{numbers}
+use proofs.Quick.{bytes_as, long_laid}
+use proofs.laying.lay_long.Goals as goal
 
 pub returns : goal.returns
 returns g c =
-    long_laid _ _ (grind (arith, nat_tests, c.if-bytes.false))
+    long_laid _ _ (grind (numbers, c.if-bytes.false))
     (bytes_as c.to_be_bytes.ensures c.lay-place.ensures) c.lay_bytes.ensures

@@ -1,8 +1,9 @@
 -- `lay_field`: what it ensures.
-use Rattle.std.proofs.Common.{arith}
-use Rattle.amqp_fields_write.proofs.Quick.{never_laid}
-use Rattle.amqp_fields_write.proofs.QuickFields.{field_laid, no_field}
-use Rattle.amqp_fields_write.proofs.laying_fields.lay_field.Goals as goal
+use Rattle.amqp_fields_write.proofs
+use proofs.Names.{arith}
+use proofs.Quick.{never_laid}
+use proofs.QuickFrames.{field_laid, no_field}
+use proofs.laying_fields.lay_field.Goals as goal
 
 pub returns-clause-laid : goal.returns-clause-laid
 returns-clause-laid g c =

@@ -1,21 +1,21 @@
 -- `lay_set`: what it ensures, what calls require and what the loop keeps.
-use Rattle.std.proofs.Common.{refl, ◌∙◌, arith}
-use Rattle.std.proofs.lemmas.Bool.Decides.{nat_tests}
-use Rattle.amqp_fields_write.proofs.PropertiesMade.{bits_fit, bits_next, next_few, no_bits, no_set, none_made, rest_falls, set_next, some_refused}
-use Rattle.amqp_fields_write.proofs.Quick.{leads_begin, leads_end, leads_on, leads_refused, leads_stop}
-use Rattle.amqp_fields_write.proofs.laying_fields.lay_set.Goals as goal
+use Rattle.amqp_fields_write.proofs
+use proofs.Names.{refl, ◌∙◌, arith, numbers}
+use proofs.PropertiesMade.{bits_fit, bits_next, next_few, no_bits, no_set, none_made, rest_falls, set_next, some_refused}
+use proofs.Quick.{leads_begin, leads_end, leads_on, leads_refused, leads_stop}
+use proofs.laying_fields.lay_set.Goals as goal
 
 pub loop-found-init : goal.loop-found-init
 loop-found-init g c = record { few = omega arith; leads = leads_begin _ _ _ _ _ _; mask_is = omega arith }
 
 pub loop-found-smaller : goal.loop-found-smaller
 loop-found-smaller g c =
-    rest_falls c.args.pool.now c.args.end _ c.in-Some.ensures.found c.further-place.ensures (c.lay_field-next.ensures.rest (grind (arith, nat_tests)))
+    rest_falls c.args.pool.now c.args.end _ c.in-Some.ensures.found c.further-place.ensures (c.lay_field-next.ensures.rest (grind numbers))
 
 pub loop-found-preserved : goal.loop-found-preserved
 loop-found-preserved g c =
     let l = c.loop-found.invariant in
-    let rest = c.lay_field-next.ensures.rest (grind (arith, nat_tests)) in
+    let rest = c.lay_field-next.ensures.rest (grind numbers) in
     record {
       few = next_few c.args.pool.now c.args.end _ c.in-Some.ensures.found c.further-place.ensures rest;
       leads = leads_on l.leads (set_next _ _ _ c.in-Some.ensures.found c.further-place.ensures rest) c.lay_field-next.ensures.laid;
@@ -26,7 +26,7 @@ loop-found-preserved g c =
 pub returns-then-is_empty-clause-laid : goal.returns-then-is_empty-clause-laid
 returns-then-is_empty-clause-laid g c =
     let l = c.loop-found.invariant in
-    leads_end l.leads (no_set _ _ _ l.few (c.property_at.ensures.none c.in_default.is) ∙ none_made _ _ (grind (arith, nat_tests)))
+    leads_end l.leads (no_set _ _ _ l.few (c.property_at.ensures.none c.in_default.is) ∙ none_made _ _ (grind numbers))
 
 pub returns-then-is_empty-clause-mask : goal.returns-then-is_empty-clause-mask
 returns-then-is_empty-clause-mask g c =
@@ -36,11 +36,11 @@ returns-then-is_empty-clause-mask g c =
 pub returns-else-is_empty-clause-laid : goal.returns-else-is_empty-clause-laid
 returns-else-is_empty-clause-laid g c =
     let l = c.loop-found.invariant in
-    leads_refused l.leads _ (no_set _ _ _ l.few (c.property_at.ensures.none c.in_default.is) ∙ some_refused _ _ (grind (arith, nat_tests))) (omega arith)
+    leads_refused l.leads _ (no_set _ _ _ l.few (c.property_at.ensures.none c.in_default.is) ∙ some_refused _ _ (grind numbers)) (omega arith)
 
 pub returns-then-next-clause-laid : goal.returns-then-next-clause-laid
 returns-then-next-clause-laid g c =
-    leads_stop c.loop-found.invariant.leads _ (set_next _ _ _ c.in-Some.ensures.found refl refl) c.lay_field-next.ensures.laid (grind (arith, nat_tests))
+    leads_stop c.loop-found.invariant.leads _ (set_next _ _ _ c.in-Some.ensures.found refl refl) c.lay_field-next.ensures.laid (grind numbers)
     (omega arith)
 
 pub worth-mask-requires : goal.worth-mask-requires

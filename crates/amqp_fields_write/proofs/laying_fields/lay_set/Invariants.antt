@@ -1,8 +1,9 @@
 -- `lay_set`: what the loop keeps, and what falls with each iteration.
-use Rattle.std.proofs.Common.{◌≡◌, ◌≤◌, ◌+◌, length}
-use Rattle.amqp_fields_write.proofs.PropertiesMade.{bits_from, set_from}
-use Rattle.amqp_fields_write.proofs.Quick.{Leads}
-use Rattle.amqp_fields_write.proofs.laying_fields.lay_set.Given as goal
+use Rattle.amqp_fields_write.proofs
+use proofs.Names.{◌≡◌, ◌≤◌, ◌+◌, length}
+use proofs.PropertiesMade.{bits_from, set_from}
+use proofs.Quick.{Leads}
+use proofs.laying_fields.lay_set.Given as goal
 
 abbrev pub decreases-loop-found : goal.decreases-loop-found
 decreases-loop-found g l = length l.rest

@@ -1,9 +1,8 @@
 -- `lay_slots`: what the loop keeps.
-use Rattle.std.proofs.Common.{drop}
-use Rattle.amqp_canonical.specs.Shapes.{slots_of}
-use Rattle.amqp_fields_write.specs.MadeFields.{made_slots}
-use Rattle.amqp_fields_write.proofs.Quick.{Leads}
-use Rattle.amqp_fields_write.proofs.laying_fields.lay_slots.Given as goal
+use Rattle.amqp_fields_write.proofs
+use proofs.Names.{drop, slots_of, made_slots}
+use proofs.Quick.{Leads}
+use proofs.laying_fields.lay_slots.Given as goal
 
 abbrev pub invariant-loop-shape : goal.invariant-loop-shape
 invariant-loop-shape g l =

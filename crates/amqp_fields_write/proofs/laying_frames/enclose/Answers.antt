@@ -1,9 +1,8 @@
 -- `enclose`: what it ensures.
-use Rattle.std.proofs.Common.{refl, ap, arith}
-use Rattle.std.proofs.lemmas.Bool.Decides.{nat_tests}
-use Rattle.amqp_wire.specs.Spelling.{head}
-use Rattle.amqp_fields_write.proofs.Quick.{bytes_as, bytes_laid, part_fits}
-use Rattle.amqp_fields_write.proofs.laying_frames.enclose.Goals as goal
+use Rattle.amqp_fields_write.proofs
+use proofs.Names.{refl, ap, arith, numbers, head}
+use proofs.Quick.{bytes_as, bytes_laid, part_fits}
+use proofs.laying_frames.enclose.Goals as goal
 
 pub returns : goal.returns
 returns g c =
@@ -13,7 +12,7 @@ returns g c =
         fits = omega arith;
         mid = _;
         front = _;
-        laid = bytes_laid (h.sound t (grind (arith, nat_tests)));
+        laid = bytes_laid (h.sound t (grind numbers));
         ended = bytes_laid (c.lay.ensures.sound t few);
       };
       complete = λ le room last.

@@ -1,11 +1,10 @@
 -- `lay_frames`: what it ensures, and what the loop keeps.
-use Rattle.std.proofs.Common.{arith}
-use Rattle.std.proofs.lemmas.List.{drop_more, length-drop}
-use Rattle.amqp_fields.specs.Heads.{no_head}
-use Rattle.amqp_fields_write.proofs.HeadsInLoops.{first_made, no_heads}
-use Rattle.amqp_fields_write.proofs.Quick.{leads_begin, leads_end, leads_on}
-use Rattle.amqp_fields_write.proofs.QuickFrames.{at_laid}
-use Rattle.amqp_fields_write.proofs.laying_frames.lay_frames.Goals as goal
+use Rattle.amqp_fields_write.proofs
+use proofs.Names.{arith, drop_more, length-drop, no_head}
+use proofs.FramesMade.{first_made, no_heads}
+use proofs.Quick.{leads_begin, leads_end, leads_on}
+use proofs.QuickFrames.{at_laid}
+use proofs.laying_frames.lay_frames.Goals as goal
 
 pub loop-head-init : goal.loop-head-init
 loop-head-init g c = leads_begin _ _ _ _ _ _
@@ -19,6 +18,5 @@ loop-head-preserved g c =
 
 pub returns : goal.returns
 returns g c =
-    let k = c.loop-head.head-index in
     leads_end c.loop-head.invariant
-    (no_heads _ _ _ _ _ (omega (arith, c.loop-head-test.false, length-drop k c.args.heads.now)))
+    (no_heads _ _ _ _ _ (omega (arith, c.loop-head-test.false, length-drop c.loop-head.head-index c.args.heads.now)))

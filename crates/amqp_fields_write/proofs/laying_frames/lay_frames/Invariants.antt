@@ -1,9 +1,9 @@
 -- `lay_frames`: what the loop keeps.
-use Rattle.std.proofs.Common.{drop}
-use Rattle.amqp_fields_write.specs.MadeFrames.{made_frames}
+use Rattle.amqp_fields_write.proofs
+use proofs.Names.{drop, made_frames}
 use Rattle.amqp_fields_write.specs.Quick.{nowhere}
-use Rattle.amqp_fields_write.proofs.Quick.{Leads}
-use Rattle.amqp_fields_write.proofs.laying_frames.lay_frames.Given as goal
+use proofs.Quick.{Leads}
+use proofs.laying_frames.lay_frames.Given as goal
 
 abbrev pub invariant-loop-head : goal.invariant-loop-head
 invariant-loop-head g l =

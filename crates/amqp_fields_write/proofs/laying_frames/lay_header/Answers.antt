@@ -1,7 +1,8 @@
 -- `lay_header`: what it ensures.
-use Rattle.amqp_fields_write.proofs.FramesMade.{header_parts, own_nodes}
-use Rattle.amqp_fields_write.proofs.Quick.{laid_after, laid_as, laid_until}
-use Rattle.amqp_fields_write.proofs.laying_frames.lay_header.Goals as goal
+use Rattle.amqp_fields_write.proofs
+use proofs.FramesMade.{header_parts, own_nodes}
+use proofs.Quick.{laid_after, laid_as, laid_until}
+use proofs.laying_frames.lay_header.Goals as goal
 
 pub returns : goal.returns
 returns g c =

@@ -1,7 +1,8 @@
 -- `lay_method`: what it ensures.
-use Rattle.amqp_fields_write.proofs.FramesMade.{known_slots, method_parts, own_nodes}
-use Rattle.amqp_fields_write.proofs.Quick.{bytes_as, laid_after, laid_as, laid_until}
-use Rattle.amqp_fields_write.proofs.laying_frames.lay_method.Goals as goal
+use Rattle.amqp_fields_write.proofs
+use proofs.FramesMade.{known_slots, method_parts, own_nodes}
+use proofs.Quick.{bytes_as, laid_after, laid_as, laid_until}
+use proofs.laying_frames.lay_method.Goals as goal
 
 pub returns : goal.returns
 returns g c =

@@ -1,6 +1,7 @@
 -- `lay_typed`: what it ensures.
-use Rattle.amqp_fields_write.proofs.QuickFrames.{enclosed, typed_laid}
-use Rattle.amqp_fields_write.proofs.laying_frames.lay_typed.Goals as goal
+use Rattle.amqp_fields_write.proofs
+use proofs.QuickFrames.{enclosed, typed_laid}
+use proofs.laying_frames.lay_typed.Goals as goal
 
 pub returns : goal.returns
 returns g c =

@@ -1,11 +1,10 @@
 -- the calls of cycle `lay`: what they ensure and what the loop keeps.
-use Rattle.std.proofs.Common.{sym, ◌∙◌, arith}
-use Rattle.std.proofs.lemmas.Bool.Decides.{nat_tests}
-use Rattle.amqp_fields_write.proofs.Combined.{group_inside, item_parts}
-use Rattle.amqp_fields_write.proofs.EachMade.{each_passing, none_left}
-use Rattle.amqp_fields_write.proofs.Quick.{closed_laid, laid_after, laid_as, laid_until, leads_begin, leads_end, leads_on, leads_refused, refused_laid}
-use Rattle.amqp_fields_write.proofs.ValuesMade.{array_behind, deep_array, deep_table, next_parts, table_behind, value_parts, value_read_only, value_unknown}
-use Rattle.amqp_fields_write.proofs.laying_values.+lay.Goals as goal
+use Rattle.amqp_fields_write.proofs
+use proofs.Names.{sym, ◌∙◌, arith, numbers}
+use proofs.Combined.{group_inside, item_parts}
+use proofs.ValuesMade.{each_passing, none_left, array_behind, deep_array, deep_table, next_parts, table_behind, value_parts, value_read_only, value_unknown}
+use proofs.Quick.{closed_laid, laid_after, laid_as, laid_until, leads_begin, leads_end, leads_on, leads_refused, refused_laid}
+use proofs.laying_values.+lay.Goals as goal
 
 pub lay_each-loop-group-init : goal.lay_each-loop-group-init
 lay_each-loop-group-init g t c = leads_begin _ _ _ _ _ _
@@ -19,15 +18,15 @@ lay_each-loop-group-preserved g t c =
 
 pub lay_each-returns-then-is_empty : goal.lay_each-returns-then-is_empty
 lay_each-returns-then-is_empty g t c =
-    leads_end c.loop-group.invariant (none_left _ _ _ (grind (arith, nat_tests)))
+    leads_end c.loop-group.invariant (none_left _ _ _ (grind numbers))
 
 pub lay_each-returns-else-is_empty : goal.lay_each-returns-else-is_empty
 lay_each-returns-else-is_empty g t c =
-    leads_refused c.loop-group.invariant _ (each_passing _ _ _ (c.first_group.ensures.none c.in_default.is) (grind (arith, nat_tests))) (omega arith)
+    leads_refused c.loop-group.invariant _ (each_passing _ _ _ (c.first_group.ensures.none c.in_default.is) (grind numbers)) (omega arith)
 
 pub lay_group-returns : goal.lay_group-returns
 lay_group-returns g t c =
-    laid_as (group_inside _ _ _ _ _ _ (grind (arith, nat_tests)))
+    laid_as (group_inside _ _ _ _ _ _ (grind numbers))
     (closed_laid _ c.lay_each-place.ensures c.plus-start.ensures c.lay_length.ensures)
 
 pub lay_after_tag-returns-in-FieldArray-2 : goal.lay_after_tag-returns-in-FieldArray-2

@@ -1,9 +1,9 @@
 -- the calls of cycle `lay`: what the loop keeps, and what falls with each iteration or call.
-use Rattle.std.proofs.Common.{◌+◌, ◌*◌, length}
+use Rattle.amqp_fields_write.proofs
+use proofs.Names.{◌+◌, ◌*◌, length, made_item}
 use Rattle.amqp_fields_write.specs.Made.{made_each}
-use Rattle.amqp_fields_write.specs.Makes.{made_item}
-use Rattle.amqp_fields_write.proofs.Quick.{Leads}
-use Rattle.amqp_fields_write.proofs.laying_values.+lay.Given as goal
+use proofs.Quick.{Leads}
+use proofs.laying_values.+lay.Given as goal
 
 abbrev pub decreases-lay_after_tag : goal.decreases-lay_after_tag
 decreases-lay_after_tag g l = 4 * l.depth_left

@@ -1,9 +1,9 @@
 -- `lay_key`: what it ensures.
-use Rattle.std.proofs.Common.{ap}
+use Rattle.amqp_fields_write.proofs
+use proofs.Names.{ap, made_key}
 use Rattle.amqp_fields_write.specs.Made.{own_index}
-use Rattle.amqp_fields_write.specs.Makes.{made_key}
-use Rattle.amqp_fields_write.proofs.Quick.{laid, nothing_laid}
-use Rattle.amqp_fields_write.proofs.laying_values.lay_key.Goals as goal
+use proofs.Quick.{laid, nothing_laid}
+use proofs.laying_values.lay_key.Goals as goal
 
 pub returns-then-not-entries : goal.returns-then-not-entries
 returns-then-not-entries g c =

@@ -1,9 +1,9 @@
 -- `fill_beside`: what it ensures.
-use Rattle.std.proofs.Common.{arith}
-use Rattle.std.proofs.lemmas.Bool.Decides.{nat_tests}
-use Rattle.amqp_fields_write.proofs.QuickFrames.{few_copied}
-use Rattle.amqp_fields_write.proofs.making.fill_beside.Goals as goal
+use Rattle.amqp_fields_write.proofs
+use proofs.Names.{arith, numbers}
+use proofs.QuickFrames.{few_copied}
+use proofs.making.fill_beside.Goals as goal
 
 pub returns : goal.returns
 returns g c =
-    few_copied c.lay_frames-needed.ensures (grind (arith, nat_tests)) (grind arith) (grind (arith, nat_tests)) c.put_bytes.ensures
+    few_copied c.lay_frames-needed.ensures (grind numbers) (grind arith) (grind numbers) c.put_bytes.ensures

@@ -1,8 +1,8 @@
 -- `measure_frames`: what the loop keeps.
-use Rattle.std.proofs.Common.{drop}
-use Rattle.amqp_fields_write.specs.MadeFrames.{made_frames}
-use Rattle.amqp_fields_write.proofs.Combined.{Onward}
-use Rattle.amqp_fields_write.proofs.measuring.measure_frames.Given as goal
+use Rattle.amqp_fields_write.proofs
+use proofs.Names.{drop, made_frames}
+use proofs.Combined.{Onward}
+use proofs.measuring.measure_frames.Given as goal
 
 abbrev pub invariant-loop-place : goal.invariant-loop-place
 invariant-loop-place l =

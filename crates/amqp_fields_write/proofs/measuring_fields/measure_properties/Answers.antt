@@ -1,13 +1,11 @@
 -- `measure_properties`: what it ensures and what the loop keeps.
-use Rattle.std.proofs.Common.{Ok, refl, ap, ◌∙◌, arith}
-use Rattle.std.proofs.lemmas.Bool.Decides.{nat_tests}
-use Rattle.amqp_types.specs.Numbers.{bytes2, number_bytes}
+use Rattle.amqp_fields_write.proofs
+use proofs.Names.{Ok, refl, ap, ◌∙◌, arith, numbers, bytes2, number_bytes, made_properties}
 use Rattle.amqp_fields_write.specs.Made.{after}
-use Rattle.amqp_fields_write.specs.MadeFields.{made_properties}
-use Rattle.amqp_fields_write.proofs.Combined.{begins, counted_after, ends, passed, steps, stops, stops_at}
-use Rattle.amqp_fields_write.proofs.PropertiesMade.{bits_from, next_few, no_set, none_made, rest_falls, set_next, some_refused}
-use Rattle.amqp_fields_write.proofs.ValuesMade.{misfits}
-use Rattle.amqp_fields_write.proofs.measuring_fields.measure_properties.Goals as goal
+use proofs.Combined.{begins, counted_after, ends, passed, steps, stops, stops_at}
+use proofs.PropertiesMade.{bits_from, next_few, no_set, none_made, rest_falls, set_next, some_refused}
+use proofs.ValuesMade.{misfits}
+use proofs.measuring_fields.measure_properties.Goals as goal
 
 pub loop-found-init : goal.loop-found-init
 loop-found-init c = record { few = omega arith; onward = begins _ }
@@ -41,7 +39,7 @@ returns-then-is_empty c =
     counted_after (number_bytes bytes2 (bits_from 0 c.args.nodes.now))
     (ends l.invariant.onward
     (no_set _ _ _ l.invariant.few (c.property_at.ensures.none c.in_default.is)
-    ∙ none_made _ _ (grind (arith, nat_tests))))
+    ∙ none_made _ _ (grind numbers)))
     c.plus.ensures
 
 pub returns-else-is_empty : goal.returns-else-is_empty
@@ -51,4 +49,4 @@ returns-else-is_empty c =
     ap (after (Ok (number_bytes bytes2 (bits_from 0 c.args.nodes.now))))
     (stops _ l.invariant.onward
     (no_set _ _ _ l.invariant.few (c.property_at.ensures.none c.in_default.is)
-    ∙ some_refused _ _ (grind (arith, nat_tests)) ∙ misfits c.index_of.ensures c.bad.ensures))
+    ∙ some_refused _ _ (grind numbers) ∙ misfits c.index_of.ensures c.bad.ensures))

@@ -1,8 +1,9 @@
 -- `measure_properties`: what the loop keeps, and what falls with each iteration.
-use Rattle.std.proofs.Common.{◌≤◌, length}
-use Rattle.amqp_fields_write.proofs.Combined.{Onward}
-use Rattle.amqp_fields_write.proofs.PropertiesMade.{set_from}
-use Rattle.amqp_fields_write.proofs.measuring_fields.measure_properties.Given as goal
+use Rattle.amqp_fields_write.proofs
+use proofs.Names.{◌≤◌, length}
+use proofs.Combined.{Onward}
+use proofs.PropertiesMade.{set_from}
+use proofs.measuring_fields.measure_properties.Given as goal
 
 abbrev pub decreases-loop-found : goal.decreases-loop-found
 decreases-loop-found l = length l.rest

@@ -1,9 +1,8 @@
 -- `measure_slots`: what the loop keeps.
-use Rattle.std.proofs.Common.{drop}
-use Rattle.amqp_canonical.specs.Shapes.{slots_of}
-use Rattle.amqp_fields_write.specs.MadeFields.{made_slots}
-use Rattle.amqp_fields_write.proofs.Combined.{Onward}
-use Rattle.amqp_fields_write.proofs.measuring_fields.measure_slots.Given as goal
+use Rattle.amqp_fields_write.proofs
+use proofs.Names.{drop, slots_of, made_slots}
+use proofs.Combined.{Onward}
+use proofs.measuring_fields.measure_slots.Given as goal
 
 abbrev pub invariant-loop-shape : goal.invariant-loop-shape
 invariant-loop-shape l =

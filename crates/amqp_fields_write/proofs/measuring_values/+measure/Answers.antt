@@ -1,10 +1,9 @@
 -- the calls of cycle `measure`: what they ensure and what the loop keeps.
-use Rattle.std.proofs.Common.{◌∙◌, arith}
-use Rattle.std.proofs.lemmas.Bool.Decides.{nat_tests}
-use Rattle.amqp_fields_write.proofs.Combined.{begins, ends, passed, steps, stops, stops_at}
-use Rattle.amqp_fields_write.proofs.EachMade.{each_passing, none_left}
-use Rattle.amqp_fields_write.proofs.ValuesMade.{misfits, next_parts}
-use Rattle.amqp_fields_write.proofs.measuring_values.+measure.Goals as goal
+use Rattle.amqp_fields_write.proofs
+use proofs.Names.{◌∙◌, numbers}
+use proofs.Combined.{begins, ends, passed, steps, stops, stops_at}
+use proofs.ValuesMade.{each_passing, none_left, misfits, next_parts}
+use proofs.measuring_values.+measure.Goals as goal
 
 pub measure_each-loop-group-init : goal.measure_each-loop-group-init
 measure_each-loop-group-init t c = begins _
@@ -24,10 +23,10 @@ measure_each-loop-group-preserved t c =
 
 pub measure_each-returns-then-is_empty : goal.measure_each-returns-then-is_empty
 measure_each-returns-then-is_empty t c =
-    ends c.loop-group.invariant (none_left _ _ _ (grind (arith, nat_tests)))
+    ends c.loop-group.invariant (none_left _ _ _ (grind numbers))
 
 pub measure_each-returns-else-is_empty : goal.measure_each-returns-else-is_empty
 measure_each-returns-else-is_empty t c =
     stops _ c.loop-group.invariant
-    (each_passing _ _ _ (c.first_group.ensures.none c.in_default.is) (grind (arith, nat_tests))
+    (each_passing _ _ _ (c.first_group.ensures.none c.in_default.is) (grind numbers)
     ∙ misfits c.index_of.ensures c.bad.ensures)

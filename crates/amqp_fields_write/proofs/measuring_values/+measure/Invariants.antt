@@ -1,9 +1,9 @@
 -- the calls of cycle `measure`: what the loop keeps, and what falls with each iteration or call.
-use Rattle.std.proofs.Common.{◌+◌, ◌*◌, length}
+use Rattle.amqp_fields_write.proofs
+use proofs.Names.{◌+◌, ◌*◌, length, made_item}
 use Rattle.amqp_fields_write.specs.Made.{made_each}
-use Rattle.amqp_fields_write.specs.Makes.{made_item}
-use Rattle.amqp_fields_write.proofs.Combined.{Onward}
-use Rattle.amqp_fields_write.proofs.measuring_values.+measure.Given as goal
+use proofs.Combined.{Onward}
+use proofs.measuring_values.+measure.Given as goal
 
 abbrev pub decreases-measure_behind : goal.decreases-measure_behind
 decreases-measure_behind l = 5 * l.depth_left

@@ -1,9 +1,9 @@
 -- `flag_before`: what it ensures.
-use Rattle.std.proofs.Common.{get_or, refl, sym, ◌∙◌, arith}
-use Rattle.amqp_fields.specs.Nodes.{blank}
-use Rattle.amqp_fields_write.proofs.FieldsMade.{byte_more, byte_refused, flag_few, flags_missing, flags_more, flags_other}
-use Rattle.amqp_fields_write.proofs.ValuesMade.{misfits}
-use Rattle.amqp_fields_write.proofs.parts.flag_before.Goals as goal
+use Rattle.amqp_fields_write.proofs
+use proofs.Names.{get_or, refl, sym, ◌∙◌, arith, blank}
+use proofs.FieldsMade.{byte_more, byte_refused, flag_few, flags_missing, flags_more, flags_other}
+use proofs.ValuesMade.{misfits}
+use proofs.parts.flag_before.Goals as goal
 
 pub returns-in-empty : goal.returns-in-empty
 returns-in-empty c = flags_missing _ _ 0 _ _ c.requires.some c.in-empty.len_below ∙ misfits refl c.bad.ensures

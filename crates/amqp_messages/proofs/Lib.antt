@@ -1,0 +1,2 @@
+-- The lemmas of amqp_messages.
+pub mod EqualMessages

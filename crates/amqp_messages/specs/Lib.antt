@@ -1,0 +1,3 @@
+-- The definitions of amqp_messages.
+pub mod Messages
+pub mod Splits
