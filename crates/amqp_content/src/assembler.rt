@@ -17,7 +17,7 @@ ghost use Rattle.amqp_turns.specs.Steps.{mark_after, method_mark};
 
 use crate::outcome::Outcome;
 use crate::pending::Pending;
-use amqp_frame::{AMQPContentHeader, AMQPFrame, FrameOutline};
+use amqp_frame::{AMQPContentHeader, AMQPFrame, FrameOutline, release};
 use amqp_messages::Opening;
 use amqp_protocol::AMQPClass;
 use amqp_turns::{Channels, ContentFault, Mark, Progress, step};
@@ -277,7 +277,10 @@ impl Assembler {
             method_id: class.get_amqp_method_id(),
         };
         match self.mark(channel_id, outline) {
-            Mark::Fault(bad) => self.fail(channel_id, bad),
+            Mark::Fault(bad) => {
+                release(AMQPFrame::Method(channel_id, class));
+                self.fail(channel_id, bad)
+            }
             _ => self.take_method(channel_id, class),
         }
     }
