@@ -27,9 +27,9 @@ use Rattle.amqp_fields.specs.Listed.{entries_nodes, values_nodes}
 use Rattle.amqp_fields.specs.Reading.{IsWhole, NeedsMore, SaysLevels, StandInFront, fields_nodes}
 use Rattle.amqp_c.specs.declared.fields.PayloadFields.{PayloadFields}
 use Rattle.amqp_c.specs.Checks.{raw_after, summed}
-use Rattle.amqp_c.specs.Fields.{GivesNodes, OpensEntries, OpensFilled, OpensIf, OpensValues, content_error, counted, fields_with, reported}
+use Rattle.amqp_c.specs.Fields.{GivesNodes, OpensEntries, OpensFilled, OpensIf, OpensValues, counted, fields_with, reported}
 use Rattle.amqp_c.specs.Fields.{ReadsFrame, ReadsRaw, ReadsWhole}
-use Rattle.amqp_c.specs.Statuses.{buffer_too_small}
+use Rattle.amqp_c.specs.Statuses.{buffer_too_small, decoding_error}
 use Rattle.amqp_c.proofs.Summaries.{raw-known}
 
 -- a list with room for these nodes, and one without
@@ -105,7 +105,7 @@ raw_found byte kind payload deep list result e few h = subst (λ r. ReadsRaw dee
 -- ---- contents that stand alone
 
 refused_filled : {A : Type 0} (nodes : List Node) (most : ℕ) (list : List Node) (error : ParserError) (read : Result (List A) Fault)
-    → MayRefuse error → RefusesWhole error read → OpensFilled nodes most read list (counted (stream_error_status (content_error error)) 0)
+    → MayRefuse error → RefusesWhole error read → OpensFilled nodes most read list (counted (stream_error_status (decoding_error error)) 0)
 refused_filled nodes most list errors.Incomplete read may h = absurd h
 refused_filled nodes most list errors.NoMemory read may h = absurd (may refl)
 refused_filled nodes most list error read may h = rw h refl

@@ -3,14 +3,10 @@ use Rattle.std.specs.Prelude.{◌≡◌, ◌<◌, ◌≤◌, ℕ, ◌+◌, ◌*�
 use Rattle.std.specs.Prelude.{take, drop, Option, Some, None, Ok}
 use Rattle.amqp_types.specs.Judging.{Judged, took, past, fault, too_large}
 use Rattle.amqp_types.specs.Levels.{plain}
-use Rattle.amqp_types.specs.declared.errors.ParserError.{ParserError}
-use Rattle.amqp_types.specs.declared.errors.ParserError.TheVariants as parser_errors
 use Rattle.amqp_wire.specs.Frames.{Frame, Raw}
 use Rattle.amqp_wire.specs.Looks.{payload_place}
 use Rattle.amqp_wire.specs.HeaderScan.{scan}
 use Rattle.amqp_wire.specs.Verdicts.{judge_frame, decode_raw}
-use Rattle.amqp_stream.specs.declared.errors.StreamError.{StreamError}
-use Rattle.amqp_stream.specs.declared.errors.StreamError.TheVariants as errors
 use Rattle.amqp_stream.specs.Errors.{stream_error_status}
 use Rattle.amqp_fields.specs.declared.frames.FramesEnd.{FramesEnd}
 use Rattle.amqp_fields.specs.declared.frames.FramesEnd.TheVariants as ends
@@ -21,7 +17,7 @@ use Rattle.amqp_fields.specs.Frames.{in_reach, least_length, payload_limit}
 use Rattle.amqp_fields.specs.Heads.{SayFrames, nodes_at}
 use Rattle.amqp_c.specs.declared.frames.FrameBatch.{FrameBatch}
 use Rattle.amqp_c.specs.Scans.{fault_status}
-use Rattle.amqp_c.specs.Statuses.{bad_argument, buffer_too_small, incomplete}
+use Rattle.amqp_c.specs.Statuses.{bad_argument, buffer_too_small, cut_short, decoding_error}
 
 -- no frame is given, for this reason
 abbrev pub no_batch : ℕ → FrameBatch
@@ -51,7 +47,7 @@ Follows m deep bytes heads nodes batch (took frame size) =
 Follows m deep bytes heads nodes batch past =
     (batch.used ≡ length bytes → IsFollowedBy batch 0 0)
     × (batch.used < length bytes
-    → IsFollowedBy batch incomplete (least_length (drop batch.used (in_reach bytes))))
+    → IsFollowedBy batch cut_short (least_length (drop batch.used (in_reach bytes))))
 Follows m deep bytes heads nodes batch (fault bad) = IsFollowedBy batch (fault_status bad) 0
 
 -- So many heads and nodes in front of their lists say the frames in front of the bytes. Each frame
@@ -77,27 +73,12 @@ GivesAsked m None bytes heads nodes batch = batch ≡ no_batch bad_argument
 
 -- ---- as it is reported
 
--- the error of a stream for a fault of a frame
-abbrev pub frame_error : ParserError → StreamError
-frame_error parser_errors.Incomplete = errors.CutShort
-frame_error parser_errors.UnknownFrameType = errors.UnknownFrameType
-frame_error parser_errors.BadProtocolHeader = errors.BadProtocolHeader
-frame_error parser_errors.BadFrameEnd = errors.BadFrameEnd
-frame_error parser_errors.UnknownClass = errors.UnknownClass
-frame_error parser_errors.UnknownMethod = errors.UnknownMethod
-frame_error parser_errors.ShortPayload = errors.ShortPayload
-frame_error parser_errors.TrailingBytes = errors.TrailingBytes
-frame_error parser_errors.NotUtf8 = errors.NotUtf8
-frame_error parser_errors.UnknownTag = errors.UnknownTag
-frame_error parser_errors.TooDeep = errors.TooDeep
-frame_error parser_errors.NoMemory = errors.NoMemory
-
 -- the status of what comes after the frames
 abbrev pub end_status : FramesEnd → ℕ
 end_status ends.Done = 0
-end_status (ends.Incomplete needed) = incomplete
+end_status (ends.Incomplete needed) = cut_short
 end_status ends.TooLarge = fault_status too_large
-end_status (ends.Fault error) = stream_error_status (frame_error error)
+end_status (ends.Fault error) = stream_error_status (decoding_error error)
 end_status (ends.Full needed) = buffer_too_small
 
 -- how much is needed

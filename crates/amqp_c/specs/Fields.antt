@@ -9,10 +9,6 @@ use Rattle.amqp_wire.specs.Frames.{Frame, Raw}
 use Rattle.amqp_wire.specs.Outlines.{outline_of}
 use Rattle.amqp_wire.specs.Verdicts.{is_at, decode_raw}
 use Rattle.amqp_fields.specs.declared.node.Node.{Node}
-use Rattle.amqp_types.specs.declared.errors.ParserError.{ParserError}
-use Rattle.amqp_types.specs.declared.errors.ParserError.TheVariants as parser_errors
-use Rattle.amqp_stream.specs.declared.errors.StreamError.{StreamError}
-use Rattle.amqp_stream.specs.declared.errors.StreamError.TheVariants as streams
 use Rattle.amqp_stream.specs.Errors.{stream_error_status}
 use Rattle.amqp_fields.specs.declared.reading.FieldsError.{FieldsError}
 use Rattle.amqp_fields.specs.declared.reading.FieldsError.TheVariants as errors
@@ -22,7 +18,7 @@ use Rattle.amqp_c.specs.declared.check.PayloadSummary.{PayloadSummary}
 use Rattle.amqp_c.specs.declared.fields.PayloadFields.{PayloadFields}
 use Rattle.amqp_c.specs.Checks.{raw_after, summed}
 use Rattle.amqp_c.specs.Scans.{fault_status}
-use Rattle.amqp_c.specs.Statuses.{bad_argument, buffer_too_small}
+use Rattle.amqp_c.specs.Statuses.{bad_argument, buffer_too_small, decoding_error}
 
 -- a status, and a number of nodes
 abbrev pub counted : ℕ → ℕ → PayloadFields
@@ -119,23 +115,8 @@ Opens (Some tag.FieldArray) content list result = OpensValues content list resul
 Opens (Some tag.FieldTable) content list result = OpensEntries content list result
 Opens other content list result = result ≡ counted bad_argument 0
 
--- the error of a stream for one of what stands in a table or an array
-abbrev pub content_error : ParserError → StreamError
-content_error parser_errors.Incomplete = streams.CutShort
-content_error parser_errors.UnknownFrameType = streams.UnknownFrameType
-content_error parser_errors.BadProtocolHeader = streams.BadProtocolHeader
-content_error parser_errors.BadFrameEnd = streams.BadFrameEnd
-content_error parser_errors.UnknownClass = streams.UnknownClass
-content_error parser_errors.UnknownMethod = streams.UnknownMethod
-content_error parser_errors.ShortPayload = streams.ShortPayload
-content_error parser_errors.TrailingBytes = streams.TrailingBytes
-content_error parser_errors.NotUtf8 = streams.NotUtf8
-content_error parser_errors.UnknownTag = streams.UnknownTag
-content_error parser_errors.TooDeep = streams.TooDeep
-content_error parser_errors.NoMemory = streams.NoMemory
-
 -- what is reported of a content: how many nodes are given, how many the list needs, or its fault
 abbrev pub reported : Result ℕ FieldsError → PayloadFields
 reported (Ok count) = counted 0 count
-reported (Err (errors.Payload error)) = counted (stream_error_status (content_error error)) 0
+reported (Err (errors.Payload error)) = counted (stream_error_status (decoding_error error)) 0
 reported (Err (errors.TooFew needed)) = counted buffer_too_small needed

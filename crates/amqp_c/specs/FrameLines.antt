@@ -11,7 +11,7 @@ use Rattle.amqp_lines.specs.Lines.{line}
 use Rattle.amqp_lines.specs.OneLine.{IsStrictWithin}
 use Rattle.amqp_c.specs.declared.lines.FrameLine.{FrameLine}
 use Rattle.amqp_c.specs.Scans.{error_at, fault_status}
-use Rattle.amqp_c.specs.Statuses.{buffer_too_small, incomplete}
+use Rattle.amqp_c.specs.Statuses.{buffer_too_small, cut_short}
 
 -- neither is read or written
 abbrev pub nothing_with : ℕ → FrameLine
@@ -37,7 +37,7 @@ pub record Converts (text : List ℕ) (used : ℕ)
 -- what is written for the frame that is read from the left, where memory lasts
 abbrev pub DumpedAt : Judged Frame → List ℕ → List ℕ → FrameLine → Type 0
 DumpedAt (took frame used) old new result = Converts (line frame) used old new result
-DumpedAt past old new result = RefusesLine incomplete old new result
+DumpedAt past old new result = RefusesLine cut_short old new result
 DumpedAt (fault bad) old new result = RefusesLine (fault_status bad) old new result
 
 -- the line of the frame in front is appended

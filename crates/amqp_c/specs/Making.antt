@@ -21,9 +21,8 @@ use Rattle.amqp_fields_write.specs.Making.{EncodesValues, RefusesFirst}
 use Rattle.amqp_fields_write.specs.Making.{made_entries, made_values}
 use Rattle.amqp_fields.specs.Nodes.{cut}
 use Rattle.amqp_c.specs.declared.writing.Written.{Written}
-use Rattle.amqp_c.specs.Batches.{frame_error}
 use Rattle.amqp_c.specs.Scans.{fault_status}
-use Rattle.amqp_c.specs.Statuses.{bad_argument, buffer_too_small, too_long}
+use Rattle.amqp_c.specs.Statuses.{bad_argument, buffer_too_small, decoding_error, too_long}
 
 -- so many bytes were written
 abbrev pub all_written : ℕ → Written
@@ -37,7 +36,7 @@ too_small needed =
 -- the status of a refusal
 abbrev pub refusal_status : WriteRefusal → ℕ
 refusal_status whys.BadArgument = bad_argument
-refusal_status (whys.Payload error) = stream_error_status (frame_error error)
+refusal_status (whys.Payload error) = stream_error_status (decoding_error error)
 refusal_status whys.TooLong = too_long
 refusal_status whys.TooLarge = fault_status too_large
 

@@ -2,6 +2,9 @@
 use Rattle.std.specs.Prelude.{◌≡◌, ◌==◌, ◌<◌, ◌≤◌, ℕ, List, codes, length}
 use Rattle.std.specs.Prelude.{if◌then◌else◌, Option, Some, None}
 use Rattle.amqp_types.specs.Writing.{written}
+use Rattle.amqp_types.specs.declared.errors.ParserError.{ParserError}
+use Rattle.amqp_types.specs.declared.errors.ParserError.TheVariants as parser_errors
+use Rattle.amqp_stream.specs.declared.errors.StreamError.{StreamError}
 use Rattle.amqp_stream.specs.declared.errors.StreamError.TheVariants as streams
 use Rattle.amqp_stream.specs.Errors.{stream_error_name, stream_error_status}
 use Rattle.amqp_c.specs.declared.statuses.CallError.{CallError}
@@ -12,8 +15,8 @@ abbrev pub out_of_memory : ℕ
 out_of_memory = 3
 
 -- the bytes, or the text, end inside a frame or a line
-abbrev pub incomplete : ℕ
-incomplete = 21
+abbrev pub cut_short : ℕ
+cut_short = 21
 
 -- a frame may not come next on its channel
 abbrev pub bad_content : ℕ
@@ -38,6 +41,21 @@ bad_argument = 41
 -- a short string is longer than its length can say
 abbrev pub too_long : ℕ
 too_long = 42
+
+-- the error of a stream for one of a frame, or of what stands in a table or an array
+abbrev pub decoding_error : ParserError → StreamError
+decoding_error parser_errors.Incomplete = streams.CutShort
+decoding_error parser_errors.UnknownFrameType = streams.UnknownFrameType
+decoding_error parser_errors.BadProtocolHeader = streams.BadProtocolHeader
+decoding_error parser_errors.BadFrameEnd = streams.BadFrameEnd
+decoding_error parser_errors.UnknownClass = streams.UnknownClass
+decoding_error parser_errors.UnknownMethod = streams.UnknownMethod
+decoding_error parser_errors.ShortPayload = streams.ShortPayload
+decoding_error parser_errors.TrailingBytes = streams.TrailingBytes
+decoding_error parser_errors.NotUtf8 = streams.NotUtf8
+decoding_error parser_errors.UnknownTag = streams.UnknownTag
+decoding_error parser_errors.TooDeep = streams.TooDeep
+decoding_error parser_errors.NoMemory = streams.NoMemory
 
 -- the status of an error; a stream's error keeps its own
 abbrev pub call_error_status : CallError → ℕ

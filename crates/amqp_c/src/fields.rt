@@ -3,17 +3,17 @@
 ghost use Rattle.std.specs.Prelude.{◌≡◌, ◌<◌, ◌^◌, length};
 ghost use Rattle.amqp_wire.specs.Frames.{raw_as};
 ghost use Rattle.amqp_c.specs.Fields.{Opens, OpensEntries, OpensValues, ReadsAfter};
-ghost use Rattle.amqp_c.specs.Fields.{ReadsRaw, ReadsWhole, content_error, counted};
+ghost use Rattle.amqp_c.specs.Fields.{ReadsRaw, ReadsWhole, counted};
 ghost use Rattle.amqp_c.specs.Fields.{deep_at, fields_with, reported};
 ghost use Rattle.amqp_types.specs.Tags.{tag_at};
 ghost use Rattle.amqp_c.specs.Checks.{raw_after};
 
 use crate::check::{PayloadSummary, sum_up};
 use crate::frame_types::type_of_byte;
-use crate::statuses::{BAD_ARGUMENT, BUFFER_TOO_SMALL};
+use crate::statuses::{BAD_ARGUMENT, BUFFER_TOO_SMALL, decoding_error};
 use amqp_fields::{FieldsError, Node, read_entries, read_fields, read_values};
 use amqp_stream::{StreamError, payload_error};
-use amqp_types::{FieldTag, ParserError};
+use amqp_types::FieldTag;
 use amqp_wire::{AMQPFrameType, AMQPRawFrame, FrameJudgement, outline_raw};
 
 /// What stands in a whole payload, and how many nodes its fields have. Where they are not given, all but the status and
@@ -153,33 +153,13 @@ pub extern "C" fn feksroum_read(
     }
 }
 
-/// The error of a stream for one of what stands in a table or an array.
-fn content_error(error: ParserError) -> StreamError
-    ensures { result ≡ content_error error }
-{
-    match error {
-        ParserError::Incomplete => StreamError::CutShort,
-        ParserError::UnknownFrameType => StreamError::UnknownFrameType,
-        ParserError::BadProtocolHeader => StreamError::BadProtocolHeader,
-        ParserError::BadFrameEnd => StreamError::BadFrameEnd,
-        ParserError::UnknownClass => StreamError::UnknownClass,
-        ParserError::UnknownMethod => StreamError::UnknownMethod,
-        ParserError::ShortPayload => StreamError::ShortPayload,
-        ParserError::TrailingBytes => StreamError::TrailingBytes,
-        ParserError::NotUtf8 => StreamError::NotUtf8,
-        ParserError::UnknownTag => StreamError::UnknownTag,
-        ParserError::TooDeep => StreamError::TooDeep,
-        ParserError::NoMemory => StreamError::NoMemory,
-    }
-}
-
 /// What is reported of a content: how many nodes are given, how many the list needs, or its fault.
 fn reported(found: Result<usize, FieldsError>) -> PayloadFields
     ensures { result ≡ reported found }
 {
     match found {
         Ok(count) => counted(0, count as u64),
-        Err(FieldsError::Payload(error)) => counted(content_error(error).status(), 0),
+        Err(FieldsError::Payload(error)) => counted(decoding_error(error).status(), 0),
         Err(FieldsError::TooFew { needed }) => counted(BUFFER_TOO_SMALL, needed as u64),
     }
 }

@@ -2,15 +2,14 @@
 
 ghost use Rattle.std.specs.Prelude.{◌≡◌, length};
 ghost use Rattle.amqp_c.specs.Batches.{AreFew, GivesAsked, GivesFrames, batch_of, end_needed};
-ghost use Rattle.amqp_c.specs.Batches.{end_status, frame_error, no_batch};
+ghost use Rattle.amqp_c.specs.Batches.{end_status, no_batch};
 ghost use Rattle.amqp_c.specs.Fields.{deep_at};
 ghost use Rattle.amqp_fields.specs.Frames.{payload_limit};
 
 use crate::fields::deep_at;
-use crate::statuses::{BAD_ARGUMENT, BUFFER_TOO_SMALL};
+use crate::statuses::{BAD_ARGUMENT, BUFFER_TOO_SMALL, decoding_error};
 use amqp_fields::{FramesEnd, FramesRead, Head, Node, read_frames};
 use amqp_stream::StreamError;
-use amqp_types::ParserError;
 
 /// How many frames are given, and what comes after them. In C it has 32 bytes and no padding.
 #[repr(C)]
@@ -36,26 +35,6 @@ pub struct FrameBatch {
     pub unused: u32,
 }
 
-/// The error of a stream for a fault of a frame.
-pub(crate) fn frame_error(error: ParserError) -> StreamError
-    ensures { result ≡ frame_error error }
-{
-    match error {
-        ParserError::Incomplete => StreamError::CutShort,
-        ParserError::UnknownFrameType => StreamError::UnknownFrameType,
-        ParserError::BadProtocolHeader => StreamError::BadProtocolHeader,
-        ParserError::BadFrameEnd => StreamError::BadFrameEnd,
-        ParserError::UnknownClass => StreamError::UnknownClass,
-        ParserError::UnknownMethod => StreamError::UnknownMethod,
-        ParserError::ShortPayload => StreamError::ShortPayload,
-        ParserError::TrailingBytes => StreamError::TrailingBytes,
-        ParserError::NotUtf8 => StreamError::NotUtf8,
-        ParserError::UnknownTag => StreamError::UnknownTag,
-        ParserError::TooDeep => StreamError::TooDeep,
-        ParserError::NoMemory => StreamError::NoMemory,
-    }
-}
-
 /// The status of what comes after the frames.
 fn end_status(end: FramesEnd) -> u32
     ensures { result ≡ end_status end }
@@ -64,7 +43,7 @@ fn end_status(end: FramesEnd) -> u32
         FramesEnd::Done => 0,
         FramesEnd::Incomplete { .. } => StreamError::CutShort.status() as u32,
         FramesEnd::TooLarge => StreamError::TooLarge.status() as u32,
-        FramesEnd::Fault(error) => frame_error(error).status() as u32,
+        FramesEnd::Fault(error) => decoding_error(error).status() as u32,
         FramesEnd::Full { .. } => BUFFER_TOO_SMALL as u32,
     }
 }

@@ -11,7 +11,7 @@ ghost use Rattle.amqp_lines.specs.OneLine.{IsStrictWithin};
 ghost use Rattle.amqp_lines.specs.Undumping.{HoldsNewline};
 ghost use Rattle.amqp_c.specs.FrameLines.{AppendsFront, Converts, DumpedAt};
 ghost use Rattle.amqp_c.specs.FrameLines.{IsNoFront, RefusesLine, nothing_with};
-ghost use Rattle.amqp_c.specs.Statuses.{bad_text, incomplete, out_of_memory};
+ghost use Rattle.amqp_c.specs.Statuses.{bad_text, cut_short, out_of_memory};
 
 use crate::next::{frame_at, scan};
 use crate::statuses::{BAD_TEXT, BUFFER_TOO_SMALL};
@@ -122,7 +122,7 @@ pub extern "C" fn feksroum_undump(
     ensures none { HoldsNewline text.now
         → IsNoFront max_payload text.now → result.status ≢ out_of_memory
         → RefusesLine bad_text out.old out.new result }
-    ensures incomplete { HasNoNewline text.now → RefusesLine incomplete out.old out.new result }
+    ensures cut_short { HasNoNewline text.now → RefusesLine cut_short out.old out.new result }
     ensures memory { result.status ≡ out_of_memory
         → RefusesLine out_of_memory out.old out.new result }
 {

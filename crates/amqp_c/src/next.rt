@@ -6,7 +6,7 @@ ghost use Rattle.amqp_wire.specs.Frames.{Raw, raw_of};
 ghost use Rattle.amqp_wire.specs.Looks.{laid_out};
 ghost use Rattle.amqp_wire.specs.HeaderScan.{scan};
 ghost use Rattle.amqp_c.specs.Scans.{Locates, Scans, judged_status, nowhere};
-ghost use Rattle.amqp_c.specs.Statuses.{incomplete};
+ghost use Rattle.amqp_c.specs.Statuses.{cut_short};
 
 use crate::frame_types::byte_of_type;
 use amqp_fields::least_length;
@@ -98,8 +98,8 @@ fn nowhere(status: u8, needed: u64) -> FrontFrame
 pub extern "C" fn feksroum_next(bytes: &[u8], max_payload: u32) -> FrontFrame
     ensures status { result.status ≡ judged_status (scan (Some max_payload) bytes.now) }
     ensures frame { Locates bytes.now (scan (Some max_payload) bytes.now) result }
-    ensures more { result.status ≡ incomplete → length bytes.now < result.needed }
-    ensures least { (rest : List ℕ) (raw : Raw) (used : ℕ) → result.status ≡ incomplete
+    ensures more { result.status ≡ cut_short → length bytes.now < result.needed }
+    ensures least { (rest : List ℕ) (raw : Raw) (used : ℕ) → result.status ≡ cut_short
         → scan (Some max_payload) (bytes.now ++ rest) ≡ took raw used → result.needed ≤ used }
     ensures limited { result.needed ≤ max_payload + 8 }
 {

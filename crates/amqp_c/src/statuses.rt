@@ -2,10 +2,10 @@
 
 ghost use Rattle.std.specs.Prelude.{◌≡◌, None};
 ghost use Rattle.amqp_c.specs.Statuses.{WritesName, call_error_at};
-ghost use Rattle.amqp_c.specs.Statuses.{call_error_name, call_error_status};
+ghost use Rattle.amqp_c.specs.Statuses.{call_error_name, call_error_status, decoding_error};
 
 use amqp_stream::StreamError;
-use amqp_types::put_bytes;
+use amqp_types::{ParserError, put_bytes};
 
 /// A frame may not come next on its channel.
 pub const BAD_CONTENT: u8 = 24;
@@ -48,6 +48,26 @@ pub enum CallError {
 
     /// A short string to be written is longer than 255 bytes.
     TooLong,
+}
+
+/// The error of a stream for one of a frame, or of what stands in a table or an array.
+pub(crate) fn decoding_error(error: ParserError) -> StreamError
+    ensures { result ≡ decoding_error error }
+{
+    match error {
+        ParserError::Incomplete => StreamError::CutShort,
+        ParserError::UnknownFrameType => StreamError::UnknownFrameType,
+        ParserError::BadProtocolHeader => StreamError::BadProtocolHeader,
+        ParserError::BadFrameEnd => StreamError::BadFrameEnd,
+        ParserError::UnknownClass => StreamError::UnknownClass,
+        ParserError::UnknownMethod => StreamError::UnknownMethod,
+        ParserError::ShortPayload => StreamError::ShortPayload,
+        ParserError::TrailingBytes => StreamError::TrailingBytes,
+        ParserError::NotUtf8 => StreamError::NotUtf8,
+        ParserError::UnknownTag => StreamError::UnknownTag,
+        ParserError::TooDeep => StreamError::TooDeep,
+        ParserError::NoMemory => StreamError::NoMemory,
+    }
 }
 
 /// The variant's name.

@@ -14,8 +14,7 @@ ghost use Rattle.amqp_c.specs.Making.{all_written, content_made};
 ghost use Rattle.amqp_c.specs.Making.{node_number, not_written};
 ghost use Rattle.amqp_c.specs.Making.{refusal_status, report_of};
 
-use crate::frames::frame_error;
-use crate::statuses::{BAD_ARGUMENT, BUFFER_TOO_SMALL, TOO_LONG};
+use crate::statuses::{BAD_ARGUMENT, BUFFER_TOO_SMALL, TOO_LONG, decoding_error};
 use amqp_fields::{Head, Node};
 use amqp_fields_write::{WriteError, WriteRefusal, write_entries, write_frames, write_values};
 use amqp_stream::StreamError;
@@ -81,7 +80,7 @@ fn refusal_status(why: WriteRefusal) -> u8
 {
     match why {
         WriteRefusal::BadArgument => BAD_ARGUMENT,
-        WriteRefusal::Payload(error) => frame_error(error).status(),
+        WriteRefusal::Payload(error) => decoding_error(error).status(),
         WriteRefusal::TooLong => TOO_LONG,
         WriteRefusal::TooLarge => StreamError::TooLarge.status(),
     }

@@ -30,3 +30,4 @@ pub mod PayloadParts
 pub mod GivenParts
 pub mod NoLonger
 pub mod EqualJudgements
+pub mod Ends

@@ -4,6 +4,7 @@
 
 mod ascii;
 mod equality;
+mod few;
 mod headers;
 mod laws;
 mod leads;
@@ -24,6 +25,7 @@ mod writing_laws;
 
 pub use ascii::{eights_are_ascii, fours_are_ascii, sixteens_are_ascii};
 pub use equality::{equal_forms, equal_judgements, equal_slots, equal_value_judgements};
+pub use few::{put_ends, put_few};
 pub use headers::{has_bit, judge_content_header};
 pub use laws::{
     canonical_content_headers_are_strict, canonical_payloads_are_strict,

@@ -11,8 +11,8 @@ use Rattle.amqp_turns.specs.Stands.{kept_at}
 use Rattle.amqp_turns.specs.Outcomes.{OutcomeView, passed, Kept, Assembling, Pushes}
 use Rattle.amqp_turns.specs.Sequences.{AreGiven}
 use Rattle.amqp_turns.proofs.Apart.{AllStand, stands-push, is_given, given-push}
-use Rattle.amqp_content.specs.declared.outcome.Outcome.{Outcome}
-use Rattle.amqp_content.specs.declared.outcome.Outcome.TheVariants as given_as
+use Rattle.amqp_messages.specs.declared.outcome.Outcome.{Outcome}
+use Rattle.amqp_messages.specs.declared.outcome.Outcome.TheVariants as given_as
 use Rattle.amqp_content.specs.Outcomes.{outcome_of}
 
 -- no frames give no outcomes

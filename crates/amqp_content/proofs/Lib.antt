@@ -3,5 +3,4 @@ pub mod Telling
 pub mod SplitAndBack
 pub mod Apart
 pub mod Entries
-pub mod EqualOutcomes
 pub mod Counting

@@ -12,8 +12,8 @@ use Rattle.amqp_turns.specs.Outcomes.{Kept, message, fault, Assembling, TakesMar
 use Rattle.amqp_turns.specs.Units.{is_content}
 use Rattle.amqp_wire.specs.Outlines.{outline_of}
 use Rattle.amqp_content.specs.Outcomes.{outcome_of}
-use Rattle.amqp_content.specs.declared.outcome.Outcome.{Outcome}
-use Rattle.amqp_content.specs.declared.outcome.Outcome.TheVariants as outcomes
+use Rattle.amqp_messages.specs.declared.outcome.Outcome.{Outcome}
+use Rattle.amqp_messages.specs.declared.outcome.Outcome.TheVariants as outcomes
 use Rattle.amqp_content.specs.declared.bounded.Taken.{Taken}
 use Rattle.amqp_content.specs.declared.bounded.Taken.TheVariants as takens
 

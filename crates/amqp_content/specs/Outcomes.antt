@@ -1,5 +1,4 @@
--- What an assembler gives for typed frames, and what it holds of a channel. What speaks of no typed
--- frame is passed on.
+-- What an assembler holds of a channel. What it gives for frames is passed on.
 use Rattle.std.specs.Prelude.{ℕ, Some, None}
 pub use Rattle.amqp_turns.specs.Outcomes.{OutcomeView, passed, held, done, wrong, answer_outcome}
 pub use Rattle.amqp_turns.specs.Outcomes.{Kept, message, fault, begun_kept, kept_of}
@@ -8,19 +7,11 @@ pub use Rattle.amqp_turns.specs.Outcomes.{PushesIn, progress_kept, kept_progress
 pub use Rattle.amqp_turns.specs.Outcomes.{with_bytes, IsHeaded, IsHeadedThere, whole_kept}
 pub use Rattle.amqp_turns.specs.Outcomes.{marked_outcome, kept_marked, mark_kept, TakesFrame}
 pub use Rattle.amqp_turns.specs.Outcomes.{IsMessage, TakesIn, TakesMarked}
-use Rattle.amqp_frame.specs.Frames.{frame_of, header_of}
-use Rattle.amqp_messages.specs.Messages.{content_of, opening_method}
-use Rattle.amqp_content.specs.declared.outcome.Outcome.{Outcome}
-use Rattle.amqp_content.specs.declared.outcome.Outcome.TheVariants as outcomes
+pub use Rattle.amqp_messages.specs.Outcomes.{outcome_of}
+use Rattle.amqp_frame.specs.Frames.{header_of}
+use Rattle.amqp_messages.specs.Messages.{opening_method}
 use Rattle.amqp_content.specs.declared.pending.Pending.{Pending}
 use Rattle.amqp_content.specs.declared.pending.Pending.TheVariants as pendings
-
--- an outcome in these words
-abbrev pub outcome_of : Outcome → OutcomeView
-outcome_of (outcomes.Passed frame) = passed (frame_of frame)
-outcome_of outcomes.Held = held
-outcome_of (outcomes.Done whole) = done (content_of whole)
-outcome_of (outcomes.Fault bad) = wrong bad
 
 -- what an assembler holds of a channel, in these words
 abbrev pub pending_kept : Pending → Kept

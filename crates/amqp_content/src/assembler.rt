@@ -15,10 +15,9 @@ ghost use Rattle.amqp_content.specs.Memory.{NeedsMemory};
 ghost use Rattle.amqp_content.specs.Bounds.{adds, body_bytes};
 ghost use Rattle.amqp_turns.specs.Steps.{mark_after, method_mark};
 
-use crate::outcome::Outcome;
 use crate::pending::Pending;
 use amqp_frame::{AMQPContentHeader, AMQPFrame, FrameOutline, release};
-use amqp_messages::Opening;
+use amqp_messages::{Opening, Outcome};
 use amqp_protocol::AMQPClass;
 use amqp_turns::{Channels, ContentFault, Mark, Progress, step};
 use amqp_types::{ByteArray, ChannelId, NoMemory};
@@ -142,6 +141,7 @@ impl Assembler {
         ensures max_body { self.new.max_body ≡ self.old.max_body }
     {
         let Some(pending) = self.channels.get_mut(channel_id) else {
+            release(AMQPFrame::Header(channel_id, header));
             return;
         };
         pending.set_header(header);
@@ -305,7 +305,10 @@ impl Assembler {
             body_size: header.body_size,
         };
         match self.mark(channel_id, outline) {
-            Mark::Fault(bad) => self.fail(channel_id, bad),
+            Mark::Fault(bad) => {
+                release(AMQPFrame::Header(channel_id, header));
+                self.fail(channel_id, bad)
+            }
             _ => Ok(self.take_header(channel_id, header)),
         }
     }

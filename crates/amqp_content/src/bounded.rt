@@ -4,8 +4,8 @@ ghost use Rattle.std.specs.Prelude.{◌≡◌, ◌<◌, ◌^◌};
 ghost use Rattle.amqp_content.specs.Bounds.{open_bytes};
 
 use crate::assembler::Assembler;
-use crate::outcome::Outcome;
 use amqp_frame::AMQPFrame;
+use amqp_messages::Outcome;
 use amqp_types::{ChannelId, NoMemory};
 use std::alloc::Global;
 use std::marker::Model;

@@ -5,12 +5,12 @@
 mod assembler;
 mod assembling;
 mod bounded;
-mod equality;
 mod laws;
-mod outcome;
 mod pending;
 
-pub use amqp_messages::{Message, Opening, equal_messages, equal_openings, split};
+pub use amqp_messages::{
+    Message, Opening, Outcome, equal_messages, equal_openings, equal_outcomes, split,
+};
 pub use amqp_turns::{
     Channels, ContentFault, Mark, Progress, Tracker, answers_are_steps, channels,
     channels_are_answered, channels_are_apart, equal_content_faults, equal_marks, equal_progress,
@@ -20,6 +20,4 @@ pub use amqp_types::NoMemory;
 pub use assembler::Assembler;
 pub use assembling::assemble;
 pub use bounded::{BoundedAssembler, Taken};
-pub use equality::equal_outcomes;
 pub use laws::{interleaved_are_whole, splits_are_whole, taken_is_answered};
-pub use outcome::Outcome;

@@ -6,9 +6,8 @@ ghost use Rattle.amqp_content.specs.Outcomes.{pending_kept, progress_kept, with_
 ghost use Rattle.amqp_content.specs.Outcomes.{IsHeaded, outcome_of, whole_kept};
 ghost use Rattle.amqp_content.specs.Bounds.{body_bytes};
 
-use crate::outcome::Outcome;
 use amqp_frame::AMQPContentHeader;
-use amqp_messages::{Message, Opening};
+use amqp_messages::{Message, Opening, Outcome};
 use amqp_turns::Progress;
 use amqp_types::{ByteArray, ChannelId, NoMemory};
 

@@ -6,7 +6,6 @@ pub mod Finding
 pub mod Nesting
 pub mod Appended
 pub mod Room
-pub mod Ends
 pub mod KeysInOrder
 pub mod PlainValues
 pub mod Sizes

@@ -1,15 +1,13 @@
-//! Short texts, which are tested and put by words.
+//! Short texts, which are tested by words.
 
-ghost use Rattle.std.specs.Prelude.{◌≡◌, ◌≤◌, ◌+◌, ◌*◌, ◌^◌, IfOk, IsTrue, length};
+ghost use Rattle.std.specs.Prelude.{◌≡◌, ◌≤◌, ◌^◌, IfOk, IsTrue, length};
 ghost use Rattle.std.specs.Str.{IsAscii, is_utf8};
 ghost use Rattle.amqp_types.specs.Strings.{short_string_bytes};
-ghost use Rattle.amqp_types.specs.Writing.{Puts};
 ghost use Rattle.amqp_entries.specs.Flaws.{size_or, text_flaw};
 ghost use Rattle.amqp_entries.specs.Sizes.{IsSize};
 
 use crate::errors::PutError;
 use amqp_canonical::{eights_are_ascii, fours_are_ascii, is_text, sixteens_are_ascii};
-use amqp_types::put_bytes;
 
 /// Whether few bytes are ASCII; false for many. Most texts have eight to sixteen bytes, which are tested first.
 #[inline(always)]
@@ -152,51 +150,4 @@ pub fn text_size(text: &[u8]) -> Result<usize, PutError>
         return Err(PutError::TooLong);
     }
     Err(PutError::NotUtf8)
-}
-
-/// Puts bytes by the first and the last N of them, which may overlap.
-#[inline(always)]
-pub(crate) fn put_ends<const N: usize>(buf: &mut [u8], at: usize, bytes: &[u8]) -> usize
-    requires many { N ≤ length bytes.now }
-    requires few { length bytes.now ≤ 2 * N }
-    requires room { at + length bytes.now ≤ length buf.old }
-    ensures { Puts buf.old buf.new at bytes.now result }
-{
-    let size = bytes.len();
-    let mut first = [0u8; N];
-    let mut last = [0u8; N];
-    first.copy_from_slice(&bytes[..N]);
-    last.copy_from_slice(&bytes[size - N..]);
-    put_bytes(buf, at, &first);
-    put_bytes(buf, at + size - N, &last)
-}
-
-/// Puts bytes at a place of a slice. Apart, since most texts have four to sixteen.
-#[inline(never)]
-fn put_any(buf: &mut [u8], at: usize, bytes: &[u8]) -> usize
-    requires room { at + length bytes.now ≤ length buf.old }
-    ensures { Puts buf.old buf.new at bytes.now result }
-{
-    let n = bytes.len();
-    if 16 <= n && n <= 32 {
-        return put_ends::<16>(buf, at, bytes);
-    }
-    put_bytes(buf, at, bytes)
-}
-
-/// Puts bytes at a place of a slice, and returns the place after them, in fewer instructions than `put_bytes` where they
-/// are four to sixteen, most of all from eight on.
-#[inline(always)]
-pub fn put_few(buf: &mut [u8], at: usize, bytes: &[u8]) -> usize
-    requires room { at + length bytes.now ≤ length buf.old }
-    ensures { Puts buf.old buf.new at bytes.now result }
-{
-    let n = bytes.len();
-    if 8 <= n && n <= 16 {
-        return put_ends::<8>(buf, at, bytes);
-    }
-    if 4 <= n && n <= 8 {
-        return put_ends::<4>(buf, at, bytes);
-    }
-    put_any(buf, at, bytes)
 }

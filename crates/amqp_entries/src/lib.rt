@@ -16,7 +16,7 @@ mod values;
 
 pub use appending::{append_entry, append_value};
 pub use errors::PutError;
-pub use few::{called_text_size, is_short_text, put_few, text_size};
+pub use few::{called_text_size, is_short_text, text_size};
 pub use laws::{appended_in_order_is_canonical, appended_is_decoded};
 pub use nested::{ArrayValue, TableValue};
 pub use puts::{called_put_text, put_counted, put_text};

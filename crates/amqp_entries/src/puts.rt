@@ -4,7 +4,7 @@ ghost use Rattle.std.specs.Prelude.{◌≤◌, ◌<◌, ◌+◌, ◌*◌, ◌^�
 ghost use Rattle.amqp_types.specs.Strings.{short_string_bytes, with_length};
 ghost use Rattle.amqp_types.specs.Writing.{Puts};
 
-use crate::few::{put_ends, put_few};
+use amqp_canonical::{put_ends, put_few};
 use amqp_types::{put_bytes, put_long_uint};
 
 /// Puts a short string, its length first.

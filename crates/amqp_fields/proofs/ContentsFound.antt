@@ -1,8 +1,9 @@
 -- The nodes of the content of a table or an array that stands alone: those of its entries or values, at most one a byte.
-use Rattle.std.proofs.Common.{◌≡◌, ℕ, ◌-◌, ◌<◌, ◌≤◌, ◌^◌, List, length, Result, Ok, Err, refl, sym, subst, ◌∙◌, arith}
+use Rattle.std.proofs.Common.{◌≡◌, ℕ, ◌-◌, ◌<◌, ◌≤◌, ◌^◌, Bool, List, length, Result, Ok, Err, refl, sym, subst, ◌∙◌, arith}
 use Rattle.amqp_fields.proofs.Names.{Fault, inner_depth, filled, judge_entry, judge_value, IsFilled, Node, Filled, ListsAll, entries_nodes, joined}
 use Rattle.amqp_fields.proofs.Names.{listed_entry, listed_value, nodes_in, values_nodes, AreNodes, MeansElement, MeansEntry, MeansValue, blank, LieIn}
 use Rattle.amqp_types.specs.Values.{Entry, FieldValue}
+use Rattle.amqp_canonical.specs.Judgements.{Fills}
 use Rattle.amqp_fields.specs.Contents.{entries_in, values_in}
 use Rattle.amqp_fields.specs.Reading.{NeedsMore, StandInFront}
 use Rattle.amqp_fields.proofs.Agreeing.{AgreeAll}
@@ -12,6 +13,11 @@ use Rattle.amqp_fields.proofs.Lying.{none_lie}
 use Rattle.amqp_fields.proofs.ValuesFound.{entry_found, item_found, value_found}
 
 -- ---- what fills some bytes
+
+-- items that are judged fill the bytes
+pub judged_fills : {A : Type 0} {IsCanonical : List ℕ → List A → Type 0} {canonical : Bool} {bytes : List ℕ} {read : Result (List A) Fault}
+    → Fills IsCanonical canonical bytes read → IsFilled read
+judged_fills h = rw h.is tt
 
 things_of : {A : Type 0} (read : Result (List A) Fault) → IsFilled read → (xs : List A) × (read ≡ Ok xs)
 things_of (Ok xs) h = (xs, refl)

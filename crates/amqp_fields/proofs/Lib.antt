@@ -17,6 +17,5 @@ pub mod Counted
 pub mod SlotSteps
 pub mod TopBits
 pub mod SpansLie
-pub mod Filling
 pub mod ContentsFound
 pub mod EqualNodes

@@ -8,7 +8,7 @@ pub use Rattle.amqp_types.specs.Numbers.{NumberWidth, bytes1, bytes2, bytes4, by
 unfoldable pub use Rattle.amqp_types.specs.Strings.{judge_short_string, judge_long_string}
 pub use Rattle.amqp_types.specs.Flags.{bit_of, flags_from, flag_at}
 unfoldable pub use Rattle.amqp_types.specs.Flags.{judge_flags}
-pub use Rattle.amqp_types.specs.ValueJudging.{read_map, took_all, behind_tag, judge_field_table, next_item, inside_error}
+pub use Rattle.amqp_types.specs.ValueJudging.{read_map, took_all, behind_tag, judge_field_table, next_item}
 unfoldable pub use Rattle.amqp_types.specs.ValueJudging.{filled, judge_array, judge_behind, judge_decimal, judge_entry, judge_table, judge_tagged, judge_value}
 unfoldable pub use Rattle.amqp_types.specs.ValueJudging.{nested}
 pub use Rattle.amqp_types.specs.Settling.{settled, value_at}

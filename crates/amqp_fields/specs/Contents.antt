@@ -1,28 +1,16 @@
 -- What reading the content of a table or an array returns, where it stands alone.
-use Rattle.std.specs.Prelude.{◌≡◌, ℕ, List, Result, Ok, Err}
-use Rattle.amqp_types.specs.Judging.{Fault, Judged, took}
-use Rattle.amqp_types.specs.Answers.{Refuses, RefusesWhole}
+use Rattle.std.specs.Prelude.{ℕ, List, Result}
+use Rattle.amqp_types.specs.Judging.{Fault}
+use Rattle.amqp_types.specs.Answers.{RefusesWhole}
 use Rattle.amqp_types.specs.ValueJudging.{filled, judge_entry, judge_value}
 use Rattle.amqp_types.specs.Constants.{inner_depth}
 use Rattle.amqp_types.specs.Values.{Entry, FieldValue}
-use Rattle.amqp_types.specs.declared.errors.ParserError.{ParserError}
 use Rattle.amqp_canonical.specs.Judgements.{MayRefuse}
 use Rattle.amqp_canonical.specs.Writes.{IsFilled}
 use Rattle.amqp_fields.specs.declared.node.Node.{Node}
 use Rattle.amqp_fields.specs.declared.reading.FieldsError.{FieldsError}
 use Rattle.amqp_fields.specs.declared.reading.FieldsError.TheVariants as errors
 use Rattle.amqp_fields.specs.Reading.{NeedsMore}
-
--- something is decoded from so many bytes, or its fault is said
-abbrev pub UsesOrFails : {A : Type 0} → Result ℕ ParserError → Judged A → Type 0
-UsesOrFails {A} (Ok n) judged = (x : A) × (judged ≡ took x n)
-UsesOrFails (Err error) judged = MayRefuse error × Refuses error judged
-
--- things fill the bytes, or the fault is said
-abbrev pub FillsOrFails : {A : Type 0}
-    → Result (Unit {0}) ParserError → Result (List A) Fault → Type 0
-FillsOrFails (Ok done) read = IsFilled read
-FillsOrFails (Err error) read = MayRefuse error × RefusesWhole error read
 
 -- the entries that fill a table, in whose values tables and arrays may nest 63 deep
 abbrev pub entries_in : List ℕ → Result (List Entry) Fault

@@ -16,7 +16,7 @@ mod payloads;
 mod reading;
 mod values;
 
-pub use contents::{judge_entries, judge_values, read_entries, read_values};
+pub use contents::{read_entries, read_values};
 pub use counting::count_fields;
 pub use equality::{
     equal_fields_errors, equal_fields_read, equal_frames_ends, equal_frames_read, equal_heads,

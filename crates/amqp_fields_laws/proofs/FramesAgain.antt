@@ -30,7 +30,7 @@ use reading.Meaning.{IsSpan}
 use writing.Meant.{TellsFrame}
 use Rattle.amqp_fields.proofs.FramesGiven.{verdict_whole}
 use proofs.HeadsTold.{frame_told}
-use proofs.SameNodes.{same_length}
+use proofs.SameNodes.{each_length}
 use Rattle.amqp_fields_write.proofs.MeantFramesMade.{frame_fits}
 use Rattle.amqp_fields_write.proofs.Ordered.{plain_order}
 use Rattle.amqp_fields.proofs.Spans.{Stands}
@@ -103,7 +103,7 @@ module _ (m : ℕ) (deep : Bool) (pool : List ℕ) (fits : IsBytes pool) (nodes 
           class_is = refl;
           method_is = refl;
           body_size_is = refl;
-          nodes_are = same_length pool whole_bytes own others same.same;
+          nodes_are = each_length _ own others same.same;
           body_is = λ is.
               let content : payload ≡ read = body (body_kind kind is) in
               (sym (ap length content), read_span.bytes_are ∙ sym content ∙ sym span.bytes_are);

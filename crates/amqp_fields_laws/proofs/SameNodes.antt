@@ -35,7 +35,7 @@ use Rattle.amqp_fields_write.proofs.MeantValuesMade.{HoldsEntries, HoldsValues, 
 use types.declared.tag.FieldTag.TheVariants as tag
 use Rattle.amqp_laws.proofs.Strictly.{in_order}
 use Rattle.amqp_fields_write.specs.Canonical.{EntriesAscend, IsTableKind, KeysAscend}
-use specs.SameNodes.{HasInside, IsSameSpan, OneFrameHasSameNodes, SameNodes}
+use specs.SameNodes.{HasInside, IsSameNode, IsSameSpan, OneByOne, OneFrameHasSameNodes, SameNodes}
 
 -- ---- lists
 
@@ -276,24 +276,24 @@ pub read_meant : ReadNodesAreMeant
 read_meant deep pool bytes frame nodes pool_fits fits spelled h =
     fields_meant pool pool_fits deep (fields_of frame) nodes (frame_suits bytes frame fits spelled) h
 
+-- ---- lists
+
+module _ {A : Type 0} (R : A → A → Type 0) where
+  -- items that stand in a relation one by one, and then others that do
+  pub each_append : (xs ys more rest : List A) → OneByOne R xs ys → OneByOne R more rest → OneByOne R (xs ++ more) (ys ++ rest)
+  each_append [] [] more rest one two = two
+  each_append [] (y ∷ ys) more rest one two = absurd one
+  each_append (x ∷ xs) [] more rest one two = absurd one
+  each_append (x ∷ xs) (y ∷ ys) more rest one two = (one.0, each_append xs ys more rest one.1 two)
+
+  -- these are as many
+  pub each_length : (xs ys : List A) → OneByOne R xs ys → length xs ≡ length ys
+  each_length [] [] h = refl
+  each_length [] (y ∷ ys) h = absurd h
+  each_length (x ∷ xs) [] h = absurd h
+  each_length (x ∷ xs) (y ∷ ys) h = ap suc (each_length xs ys h.1)
+
 module _ (bytes others : List ℕ) where
-  -- ---- lists
-
-  -- nodes that say the same, and then others that do, say the same as a whole
-  pub same_append : (ns ms more rest : List Node) → SameNodes bytes others ns ms
-      → SameNodes bytes others more rest → SameNodes bytes others (ns ++ more) (ms ++ rest)
-  same_append [] [] more rest one two = two
-  same_append [] (b ∷ ms) more rest one two = absurd one
-  same_append (a ∷ ns) [] more rest one two = absurd one
-  same_append (a ∷ ns) (b ∷ ms) more rest one two = (one.0, same_append ns ms more rest one.1 two)
-
-  -- nodes that say the same are as many
-  pub same_length : (ns ms : List Node) → SameNodes bytes others ns ms → length ns ≡ length ms
-  same_length [] [] h = refl
-  same_length [] (b ∷ ms) h = absurd h
-  same_length (a ∷ ns) [] h = absurd h
-  same_length (a ∷ ns) (b ∷ ms) h = ap suc (same_length ns ms h.1)
-
   -- two nodes with those inside them say the same
   abbrev Same : Node → List Node → Node → List Node → Type 0
   Same a inside b within = SameNodes bytes others (a ∷ inside) (b ∷ within)
@@ -322,7 +322,8 @@ module _ (bytes others : List ℕ) where
         rise = group_part (EntriesAscend others) ms [] (g.node ∷ g.inside) g.others g.nodes_are rise;
       } in
       rw (h.nodes_are, g.nodes_are)
-      (same_append (h.node ∷ h.inside) (g.node ∷ g.inside) h.others g.others (one h.node h.inside g.node g.inside x beside h.means g.means)
+      (each_append (IsSameNode bytes others) (h.node ∷ h.inside) (g.node ∷ g.inside) h.others g.others
+      (one h.node h.inside g.node g.inside x beside h.means g.means)
       (each_same M N one xs h.others g.others h.rest g.rest (left bytes ns h.node h.inside h.others h.nodes_are ascend)
       (left others ms g.node g.inside g.others g.nodes_are rise)))
     where
@@ -355,7 +356,7 @@ module _ (bytes others : List ℕ) where
         place_is = place;
         number_is = number;
         scale_is = scale;
-        inside_is = beside.one ∙ same_length inside within same ∙ sym beside.two;
+        inside_is = beside.one ∙ each_length (IsSameNode bytes others) inside within same ∙ sym beside.two;
         items_are = items;
         key_is = key;
         span_is = span;

@@ -13,7 +13,7 @@ use Rattle.amqp_fields_write.specs.Made.{Maker, Made, after, made_long, made_num
 use reading.Meaning.{IsSpan}
 use reading.Nodes.{spanned, numbered}
 use specs.SameNodes.{IsSameNode, IsSameSpan, SameNodes}
-use Rattle.amqp_fields_laws.proofs.SameNodes.{same_append}
+use Rattle.amqp_fields_laws.proofs.SameNodes.{each_append}
 use Rattle.amqp_fields.proofs.Spans.{IsPart, Stands, part_stands, span_of, stands_drop, long_part, short_part}
 use Rattle.amqp_fields.proofs.ValuesFound.{IsFresh, Keeps}
 use Rattle.amqp_fields_write.proofs.Ordered.{span_fits, truth_at}
@@ -130,19 +130,12 @@ no_bytes pool other a b alike = (
 -- ---- lists
 
 module _ (pool other : List ℕ) where
-  -- spans of the same bytes, and then others
-  spans_append : (ns ms more rest : List Node) → SameSpans pool other ns ms → SameSpans pool other more rest → SameSpans pool other (ns ++ more) (ms ++ rest)
-  spans_append [] [] more rest one two = two
-  spans_append [] (b ∷ ms) more rest one two = absurd one
-  spans_append (a ∷ ns) [] more rest one two = absurd one
-  spans_append (a ∷ ns) (b ∷ ms) more rest one two = (one.0, spans_append ns ms more rest one.1 two)
-
   -- nodes that say the same, and then others that do
   pub both_same : {alone : Bool} (ns ms more rest : List Node) → AreSame alone pool other ns ms → AreSame alone pool other more rest
       → AreSame alone pool other (ns ++ more) (ms ++ rest)
   both_same ns ms more rest one two = record {
-    same = same_append pool other ns ms more rest one.same two.same;
-    spans = λ alone. spans_append ns ms more rest (one.spans alone) (two.spans alone);
+    same = each_append _ ns ms more rest one.same two.same;
+    spans = λ alone. each_append _ ns ms more rest (one.spans alone) (two.spans alone);
   }
 
   -- no nodes say the same as none

@@ -19,7 +19,7 @@ use reading.Meaning.{IsSpan}
 use reading.Nodes.{StandsFirst, held, spanned, blank, keyed}
 use Rattle.amqp_fields_laws.specs.SameNodes.{HasInside, SameNodes}
 use Rattle.amqp_fields_write.proofs.ValuesMade.{each_next, each_none, value_parts}
-use proofs.SameNodes.{same_append, same_length}
+use proofs.SameNodes.{each_append, each_length}
 use Rattle.amqp_fields.proofs.Spans.{Stands, long_part, part_stands, span_of, stands_drop, short_part}
 use Rattle.amqp_fields.proofs.ValuesFound.{IsFresh, Keeps, map_read, all_took, keeps_itself, map_took}
 use proofs.Twins.{long_made, span_made, IsMade, IsRound, stands_fit, decimal_round, eight_round, long_round, number_round, signed_round, text_made, truth_round}
@@ -113,7 +113,7 @@ module _ {A : Type 0} (judge : Judge A) (list : ℕ → Judge (List Node)) (make
                     filled_next (list e) whole one_twin.nodes (length one.made) (omega arith) one_twin.is item.some (omega arith)
                     ∙ rw (past_one, twins.is);
                 number = ap suc twins.number;
-                same = same_append pool other group one_twin.nodes (joined others.groups) (joined twins.more) one_twin.same.same twins.same;
+                same = each_append _ group one_twin.nodes (joined others.groups) (joined twins.more) one_twin.same.same twins.same;
               };
         }
 
@@ -209,7 +209,7 @@ module _ {A : Type 0} (pool : List ℕ) (fits : IsBytes pool) (judge : Judge A) 
                       place_is = alike.place;
                       number_is = alike.left.number ∙ sym alike.right.number;
                       scale_is = alike.left.scale ∙ sym alike.right.scale;
-                      inside_is = same_length pool other group (joined twins.more) twins.same;
+                      inside_is = each_length _ group (joined twins.more) twins.same;
                       items_are = sym twins.number;
                       key_is = alike.key;
                       span_is = λ no. absurd (no has_inside);

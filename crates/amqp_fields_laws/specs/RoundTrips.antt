@@ -1,12 +1,12 @@
 -- What was read is accepted by writing, and what was written is read again as the same nodes.
-use Rattle.std.specs.Prelude.{◌≡◌, ◌≤◌, ◌++◌, ℕ, Bool, false, List, [], ◌∷◌, length, Ok}
+use Rattle.std.specs.Prelude.{◌≡◌, ◌≤◌, ◌++◌, ℕ, Bool, false, List, length, Ok}
 use Rattle.amqp_types.specs.Constants.{body_byte}
 use Rattle.amqp_types.specs.Judging.{IsBytes}
 use Rattle.amqp_fields.specs.declared.head.Head.{Head}
 use Rattle.amqp_fields.specs.declared.node.Node.{Node}
 use Rattle.amqp_fields.specs.Heads.{SayFrames}
 use Rattle.amqp_fields_write.specs.MadeFrames.{made_frames}
-use Rattle.amqp_fields_laws.specs.SameNodes.{IsSameSpan, SameNodes}
+use Rattle.amqp_fields_laws.specs.SameNodes.{IsSameSpan, OneByOne, SameNodes}
 
 -- Heads and nodes are written at a limit, to no more than so many bytes.
 pub record IsAccepted (k : ℕ) (pool : List ℕ) (nodes : List Node)
@@ -26,11 +26,8 @@ ReadIsAccepted =
 
 -- the spans of some nodes are of the same bytes, one by one
 abbrev pub SameSpans : List ℕ → List ℕ → List Node → List Node → Type 0
-SameSpans bytes others [] [] = Unit {0}
-SameSpans bytes others [] (b ∷ more) = ⊥
-SameSpans bytes others (a ∷ nodes) [] = ⊥
-SameSpans bytes others (a ∷ nodes) (b ∷ more) =
-    IsSameSpan bytes a.start a.length others b.start b.length × SameSpans bytes others nodes more
+SameSpans bytes others =
+    OneByOne (λ (a b : Node). IsSameSpan bytes a.start a.length others b.start b.length)
 
 -- Two heads say the same but for where their payloads and nodes stand: a body has the same bytes.
 pub record IsSameHead (bytes others : List ℕ) (a b : Head) : Type 0 where
@@ -45,11 +42,7 @@ pub record IsSameHead (bytes others : List ℕ) (a b : Head) : Type 0 where
 
 -- some heads, one by one
 abbrev pub SameHeads : List ℕ → List ℕ → List Head → List Head → Type 0
-SameHeads bytes others [] [] = Unit {0}
-SameHeads bytes others [] (b ∷ more) = ⊥
-SameHeads bytes others (a ∷ heads) [] = ⊥
-SameHeads bytes others (a ∷ heads) (b ∷ more) =
-    IsSameHead bytes others a b × SameHeads bytes others heads more
+SameHeads bytes others = OneByOne (IsSameHead bytes others)
 
 -- What was made is read whole: the heads and nodes that reading gives say the same as those from
 -- which it was made, and are as many. Where tables were read alone, without their entries, the

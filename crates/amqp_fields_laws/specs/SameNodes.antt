@@ -31,13 +31,16 @@ pub record IsSameNode (bytes others : List ℕ) (a b : Node) : Type 0 where
   pub key_is : IsSameSpan bytes a.key_start a.key_length others b.key_start b.key_length
   pub span_is : (HasInside a.kind → ⊥) → IsSameSpan bytes a.start a.length others b.start b.length
 
+-- the items of two lists, of which there are as many, stand in a relation one by one
+abbrev pub OneByOne : {A : Type 0} → (A → A → Type 0) → List A → List A → Type 0
+OneByOne R [] [] = Unit {0}
+OneByOne R [] (y ∷ ys) = ⊥
+OneByOne R (x ∷ xs) [] = ⊥
+OneByOne R (x ∷ xs) (y ∷ ys) = R x y × OneByOne R xs ys
+
 -- some nodes, one by one
 abbrev pub SameNodes : List ℕ → List ℕ → List Node → List Node → Type 0
-SameNodes bytes others [] [] = Unit {0}
-SameNodes bytes others [] (b ∷ more) = ⊥
-SameNodes bytes others (a ∷ nodes) [] = ⊥
-SameNodes bytes others (a ∷ nodes) (b ∷ more) =
-    IsSameNode bytes others a b × SameNodes bytes others nodes more
+SameNodes bytes others = OneByOne (IsSameNode bytes others)
 
 -- Nodes of one frame, each read with all that lies inside it, say the same whatever bytes they were
 -- read from, where the keys of each table ascend.

@@ -7,7 +7,6 @@ pub mod FramesMade
 pub mod MadeOfParts
 pub mod SignedNumbers
 pub mod PropertiesMade
-pub mod Ends
 pub mod Quick
 pub mod QuickFrames
 pub mod Ordered

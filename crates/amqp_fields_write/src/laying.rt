@@ -8,9 +8,8 @@ ghost use Rattle.amqp_types.specs.Strings.{short_string_bytes};
 ghost use Rattle.amqp_fields_write.specs.Made.{made_if, made_long, made_span, made_text, span_in};
 ghost use Rattle.amqp_fields_write.specs.Quick.{Fronts, Lays, LaysBytes};
 
-use crate::few::{put_ends, put_few};
 use crate::parts::{has_room, plus, span};
-use amqp_canonical::{eights_are_ascii, fours_are_ascii, is_text};
+use amqp_canonical::{eights_are_ascii, fours_are_ascii, is_text, put_ends, put_few};
 use amqp_types::put_bytes;
 
 /// No place: what is to be made is refused, or has no room.

@@ -15,7 +15,8 @@ ghost use Rattle.amqp_fields_write.specs.Quick.{Lays, LaysUntil};
 use crate::laying::{NONE, Sink, lay, lay_if, lay_length, lay_long, lay_long_string, lay_text};
 use crate::node_groups::{first_group, index_of, own_index};
 use crate::parts::{has_room, is_signed, plus, span};
-use amqp_fields::{Node, judge_entries, judge_values};
+use amqp_canonical::{judge_entries, judge_values};
+use amqp_fields::Node;
 use amqp_types::FieldTag;
 
 /// The lowest byte of a number, where a test holds.

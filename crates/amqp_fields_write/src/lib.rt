@@ -2,7 +2,6 @@
 #![tactic(auto)]
 
 mod equality;
-mod few;
 mod laws;
 mod laying;
 mod laying_fields;

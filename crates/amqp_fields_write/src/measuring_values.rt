@@ -15,8 +15,8 @@ ghost use Rattle.amqp_fields_write.specs.Makes.{made_item, made_string};
 use crate::node_groups::{first_group, index_of, own_index};
 use crate::parts::{is_signed, plus, span};
 use crate::refusals::{Refusal, WriteRefusal};
-use amqp_canonical::is_text;
-use amqp_fields::{Node, judge_entries, judge_values};
+use amqp_canonical::{is_text, judge_entries, judge_values};
+use amqp_fields::Node;
 use amqp_types::{FieldTag, ParserError, long_long_held};
 
 /// So many bytes where a test holds; else the node is refused.
@@ -101,7 +101,7 @@ fn measure_given_entries(
 {
     let content = span(pool, node.start, node.length).ok_or(Refusal::bad(index))?;
     match judge_entries(content, depth_left) {
-        Ok(()) => measure_long(index, content.len()),
+        Ok(_) => measure_long(index, content.len()),
         Err(error) => Err(Refusal::payload(index, error)),
     }
 }
@@ -117,7 +117,7 @@ fn measure_given_values(
 {
     let content = span(pool, node.start, node.length).ok_or(Refusal::bad(index))?;
     match judge_values(content, depth_left) {
-        Ok(()) => measure_long(index, content.len()),
+        Ok(_) => measure_long(index, content.len()),
         Err(error) => Err(Refusal::payload(index, error)),
     }
 }

@@ -1,2 +1,3 @@
 -- The lemmas of amqp_messages.
 pub mod EqualMessages
+pub mod EqualOutcomes

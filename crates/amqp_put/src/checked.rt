@@ -4,7 +4,8 @@ ghost use Rattle.std.specs.Prelude.{◌≡◌, ◌<◌, true, length};
 ghost use Rattle.std.specs.Str.{is_utf8};
 
 use crate::slots::ToSlot;
-use amqp_entries::{PutError, is_short_text, put_few};
+use amqp_canonical::put_few;
+use amqp_entries::{PutError, is_short_text};
 use amqp_types::put_bytes;
 
 /// The text of a short string that was tested. It is written without a test.

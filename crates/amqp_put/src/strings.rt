@@ -8,7 +8,8 @@ ghost use Rattle.amqp_put.specs.Fields.{long_spells, text_spells};
 ghost use Rattle.amqp_entries.specs.Flaws.{text_flaw, long_flaw};
 
 use crate::slots::ToSlot;
-use amqp_entries::{PutError, put_few, text_size};
+use amqp_canonical::put_few;
+use amqp_entries::{PutError, text_size};
 use amqp_types::{put_bytes, put_long_uint};
 
 /// The text of a short string, which is tested. In C it is a pointer and a length.

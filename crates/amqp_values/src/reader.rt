@@ -240,7 +240,8 @@ macro_rules! in_variant {
     }};
 }
 
-/// What a call returns that copies a method, with the copy in its variant. No copy fails but for want of memory.
+/// The result of copying a method, with the copy in its variant. Any error of the copy becomes `NoMemory`, as copying a
+/// method fails only where memory runs out.
 #[macro_export]
 macro_rules! copied {
     ($copy:expr, $variant:path) => {

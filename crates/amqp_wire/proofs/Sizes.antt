@@ -10,10 +10,10 @@ use Rattle.amqp_types.specs.Writing.{written, Puts}
 use Rattle.amqp_types.specs.declared.errors.GenError.{GenError}
 use Rattle.amqp_types.specs.declared.errors.GenError.TheVariants as errors
 use Rattle.amqp_types.proofs.Puts.{puts_then, puts-length}
-use Rattle.amqp_types.specs.SlotBytes.{any_deep, any_long, form_bytes, slots_bytes, items_size}
+use Rattle.amqp_types.specs.SlotBytes.{any_deep, any_long, items_size}
 use Rattle.amqp_types.specs.Methods.{Method, payload_bytes, payload_size}
-use Rattle.amqp_types.specs.PropertyBytes.{any_deep_option, any_long_option, properties_bytes, properties_size}
-use Rattle.amqp_types.specs.ContentHeaders.{ContentHeader, header_slots, header_items, content_header_bytes, content_header_size}
+use Rattle.amqp_types.specs.PropertyBytes.{any_deep_option, any_long_option}
+use Rattle.amqp_types.specs.ContentHeaders.{ContentHeader, content_header_bytes, content_header_size}
 use Rattle.amqp_canonical.proofs.PutParts.{written_before}
 use Rattle.amqp_wire.specs.Frames.{Frame, Meth, Head, Body}
 use Rattle.amqp_wire.specs.Spelling.{head, framed}
@@ -106,19 +106,6 @@ method_size_is channel m = framed_size_is (any_deep m.items) (any_long m.items) 
 pub header_size_is : (channel : ℕ) (header : ContentHeader) → framed_size (content_header_size header) ≡ size_of (Head channel header)
 unfolding size_of canon content_header_size
 header_size_is channel header = framed_size_is (any_deep_option header.options) (any_long_option header.options) 2 channel (content_header_bytes header)
-
-start_counted : (deep long : Bool) (start rest : List ℕ) (n : ℕ) → length start ≡ 12
-    → measured deep long rest ≡ Ok n → measured deep long (start ++ rest) ≡ Ok (12 + n)
-start_counted true long start rest n twelve h = absurd cc
-start_counted false true start rest n twelve h = absurd cc
-start_counted false false start rest n twelve h = let same : length rest ≡ n = cc in ap Ok (omega (arith, length-append start rest, twelve, same))
-
--- the size of a content header by that of its properties
-pub header_counted : (header : ContentHeader) (n : ℕ) → properties_size header.options ≡ Ok n → content_header_size header ≡ Ok (12 + n)
-unfolding content_header_size content_header_bytes properties_size slots_bytes form_bytes header_slots
-header_counted header n h =
-    start_counted (any_deep_option header.options) (any_long_option header.options)
-    (slots_bytes header_slots (header_items header)) (properties_bytes header.options) n refl h
 
 -- where there is a size, it is the number of canonical bytes
 abbrev pub SizeIs : Result ℕ GenError → List ℕ → Type 0

@@ -1,4 +1,4 @@
--- `feksroum_undump`: clauses `line`, `none` and `incomplete`.
+-- `feksroum_undump`: clauses `line`, `none` and `cut_short`.
 use Rattle.std.proofs.Common.{◌++◌, List, ℕ, ap, ◌∙◌}
 use Rattle.amqp_lines.proofs.TextFronts.{holds_none}
 use Rattle.amqp_c.proofs.FrameLines.{clean_is_none, first_holds, front_is_line, front_is_none, undumped_front}
@@ -22,16 +22,16 @@ pub returns-in-Ok-clause-none : goal.returns-in-Ok-clause-none
 returns-in-Ok-clause-none c =
     λ holds none lasts. absurd (front_is_line c.args.max_payload c.args.text.now c.in-Ok.ensures.0 c.in-Some.end c.in-Ok.ensures.1 none)
 
-pub returns-in-Ok-clause-incomplete : goal.returns-in-Ok-clause-incomplete
-returns-in-Ok-clause-incomplete c = λ clean. absurd (first_holds c.args.text.now c.in-Some.end c.in-Some.ensures clean)
+pub returns-in-Ok-clause-cut_short : goal.returns-in-Ok-clause-cut_short
+returns-in-Ok-clause-cut_short c = λ clean. absurd (first_holds c.args.text.now c.in-Some.end c.in-Some.ensures clean)
 
 pub returns-in-Err-BadText-clause-line : goal.returns-in-Err-BadText-clause-line
 returns-in-Err-BadText-clause-line c = λ frame rest strict e lasts.
     let none = rw c.in-Err-BadText.field-0-is at c.in-Err-BadText.ensures in
     absurd (front_is_none c.args.max_payload c.args.text.now rest c.in-Some.end frame c.in-Some.ensures none.0 strict e)
 
-pub returns-in-Err-BadText-clause-incomplete : goal.returns-in-Err-BadText-clause-incomplete
-returns-in-Err-BadText-clause-incomplete c = λ clean. absurd (first_holds c.args.text.now c.in-Some.end c.in-Some.ensures clean)
+pub returns-in-Err-BadText-clause-cut_short : goal.returns-in-Err-BadText-clause-cut_short
+returns-in-Err-BadText-clause-cut_short c = λ clean. absurd (first_holds c.args.text.now c.in-Some.end c.in-Some.ensures clean)
 
-pub returns-clause-incomplete : goal.returns-clause-incomplete
-returns-clause-incomplete c = λ clean. absurd (first_holds c.args.text.now c.in-Some.end c.in-Some.ensures clean)
+pub returns-clause-cut_short : goal.returns-clause-cut_short
+returns-clause-cut_short c = λ clean. absurd (first_holds c.args.text.now c.in-Some.end c.in-Some.ensures clean)

@@ -1,33 +1,12 @@
--- `assemble`: what loops keep.
-use Rattle.std.proofs.Common.{sym, ◌∙◌, subst, map, List, [], ◌∷◌, ◌++◌}
+-- `assemble`: what it ensures.
+use Rattle.std.proofs.Common.{[], map, subst}
+use Rattle.std.specs.Prelude.{IfOk}
 use Rattle.amqp_frame.specs.Frames.{frame_of}
-use Rattle.amqp_content.specs.declared.outcome.Outcome.{Outcome}
 use Rattle.amqp_content.specs.Outcomes.{outcome_of}
 use Rattle.amqp_turns.specs.Sequences.{AreGiven}
-use Rattle.amqp_turns.proofs.Apart.{none_stand}
-use Rattle.amqp_content.proofs.Apart.{none_given, assembled_step}
-use Rattle.amqp_content.proofs.Telling.{taken}
 use Rattle.amqp_content.proofs.assembling.assemble.Goals as goal
 
-pub loop-frame-init : goal.loop-frame-init
-loop-frame-init c = record {
-  max = c.open-assembler.ensures.max_body;
-  stand = none_stand c.args.max_body c.open-assembler.result.channels c.open-assembler.ensures.channels;
-  given = none_given c.args.max_body c.new-outcomes.result.items c.new-outcomes.ensures.items;
-}
-
-pub loop-frame-preserved : goal.loop-frame-preserved
-loop-frame-preserved c =
-    let h = c.loop-frame.invariant in
-    let e = c.in_ok-push.ensures in
-    let next =
-    assembled_step c.args.max_body c.loop-frame.assembler c.push.new.self c.loop-frame.yielded
-    c.loop-frame.outcomes.items c.in-Some.frame c.in_ok-push.field-0 h.max h.stand h.given e.outside
-    (λ content. taken c.loop-frame.assembler c.push.new.self (frame_of c.in-Some.frame) (outcome_of c.in_ok-push.field-0) content e.takes) e.others in
-    record {
-      max = e.max_body ∙ h.max;
-      stand = next.stand;
-      given =
-          subst (λ (os : List Outcome). AreGiven c.args.max_body [] (map frame_of (c.loop-frame.yielded ++ c.in-Some.frame ∷ [])) (map outcome_of os))
-          (sym c.in_ok-push-2.ensures.items) next.given;
-    }
+pub returns : goal.returns
+returns c =
+    subst (λ max. IfOk c.push_all.result (λ outcomes. AreGiven max [] (map frame_of c.args.frames.items) (map outcome_of outcomes.items)))
+    c.open-assembler.ensures.max_body c.push_all.ensures

@@ -5,9 +5,9 @@ ghost use Rattle.amqp_types.specs.Writing.{Puts};
 
 use amqp_types::put_bytes;
 
-/// Puts bytes by the first and the last N of them, which may overlap.
+/// Puts bytes by the first and the last N of them, which may overlap, and returns the place after them.
 #[inline(always)]
-pub(crate) fn put_ends<const N: usize>(buf: &mut [u8], at: usize, bytes: &[u8]) -> usize
+pub fn put_ends<const N: usize>(buf: &mut [u8], at: usize, bytes: &[u8]) -> usize
     requires many { N ≤ length bytes.now }
     requires few { length bytes.now ≤ 2 * N }
     requires room { at + length bytes.now ≤ length buf.old }
@@ -38,7 +38,7 @@ fn put_many(buf: &mut [u8], at: usize, bytes: &[u8]) -> usize
 /// Puts bytes at a place of a slice, and returns the place after them, in fewer instructions than `put_bytes` where they
 /// are four to sixteen.
 #[inline(always)]
-pub(crate) fn put_few(buf: &mut [u8], at: usize, bytes: &[u8]) -> usize
+pub fn put_few(buf: &mut [u8], at: usize, bytes: &[u8]) -> usize
     requires room { at + length bytes.now ≤ length buf.old }
     ensures { Puts buf.old buf.new at bytes.now result }
 {

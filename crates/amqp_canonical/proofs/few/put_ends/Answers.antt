@@ -1,8 +1,9 @@
 -- `put_ends`: what is put by both ends.
-use Rattle.amqp_fields_write.proofs
-use proofs.Names.{rules, refl, subst, ◌∙◌, ◌-◌, ◌+◌, ℕ, List, length, take_rest, Puts}
-use proofs.Ends.{ends}
-use proofs.few.put_ends.Goals as goal
+use Rattle.std.proofs.Common.{rules, refl, subst, ◌∙◌, ◌-◌, ◌+◌, ℕ, List, length}
+use Rattle.std.proofs.lemmas.List.{take_rest}
+use Rattle.amqp_types.specs.Writing.{Puts}
+use Rattle.amqp_canonical.proofs.Ends.{ends}
+use Rattle.amqp_canonical.proofs.few.put_ends.Goals as goal
 
 pub returns : goal.returns
 returns g c =

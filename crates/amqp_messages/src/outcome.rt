@@ -2,8 +2,8 @@
 
 ghost use Rattle.std.specs.Prelude.{◌≡◌, IfOk};
 
+use crate::message::Message;
 use amqp_frame::AMQPFrame;
-use amqp_messages::Message;
 use amqp_turns::ContentFault;
 use amqp_types::NoMemory;
 use std::alloc::Global;

@@ -5,9 +5,9 @@ use Rattle.amqp_frame.proofs.EqualFrames.{same_frame}
 use Rattle.amqp_turns.specs.declared.fault.ContentFault.{ContentFault}
 use Rattle.amqp_turns.specs.contracts.fault.ContentFaultPartialEq.TheImpl as fault
 use Rattle.amqp_messages.proofs.EqualMessages.{same_message}
-use Rattle.amqp_content.specs.declared.outcome.Outcome.{Outcome}
-use Rattle.amqp_content.specs.declared.outcome.Outcome.TheVariants as outcomes
-use Rattle.amqp_content.specs.contracts.outcome.OutcomePartialEq.TheImpl as outcome
+use Rattle.amqp_messages.specs.declared.outcome.Outcome.{Outcome}
+use Rattle.amqp_messages.specs.declared.outcome.Outcome.TheVariants as outcomes
+use Rattle.amqp_messages.specs.contracts.outcome.OutcomePartialEq.TheImpl as outcome
 
 same_fault : (a b : ContentFault) → Decides (fault.ghosts.eq a b) (a ≡ b)
 same_fault a b = search rules
