@@ -1,12 +1,10 @@
 -- Bodies cut anew, by numbers.
-use Rattle.std.proofs.Common.{◌≡◌, ℕ, ◌+◌, ◌-◌, ◌*◌, ◌/◌, ◌%◌, ◌<◌, ◌≤◌, min, Bool, true, false, List, [], ◌∷◌, ◌++◌, length, map, take, drop, refl}
-use Rattle.std.proofs.Common.{sym, ap, ap₂, subst, ◌∙◌, arith}
+use Rattle.std.proofs.Common.{◌≡◌, ℕ, ◌+◌, ◌-◌, ◌*◌, ◌<◌, ◌≤◌, min, Bool, true, false, List, [], ◌∷◌, ◌++◌, length, map, take, drop, refl, sym, ap, ap₂, ◌∙◌}
+use Rattle.std.proofs.Common.{arith}
 use Rattle.std.specs.Prelude.{slice_get}
 use Rattle.std.specs.List.{flat_map}
-use Rattle.std.specs.Option.{option_map}
 use Rattle.std.proofs.Math.Seq.{take-length, take-append-add, drop-append-add}
 use Rattle.std.proofs.lemmas.List.{append_assoc, drop_all, length-append, length-drop, length-map, map-append, take_min}
-use Rattle.std.proofs.lemmas.Nat.{div-add-mod'}
 use Rattle.std.proofs.lemmas.Option.{slice_get-map, slice_get_past}
 use Rattle.amqp_wire.specs.Frames.{Body}
 use Rattle.amqp_turns.specs.Splits.{cut_count, pieces_given, frames_given, left_over}
@@ -22,30 +20,12 @@ module _ (size total : ℕ) (ends : Bool) (held body : List ℕ) (sum : length h
   total_is = length-append held body ∙ sum
 
   count_is : (channel : ℕ) → length (frames_given size channel ends (held ++ body)) ≡ cut_count size ends total
-  count_is channel =
-      length-map (pieces_given size ends (held ++ body)) (λ piece. Body channel piece)
-      ∙ length-chunks size (cut_count size ends (length (held ++ body))) (held ++ body)
-      ∙ ap (cut_count size ends) total_is
+  count_is channel = rw (length-map, length-chunks, total_is) refl
 
 -- The count of pieces and of bytes left, by numbers, is how held bytes and a body after them are cut.
 pub cut_is : (size total : ℕ) (ends : Bool) (held body : List ℕ) (cut : BodyCut) → length held + length body ≡ total
     → cut.pieces ≡ cut_count size ends total → cut.left ≡ left_count size ends total → cut.status ≡ 0 → IsCut size ends held body cut
-cut_is size total true held body cut sum pieces left status = record {
-  pieces = λ channel. count_is size total true held body sum channel ∙ sym pieces;
-  left = sym left;
-  last = sym (drop_all ((length held + length body) - cut.left) (held ++ body) (omega (arith, left, length-append held body)));
-  status = status;
-}
-cut_is size total false held body cut sum pieces left status =
-    let all = held ++ body in
-    record {
-      pieces = λ channel. count_is size total false held body sum channel ∙ sym pieces;
-      left =
-          length-drop ((length all / size) * size) all ∙ omega (arith, div-add-mod' (length all) size)
-          ∙ ap (λ n. n % size) (total_is size total false held body sum) ∙ sym left;
-      last = sym (left_is size cut.left held body (left ∙ ap (λ n. n % size) (sym sum)));
-      status = status;
-    }
+cut_is size total ends held body cut sum pieces left status = grind (arith, count_is, drop_all, length-append, total_is, length-drop, left_is)
 
 -- ---- which bytes
 
@@ -56,20 +36,11 @@ module _ (size total k channel : ℕ) (ends : Bool) (held body : List ℕ) (sum 
   -- Past the last piece of held bytes and a body there is none.
   pub no_piece_at : (piece : BodyPiece) → cut_count size ends total ≤ k → piece ≡ no_piece
       → IsPieceOf channel held body piece (slice_get (frames_given size channel ends (held ++ body)) k)
-  no_piece_at piece over is =
-      subst (IsPieceOf channel held body piece)
-      (sym (slice_get_past (frames_given size channel ends (held ++ body)) k (omega (arith, count_is size total ends held body sum channel, over)))) is
+  no_piece_at piece over is = grind (arith, slice_get_past, frames_given, count_is)
 
   piece_at : (piece : BodyPiece) → k < cut_count size ends total → take size (drop (k * size) (held ++ body)) ≡ piece_of piece held body
       → IsPieceOf channel held body piece (slice_get (frames_given size channel ends (held ++ body)) k)
-  piece_at piece less is =
-      let all = held ++ body in
-      let n = cut_count size ends (length all) in
-      let same : n ≡ cut_count size ends total = ap (cut_count size ends) (total_is size total ends held body sum) in
-      subst (IsPieceOf channel held body piece)
-      (sym (slice_get-map (λ bytes. Body channel bytes) (pieces_given size ends all) k
-      ∙ ap (option_map (λ bytes. Body channel bytes)) (chunk_at size n k all (omega (arith, same, less)))))
-      (ap (λ (bytes : List ℕ). Body channel bytes) is)
+  piece_at piece less is = grind (arith, total_is, slice_get-map, chunk_at)
 
   -- as many bytes of two parts as there are, from a place in the first
   taken_first : (count : ℕ) → length held < size → count ≡ min total size
@@ -116,10 +87,7 @@ module _ (size total k channel : ℕ) (ends : Bool) (held body : List ℕ) (sum 
 -- its bytes are bytes of the body
 pub later_within : (size total k start count n len : ℕ) (ends : Bool) → n < size → total ≡ n + len → 1 ≤ k
     → k < cut_count size ends total → start ≡ k * size - n → count ≡ min (total - k * size) size → start + count ≤ len
-later_within size total k start count n len ends less sum later some place is =
-    let most = at_least_once k size later in
-    let starts = piece_starts size total k ends (omega (arith, less)) some in
-    omega (arith, less, sum, most, starts, place, is)
+later_within size total k start count n len ends less sum later some place is = grind (arith, at_least_once, piece_starts)
 
 -- ---- a whole message
 

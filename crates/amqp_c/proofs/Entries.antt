@@ -1,9 +1,9 @@
 -- How many entries some bytes can hold.
-use Rattle.std.proofs.Common.{◌≡◌, ℕ, zero, suc, ◌+◌, ◌*◌, ◌<◌, ◌≤◌, List, [], ◌∷◌, length, drop, Option, Some, None, refl, sym, ap, ◌∙◌, arith}
+use Rattle.std.proofs.Common.{◌≡◌, ℕ, zero, suc, ◌*◌, ◌<◌, ◌≤◌, List, [], ◌∷◌, length, drop, Option, refl, sym, ap, ◌∙◌, arith}
 use Rattle.std.proofs.lemmas.List.{length-drop}
 use Rattle.amqp_types.specs.Judging.{Judge, took, IsBytes}
 use Rattle.amqp_types.specs.Values.{FieldValue}
-use Rattle.amqp_types.specs.ValueJudging.{behind_tag, filled, judge_behind, judge_entry, judge_tagged, judge_value, nested}
+use Rattle.amqp_types.specs.ValueJudging.{behind_tag, filled, judge_entry, judge_tagged, judge_value, nested}
 use Rattle.amqp_types.specs.Tags.{tag_at}
 use Rattle.amqp_types.specs.declared.tag.FieldTag.{FieldTag}
 use Rattle.amqp_types.proofs.Bytes.{IsBytes-drop}
@@ -14,10 +14,7 @@ use Rattle.amqp_canonical.proofs.ReadParts.{entry_parts, first_entry, is_read}
 -- a value has a tag
 behind_some : (inner : Option (Judge FieldValue)) (tag : Option FieldTag) (bytes : List ℕ) (v : FieldValue) (n : ℕ)
     → behind_tag inner tag bytes ≡ took v n → 0 < n
-behind_some inner None bytes v n h = absurd cc
-behind_some inner (Some t) bytes v n h =
-    let b = bind_took (judge_behind inner t bytes) _ v n h in
-    omega (arith, count_took b.0 v (1 + b.1) n b.3)
+behind_some inner tag bytes v n h = grind (arith, bind_took, count_took)
 
 value_some : (room : ℕ) (bytes : List ℕ) (v : FieldValue) (n : ℕ) → judge_value room bytes ≡ took v n → 0 < n
 unfolding judge_value judge_tagged

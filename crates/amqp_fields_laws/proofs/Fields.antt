@@ -25,21 +25,17 @@ use Rattle.amqp_laws.proofs.SlotForms.{forms_lawful}
 use Rattle.amqp_laws.proofs.SlotLaws.{both_true, constant_strict, form_is_plain, reserved_lawful}
 use Rattle.amqp_fields.specs.declared.node.Node.{Node}
 use Rattle.amqp_fields.specs.Nodes.{numbered}
-use Rattle.amqp_fields.specs.Listed.{kept_count, listed_bits, listed_entry, listed_form, listed_slot, listed_slots, listed_value, next_place, placed}
+use Rattle.amqp_fields.specs.Listed.{Lister, kept_count, listed_bits, listed_entry, listed_form, listed_slot, listed_slots, listed_value, next_place, placed}
 use Rattle.amqp_fields_write.specs.Made.{made_given, made_items, made_long, own_index}
 use Rattle.amqp_fields_write.specs.MadeFields.{flags_in, is_next, flags_made, group_size, is_field, is_flag, made_field, made_form, made_kept, made_plain}
 use Rattle.amqp_fields_write.specs.MadeFields.{made_slot, made_slots, node_count}
 use Rattle.amqp_fields.proofs.FieldsFound.{flags_length, spare}
 use Rattle.amqp_fields_write.proofs.MeantFieldsMade.{IsOne}
 use Rattle.amqp_fields.proofs.Spans.{Stands, stands_drop}
-use Rattle.amqp_fields.proofs.ValuesFound.{IsFresh, Keeps, map_took}
+use Rattle.amqp_fields.proofs.ValuesFound.{Keeps, both_took, map_took}
 use proofs.Values.{items_round, entry_round, table_content, value_round}
-use proofs.Twins.{long_round, number_round, same_number, short_round, span_made, AreSame, IsMade, IsRound, alike_itself, as_made, both_made, made_into}
-use proofs.Twins.{both_same, none_made, none_same, one_same, stands_fit}
-
--- a field that is not read yet is fresh
-pub fresh_field : (place : ℕ) (form : Form) → IsFresh (placed place form)
-fresh_field place form = record { inside = refl; items = refl; start = refl; count = refl; number = refl; scale = refl }
+use proofs.Twins.{long_round, number_round, short_round, stands_fit, AreSame, IsMade, IsRound, alike_itself, as_made, both_made, both_same, no_bytes}
+use proofs.Twins.{none_made, none_same, one_same}
 
 -- ---- one field
 
@@ -60,23 +56,18 @@ pub group_passed : (node : Node) (inside more : List Node) → node.inside ≡ l
 group_passed node inside more is =
     ap (λ k. drop k (node ∷ (inside ++ more))) {x = 1 + node.inside} {y = suc (length inside)} (omega (arith, is)) ∙ drop_at inside more (length inside) refl
 
-module _ (pool : List ℕ) (fits : IsBytes pool) where
-  -- The nodes of a field that is no flags make it, whatever nodes come after them.
-  pub record MakesField (place : ℕ) (form : Form) (nodes : List Node) (made : List ℕ) : Type 0 where
-    pub is : (end : ℕ) (more : List Node) → made_field pool end place form (nodes ++ more) ≡ Ok made
-    pub passed : (more : List Node) → drop (group_size (nodes ++ more)) (nodes ++ more) ≡ more
-    pub next : (at : ℕ) (more : List Node) → is_next at (nodes ++ more) ≡ (place == at)
+-- The nodes of a field that is no flags make it, whatever nodes come after them.
+pub record MakesField (pool : List ℕ) (place : ℕ) (form : Form) (nodes : List Node) (made : List ℕ) : Type 0 where
+  pub is : (end : ℕ) (more : List Node) → made_field pool end place form (nodes ++ more) ≡ Ok made
+  pub passed : (more : List Node) → drop (group_size (nodes ++ more)) (nodes ++ more) ≡ more
+  pub next : (at : ℕ) (more : List Node) → is_next at (nodes ++ more) ≡ (place == at)
 
-  -- a field of a form that was read is made, and is read again
-  abbrev pub IsField : Bool → ℕ → Form → Judged (List Node) → ℕ → ℕ → Type 0
-  IsField deep place form listed size used =
-      IsMade (not deep) pool (MakesField place form) listed (λ e bs. listed_form deep e place form bs) size used
-
+module _ {pool : List ℕ} (fits : IsBytes pool) where
   -- a field, by its node and those inside it
-  of_round : {alone : Bool} {listed : Judged (List Node)} {relisted : ℕ → Node → Judge (List Node)} {size used : ℕ} (place : ℕ) (form : Form)
-      → IsRound alone pool (Keeps (placed place form)) (made_form pool form) (placed place form) listed relisted size used
-      → IsMade alone pool (MakesField place form) listed (λ e. relisted e (placed place form)) size used
-  of_round place form round = as_made round (fresh_field place form) refl (record {
+  of_round : {alone : Bool} {list : Lister} {end used : ℕ} {bytes : List ℕ} (place : ℕ) (form : Form)
+      → IsRound alone pool (Keeps (placed place form)) (made_form pool form) list (placed place form) end bytes used
+      → IsMade alone pool (MakesField pool place form) (λ e. list e (placed place form)) end bytes used
+  of_round place form round = as_made round (search) refl (record {
     is = λ e more.
         field_made pool e place form round.node round.inside more round.inside_is round.keeps ∙ round.made_is (e - length more);
     passed = λ more. group_passed round.node round.inside more round.inside_is;
@@ -84,41 +75,28 @@ module _ (pool : List ℕ) (fits : IsBytes pool) where
   })
 
   -- each form but flags
-  pub form_round : (deep : Bool) (form : Form) → IsOne form → (end place : ℕ) (bytes : List ℕ) (items : List Item) (n : ℕ) → Stands pool end bytes
-      → judge_form form bytes ≡ took items n → IsField deep place form (listed_form deep end place form bytes) (length bytes) n
+  pub form_round : (deep : Bool) (form : Form) → IsOne form → {end : ℕ} (place : ℕ) {bytes : List ℕ} {items : List Item} {n : ℕ} → Stands pool end bytes
+      → judge_form form bytes ≡ took items n → IsMade (not deep) pool (MakesField pool place form) (λ e. listed_form deep e place form) end bytes n
   unfolding judge_form listed_form made_form made_plain made_items
-  form_round deep (flags_form count) one end place bytes items n stands h = absurd one
-  form_round deep (number_form width) one end place bytes items n stands h =
-      let form = number_form width in
-      let read = map_took (judge_number width) (λ x. number_item x ∷ []) bytes items n h in
-      of_round place form
-      (number_round _ pool bytes (stands_fit pool fits end bytes stands) _ _ (fresh_field place form) n width read.0 read.1 (λ e. refl))
-  form_round deep short_string_form one end place bytes items n stands h =
-      let form = short_string_form in
-      let read = map_took judge_short_string (λ x. text_item x ∷ []) bytes items n h in
-      of_round place form
-      (short_round _ pool bytes (stands_fit pool fits end bytes stands) end stands _ _ (fresh_field place form) read.0 n read.1 (λ at e. refl))
-  form_round deep long_string_form one end place bytes items n stands h =
-      let form = long_string_form in
+  form_round deep (flags_form count) one place stands h = absurd one
+  form_round deep (number_form width) one place stands h =
+      of_round place (number_form width) (number_round fits stands (search) width (λ x. number_item x ∷ []) h (λ e x. refl))
+  form_round deep short_string_form one place stands h =
+      of_round place short_string_form (short_round fits stands (search) (λ x. text_item x ∷ []) h (λ at e x. refl))
+  form_round deep long_string_form one place {bytes} {items} {n} stands h =
       let read = map_took judge_long_string (λ x. bytes_item x ∷ []) bytes items n h in
-      of_round place form
-      (long_round _ pool bytes (stands_fit pool fits end bytes stands) end stands _ _ (fresh_field place form) read.0 n read.1
-      (λ at e few span. span_made (made_long (own_index e [])) _ pool read.0 _ _ span))
-  form_round true table_form one end place bytes items n stands h =
-      let read = map_took judge_field_table (λ es. entries_item es ∷ []) bytes items n h in
-      let has = table_content (judge_value inner_depth) bytes read.0 n read.1 in
+      of_round place long_string_form (long_round fits stands (search) read.1 (λ e. made_long (own_index e [])) (λ at e. refl) (λ e. refl))
+  form_round true table_form one place {bytes} {items} {n} stands h =
+      let has = table_content (judge_value inner_depth) (λ es. entries_item es ∷ []) bytes n h in
       of_round place table_form
-      (items_round pool fits (judge_entry (judge_value inner_depth)) (listed_entry (listed_value inner_depth)) _
-      (entry_round pool fits inner_depth (value_round pool fits inner_depth)) bytes end n _ has.content has.things (fresh_field place table_form) (inl
-      (inl refl)) stands has.is has.fills)
-  form_round false table_form one end place bytes items n stands h =
-      let read = map_took judge_field_table (λ es. entries_item es ∷ []) bytes items n h in
-      let has = table_content (judge_value inner_depth) bytes read.0 n read.1 in
+      (items_round fits (judge_entry (judge_value inner_depth)) (listed_entry (listed_value inner_depth)) _
+      (entry_round fits inner_depth (value_round fits inner_depth)) has (search) (inl (inl refl)) stands)
+  form_round false table_form one place {bytes} {items} {n} stands h =
+      let has = table_content (judge_value inner_depth) (λ es. entries_item es ∷ []) bytes n h in
       let judge = judge_entry (judge_value inner_depth) in
       of_round place table_form
-      (long_round _ pool bytes (stands_fit pool fits end bytes stands) end stands _ _ (fresh_field place table_form) has.content n has.is
-      (λ at e few span. span_made (λ bs. made_given (own_index e []) bs (filled judge 0 bs)) _ pool has.content _ _ span
-      ∙ ap (made_given (own_index e []) has.content) has.fills))
+      (long_round fits stands (search) has.is (λ e bs. made_given (own_index e []) bs (filled judge 0 bs)) (λ at e. refl)
+      (λ e. ap (made_given (own_index e []) has.content) has.fills))
 
 -- ---- flags
 
@@ -143,48 +121,69 @@ bits_passed : (place : ℕ) (flags : List Bool) (more : List Node) → drop (len
 bits_passed place [] more = refl
 bits_passed place (flag ∷ flags) more = bits_passed (next_place place 1) flags more
 
-same_bits : {alone : Bool} (pool other : List ℕ) (place : ℕ) (flags : List Bool) → AreSame alone pool other (listed_bits place flags) (listed_bits place flags)
-same_bits pool other place [] = none_same pool other
-same_bits pool other place (flag ∷ flags) =
+same_bits : {alone : Bool} {pool other : List ℕ} (place : ℕ) (flags : List Bool) → AreSame alone pool other (listed_bits place flags) (listed_bits place flags)
+same_bits place [] = none_same
+same_bits place (flag ∷ flags) =
     let label = placed place (flags_form 1) in
-    let node = numbered label (bit_of flag) in
-    let others = listed_bits (next_place place 1) flags in
-    let is = same_number pool other label label (bit_of flag) (alike_itself pool other label (fresh_field place (flags_form 1)) refl) in
-    both_same pool other (node ∷ []) (node ∷ []) others others (one_same pool other node node is.0 is.1) (same_bits pool other (next_place place 1) flags)
+    let alike = alike_itself {label = label} (search) refl in
+    both_same {ns = numbered label (bit_of flag) ∷ []} (one_same alike (no_bytes alike) (search) (search) refl refl refl refl)
+    (same_bits (next_place place 1) flags)
 
 -- ---- fields that are kept, and reserved ones
 
-module _ (pool : List ℕ) (fits : IsBytes pool) (deep : Bool) where
-  -- the nodes of a field make it, whatever nodes come after them
-  pub record MakesSlot (place : ℕ) (slot : Slot) (nodes : List Node) (made : List ℕ) : Type 0 where
-    pub is : (end : ℕ) (more : List Node) → made_slot pool end place slot (nodes ++ more) ≡ Ok made
-    pub passed : (more : List Node) → drop (node_count slot (nodes ++ more)) (nodes ++ more) ≡ more
+-- the nodes of a field make it, whatever nodes come after them
+pub record MakesSlot (pool : List ℕ) (place : ℕ) (slot : Slot) (nodes : List Node) (made : List ℕ) : Type 0 where
+  pub is : (end : ℕ) (more : List Node) → made_slot pool end place slot (nodes ++ more) ≡ Ok made
+  pub passed : (more : List Node) → drop (node_count slot (nodes ++ more)) (nodes ++ more) ≡ more
 
+module _ (pool : List ℕ) (deep : Bool) where
   -- the nodes of a field are made, and read again
-  abbrev pub IsSlot : ℕ → Slot → Judged (List Node) → ℕ → ℕ → Type 0
-  IsSlot place slot listed size used = IsMade (not deep) pool (MakesSlot place slot) listed (λ e bs. listed_slot deep e place slot bs) size used
+  abbrev pub IsSlot : ℕ → Slot → ℕ → List ℕ → ℕ → Type 0
+  IsSlot place slot end bytes used = IsMade (not deep) pool (MakesSlot pool place slot) (λ e. listed_slot deep e place slot) end bytes used
 
-  one_round : (form : Form) → IsOne form → ((end place : ℕ) (nodes : List Node) → made_kept pool end place form nodes ≡ made_field pool end place form nodes)
-      → ((nodes : List Node) → node_count (kept_slot form) nodes ≡ group_size nodes)
-      → (end place : ℕ) (bytes : List ℕ) (items : List Item) (n : ℕ) → Stands pool end bytes
-      → judge_form form bytes ≡ took items n → IsSlot place (kept_slot form) (listed_slot deep end place (kept_slot form) bytes) (length bytes) n
+  -- the nodes of fields are made, and read again
+  abbrev pub AreSlots : ℕ → List Slot → ℕ → List ℕ → ℕ → Type 0
+  AreSlots place slots end bytes used =
+      IsMade (not deep) pool (λ nodes made. (end : ℕ) → made_slots pool end place slots nodes ≡ Ok made) (λ e. listed_slots deep e place slots) end bytes used
+
+-- a field that is kept and no flags is made and passed as its form says
+kept_is : (pool : List ℕ) (form : Form) → IsOne form → (end place : ℕ) (nodes : List Node)
+    → (made_kept pool end place form nodes ≡ made_field pool end place form nodes) × (node_count (kept_slot form) nodes ≡ group_size nodes)
+unfolding made_kept
+kept_is pool (flags_form count) one end place nodes = absurd one
+kept_is pool form one end place nodes = (refl, refl)
+
+least_left : (slot : Slot) (slots : List Slot) → are_least (slot ∷ slots) ≡ true → are_least slots ≡ true
+least_left (kept_slot form) slots least = least
+least_left (reserved_slot form constant) slots least = (both_true (is_least form constant) (are_least slots) least).1
+
+module _ {pool : List ℕ} (fits : IsBytes pool) (deep : Bool) where
+  one_round : (form : Form) → IsOne form → {end : ℕ} (place : ℕ) {bytes : List ℕ} {items : List Item} {n : ℕ} → Stands pool end bytes
+      → judge_form form bytes ≡ took items n → IsSlot pool deep place (kept_slot form) end bytes n
   unfolding listed_slot
-  one_round form one kept count end place bytes items n stands h =
-      let field = form_round pool fits deep form one end place bytes items n stands h in
-      made_into (λ ns x made. record {
-        is = λ e more. kept e place (ns ++ more) ∙ made.is e more;
-        passed = λ more. ap (λ k. drop k (ns ++ more)) (count (ns ++ more)) ∙ made.passed more;
-      }) field
+  one_round form one place stands h =
+      let field = form_round fits deep form one place stands h in
+      record {
+        nodes = field.nodes;
+        is = field.is;
+        made = field.made;
+        makes = record {
+          is = λ e more. (kept_is pool form one e place (field.nodes ++ more)).0 ∙ field.makes.is e more;
+          passed = λ more. rw ((kept_is pool form one 0 place (field.nodes ++ more)).1) (field.makes.passed more);
+        };
+        made_size = field.made_size;
+        bound = field.bound;
+        again = field.again;
+      }
 
-  flags_round : (count : ℕ) → count ≤ 8 → (end place : ℕ) (bytes : List ℕ) (items : List Item) (n : ℕ) → Stands pool end bytes
-      → judge_form (flags_form count) bytes ≡ took items n
-      → IsSlot place (kept_slot (flags_form count)) (listed_slot deep end place (kept_slot (flags_form count)) bytes) (length bytes) n
+  flags_round : (count : ℕ) → count ≤ 8 → {end : ℕ} (place : ℕ) {bytes : List ℕ} {items : List Item} {n : ℕ} → Stands pool end bytes
+      → judge_form (flags_form count) bytes ≡ took items n → IsSlot pool deep place (kept_slot (flags_form count)) end bytes n
   unfolding judge_form listed_slot listed_form made_kept
-  flags_round count few end place bytes items n stands h =
+  flags_round count few place {bytes} {items} {n} stands h =
       let one = map_took (judge_flags count) (map flag_item) bytes items n h in
       let flags = one.0 in
       let law : IsLawful (judge_flags count) (λ level. SpellsFlags level count) flags_bytes = flags_lawful count in
-      let read = law.exact.spelled bytes flags n (stands_fit pool fits end bytes stands) one.1 in
+      let read = law.exact.spelled bytes flags n (stands_fit fits stands) one.1 in
       let number : length flags ≡ count = ap length read.0.flags_are ∙ flags_length count 0 read.0.byte in
       let spelled : SpellsFlags plain count (flags_bytes flags) flags =
       law.tidy_is_plain (flags_bytes flags) flags (law.strict_is_tidy (flags_bytes flags) flags (law.canonical_is_strict (take n bytes) flags read.0)) in
@@ -192,7 +191,7 @@ module _ (pool : List ℕ) (fits : IsBytes pool) (deep : Bool) where
       let nodes = listed_bits place flags in
       record {
         nodes = nodes;
-        is = ap (λ j. j >>= λ x. took (listed_bits place x.0) x.1) one.1;
+        is = rw one.1;
         made = flags_bytes flags;
         makes = record {
           is = λ e more. rw less (ap (λ k. flags_made (flags_in e place k (nodes ++ more))) (sym number) ∙ ap flags_made (flags_found e place flags more));
@@ -200,95 +199,52 @@ module _ (pool : List ℕ) (fits : IsBytes pool) (deep : Bool) where
         };
         made_size = omega (arith, ap length read.0.bytes_are, length-take-le n bytes read.1);
         bound = read.1;
-        again = λ other rest e standing. record {
-          nodes = nodes;
-          is = ap (λ j. j >>= λ x. took (listed_bits place x.0) x.1) (law.exact.taken (flags_bytes flags) rest flags spelled);
-          same = same_bits pool other place flags;
-        };
+        again = λ other rest e standing.
+            record { nodes = nodes; is = rw (law.exact.taken (flags_bytes flags) rest flags spelled); same = same_bits place flags };
       }
 
-  reserved_round : (form : Form) (constant : List Item) → is_least form constant ≡ true → (end place : ℕ) (bytes : List ℕ) (items : List Item) (n : ℕ)
-      → Stands pool end bytes → judge_form form bytes ≡ took items n
-      → IsSlot place (reserved_slot form constant) (listed_slot deep end place (reserved_slot form constant) bytes) (length bytes) n
+  reserved_round : (form : Form) (constant : List Item) → is_least form constant ≡ true → {end : ℕ} (place : ℕ) {bytes : List ℕ} {items : List Item} {n : ℕ}
+      → Stands pool end bytes → judge_form form bytes ≡ took items n → IsSlot pool deep place (reserved_slot form constant) end bytes n
   unfolding listed_slot
-  reserved_round form constant least end place bytes items n stands h =
+  reserved_round form constant least place {bytes} {items} {n} stands h =
       let law = forms_lawful form in
-      let read = law.exact.spelled bytes items n (stands_fit pool fits end bytes stands) h in
+      let read = law.exact.spelled bytes items n (stands_fit fits stands) h in
       let made = form_bytes form constant in
       let spelled : SpellsForm plain form made constant = form_is_plain strict form made constant (constant_strict form constant least) in
       let shortest =
       (reserved_lawful form constant least).shortest (take n bytes) [] (record { dropped = items; spelled = read.0; none = refl; unused = tt }) in
       record {
         nodes = [];
-        is = ap (λ j. j >>= λ x. took [] x.1) h;
+        is = rw h;
         made = made;
         makes = record { is = λ e more. refl; passed = λ more. refl };
         made_size = omega (arith, length-take-le n bytes read.1);
         bound = read.1;
-        again = λ other rest e standing.
-            record { nodes = []; is = ap (λ j. j >>= λ x. took [] x.1) (law.exact.taken made rest constant spelled); same = none_same pool other };
+        again = λ other rest e standing. record { nodes = []; is = rw (law.exact.taken made rest constant spelled); same = none_same };
       }
 
   -- a field, where flags are at most eight and the constant of a reserved one is least
-  slot_round : (slot : Slot) (slots : List Slot) → spare (slot ∷ slots) ≤ 4 → are_least (slot ∷ slots) ≡ true → (end place : ℕ) (bytes : List ℕ)
-      (items : List Item) (n : ℕ) → Stands pool end bytes → judge_slot slot bytes ≡ took items n
-      → IsSlot place slot (listed_slot deep end place slot bytes) (length bytes) n
-  unfolding made_kept judge_dropped
-  slot_round (kept_slot (number_form width)) slots few least end place bytes items n stands h =
-      one_round (number_form width) tt (λ e p ns. refl) (λ ns. refl) end place bytes items n stands h
-  slot_round (kept_slot (flags_form count)) slots few least end place bytes items n stands h =
-      flags_round count (omega arith) end place bytes items n stands h
-  slot_round (kept_slot short_string_form) slots few least end place bytes items n stands h =
-      one_round short_string_form tt (λ e p ns. refl) (λ ns. refl) end place bytes items n stands h
-  slot_round (kept_slot long_string_form) slots few least end place bytes items n stands h =
-      one_round long_string_form tt (λ e p ns. refl) (λ ns. refl) end place bytes items n stands h
-  slot_round (kept_slot table_form) slots few least end place bytes items n stands h =
-      one_round table_form tt (λ e p ns. refl) (λ ns. refl) end place bytes items n stands h
-  slot_round (reserved_slot form constant) slots few least end place bytes items n stands h =
-      let both = both_true (is_least form constant) (are_least slots) least in
-      let given = map_took (judge_form form) (λ xs. []) bytes items n h in
-      reserved_round form constant both.0 end place bytes given.0 n stands given.1
+  slot_round : (slot : Slot) (slots : List Slot) → spare (slot ∷ slots) ≤ 4 → are_least (slot ∷ slots) ≡ true → {end : ℕ} (place : ℕ) {bytes : List ℕ}
+      {items : List Item} {n : ℕ} → Stands pool end bytes → judge_slot slot bytes ≡ took items n → IsSlot pool deep place slot end bytes n
+  unfolding judge_dropped
+  slot_round (kept_slot (flags_form count)) slots few least place stands h = flags_round count (omega arith) place stands h
+  slot_round (kept_slot form) slots few least place stands h = one_round form tt place stands h
+  slot_round (reserved_slot form constant) slots few least place stands h =
+      reserved_round form constant (both_true (is_least form constant) (are_least slots) least).0 place stands (map_took (judge_form form) (λ xs. []) _ _ _ h).1
 
   -- ---- fields one after another
 
-  -- the nodes of fields are made, and read again
-  abbrev pub AreSlots : ℕ → List Slot → Judged (List Node) → ℕ → ℕ → Type 0
-  AreSlots place slots listed size used =
-      IsMade (not deep) pool (λ nodes made. (end : ℕ) → made_slots pool end place slots nodes ≡ Ok made) listed
-      (λ e bs. listed_slots deep e place slots bs) size used
-
-  slot_then : (slot : Slot) (slots : List Slot) (end place a b : ℕ) (bytes : List ℕ)
-      → IsSlot place slot (listed_slot deep end place slot bytes) (length bytes) a
-      → AreSlots (next_place place (kept_count slot)) slots
-      (listed_slots deep end (next_place place (kept_count slot)) slots (drop a bytes)) (length (drop a bytes)) b
-      → AreSlots place (slot ∷ slots) (listed_slots deep end place (slot ∷ slots) bytes) (length bytes) (a + b)
-  unfolding listed_slots made_slots
-  slot_then slot slots end place a b bytes one others =
-      let next = next_place place (kept_count slot) in
-      both_made (λ e bs. listed_slot deep e place slot bs) (λ e bs. listed_slots deep e next slots bs) end bytes
-      (λ ns ms x y field more e. rw (field.is e ms, field.passed ms, more e)) one others
-
-  spare_less : (slot : Slot) (slots : List Slot) → spare (slot ∷ slots) ≤ 4 → spare slots ≤ 4
-  spare_less slot slots few = omega arith
-
-  least_left : (slot : Slot) (slots : List Slot) → are_least (slot ∷ slots) ≡ true → are_least slots ≡ true
-  least_left (kept_slot form) slots least = least
-  least_left (reserved_slot form constant) slots least = (both_true (is_least form constant) (are_least slots) least).1
-
   -- fields that were read, with their reserved ones
-  pub slots_round : (slots : List Slot) → spare slots ≤ 4 → are_least slots ≡ true → (end place : ℕ) (bytes : List ℕ) (items : List Item) (n : ℕ)
-      → Stands pool end bytes → judge_slots slots bytes ≡ took items n
-      → AreSlots place slots (listed_slots deep end place slots bytes) (length bytes) n
+  pub slots_round : (slots : List Slot) → spare slots ≤ 4 → are_least slots ≡ true → {end : ℕ} (place : ℕ) {bytes : List ℕ} {items : List Item} {n : ℕ}
+      → Stands pool end bytes → judge_slots slots bytes ≡ took items n → AreSlots pool deep place slots end bytes n
   unfolding judge_slots listed_slots made_slots
-  slots_round [] few least end place bytes items n stands h =
-      none_made (count_took [] items 0 n h) (λ e. refl) (λ e bs. refl)
-  slots_round (slot ∷ slots) few least end place bytes items n stands h =
-      let one = bind_took (judge_slot slot bytes) _ items n h in
-      let two = bind_took (judge_slots slots (drop one.1 bytes)) _ items n one.3 in
-      let used : one.1 + two.1 ≡ n = count_took (one.0 ++ two.0) items (one.1 + two.1) n two.3 in
-      let first = slot_round slot slots few least end place bytes one.0 one.1 stands one.2 in
+  slots_round [] few least place {items = items} {n = n} stands h = none_made (count_took [] items 0 n h) (λ e. refl) (λ e bs. refl)
+  slots_round (slot ∷ slots) few least {end} place {bytes} {items} {n} stands h =
+      let two = both_took (judge_slot slot) (judge_slots slots) (λ xs ys. xs ++ ys) bytes items n h in
+      let next = next_place place (kept_count slot) in
+      let first = slot_round slot slots few least place stands two.4 in
       let rest =
-      slots_round slots (spare_less slot slots few) (least_left slot slots least) end (next_place place (kept_count slot)) (drop one.1 bytes) two.0 two.1
-      (stands_drop pool bytes end one.1 stands first.bound) two.2 in
-      subst (AreSlots place (slot ∷ slots) (listed_slots deep end place (slot ∷ slots) bytes) (length bytes)) used
-      (slot_then slot slots end place one.1 two.1 bytes first rest)
+      slots_round slots (omega arith) (least_left slot slots least) next (stands_drop pool bytes end two.1 stands first.bound) two.5 in
+      let both : AreSlots pool deep place (slot ∷ slots) end bytes (two.1 + two.3) =
+      both_made (λ ns ms x y field more e. rw (field.is e ms, field.passed ms, more e)) first rest in
+      rw two.7 at both

@@ -42,25 +42,12 @@ use Rattle.amqp_fields_write.proofs.FramesMade.{header_parts, method_parts, vers
 use Rattle.amqp_fields_write.proofs.MeantFramesMade.{given_within}
 use Rattle.amqp_fields.proofs.Spans.{Stands}
 use proofs.Twins.{AreSame, none_same}
-use proofs.Payloads.{header_round, method_round, version_round}
+use proofs.Payloads.{IsPayload, header_round, method_round, version_round}
 
 -- a frame is as long as its payload and what stands around it
 pub around_fits : (kind : AMQPFrameType) (p n : ℕ) → 8 ≤ n → (kind ≢ kinds.ProtocolHeader → p + 8 ≤ n) → length_around kind p ≤ n
 around_fits kinds.ProtocolHeader p n least beside = least
-around_fits kinds.Method p n least beside = beside (λ e. absurd cc)
-around_fits kinds.Header p n least beside = beside (λ e. absurd cc)
-around_fits kinds.Body p n least beside = beside (λ e. absurd cc)
-around_fits kinds.Heartbeat p n least beside = beside (λ e. absurd cc)
-
--- where contents that nodes have as bytes are no longer than the limit, a frame that is no protocol header is made around its payload
-typed_around : (pool : List ℕ) (nodes : List Node) (m : ℕ) (head : given.Head) → (head.frame_type ≡ protocol_byte → ⊥)
-    → given_length (take head.nodes (drop head.first nodes)) ≤ m
-    → made_typed pool nodes m head ≡ made_around m head (made_payload pool nodes head)
-unfolding made_typed
-typed_around pool nodes m head differs few =
-    let other : (head.frame_type == protocol_byte) ≡ false = grind (arith, nat_tests) in
-    let within : are_beyond m nodes head ≡ false = grind (arith, nat_tests) in
-    rw (other, within)
+around_fits kind p n least beside = beside (λ e. absurd cc)
 
 -- the length of what is encoded is written in four bytes
 pub spelled_few : (frame : Frame) (bytes : List ℕ) → Spells plain bytes frame → length bytes < 2 ^ 32 + 8
@@ -78,22 +65,15 @@ pub scan_made : (k : ℕ) (kind : AMQPFrameType) (channel : ℕ) (payload : List
     → scan (Some k) (bytes_as kind channel payload) ≡ took (raw_as kind channel payload) (length (bytes_as kind channel payload))
 scan_made k kinds.ProtocolHeader channel (a ∷ b ∷ c ∷ []) on few within version =
     scan_version (Some k) a b c ∙ ap (λ n. took (raw_as kinds.ProtocolHeader n (a ∷ b ∷ c ∷ [])) 8) (sym (version refl).0)
-scan_made k kinds.ProtocolHeader channel [] on few within version = absurd (omega (arith, (version refl).1))
-scan_made k kinds.ProtocolHeader channel (a ∷ []) on few within version = absurd (omega (arith, (version refl).1))
-scan_made k kinds.ProtocolHeader channel (a ∷ b ∷ []) on few within version = absurd (omega (arith, (version refl).1))
-scan_made k kinds.ProtocolHeader channel (a ∷ b ∷ c ∷ d ∷ more) on few within version = absurd (omega (arith, (version refl).1))
+scan_made k kinds.ProtocolHeader channel payload on few within version = absurd (omega (arith, (version refl).1))
 scan_made k kinds.Method channel payload on few within version =
-    scan-method (Some k) (bytes_as kinds.Method channel payload) channel payload
-    (record { channel_fits = on; length_fits = few; bytes_are = refl }) within
+    scan-method (Some k) _ channel payload (record { channel_fits = on; length_fits = few; bytes_are = refl }) within
 scan_made k kinds.Header channel payload on few within version =
-    scan-header (Some k) (bytes_as kinds.Header channel payload) channel payload
-    (record { channel_fits = on; length_fits = few; bytes_are = refl }) within
+    scan-header (Some k) _ channel payload (record { channel_fits = on; length_fits = few; bytes_are = refl }) within
 scan_made k kinds.Body channel payload on few within version =
-    scan-body (Some k) (bytes_as kinds.Body channel payload) channel payload
-    (record { channel_fits = on; length_fits = few; bytes_are = refl }) within
+    scan-body (Some k) _ channel payload (record { channel_fits = on; length_fits = few; bytes_are = refl }) within
 scan_made k kinds.Heartbeat channel payload on few within version =
-    scan-beat (Some k) (bytes_as kinds.Heartbeat channel payload) channel payload
-    (record { channel_fits = on; length_fits = few; bytes_are = refl }) within
+    scan-beat (Some k) _ channel payload (record { channel_fits = on; length_fits = few; bytes_are = refl }) within
 
 -- where the payload of a frame stands, and that its length is written in four bytes where the frame is not too long
 pub record IsMadeFrame (kind : AMQPFrameType) (channel : ℕ) (payload rest : List ℕ) : Type 0 where
@@ -107,17 +87,8 @@ framed_at payload rest = ap (take (length payload)) (append_assoc payload (206 �
 pub made_frame_is : (kind : AMQPFrameType) (channel : ℕ) (payload rest : List ℕ) → IsMadeFrame kind channel payload rest
 made_frame_is kinds.ProtocolHeader channel payload rest =
     record { there = take_at payload rest (length payload) refl; within = omega arith; few = λ few three. omega (arith, three refl) }
-made_frame_is kinds.Method channel payload rest =
-    let size = framed_length 1 channel payload in
-    record { there = framed_at payload rest; within = omega arith; few = λ few three. omega (arith, few) }
-made_frame_is kinds.Header channel payload rest =
-    let size = framed_length 2 channel payload in
-    record { there = framed_at payload rest; within = omega arith; few = λ few three. omega (arith, few) }
-made_frame_is kinds.Body channel payload rest =
-    let size = framed_length 3 channel payload in
-    record { there = framed_at payload rest; within = omega arith; few = λ few three. omega (arith, few) }
-made_frame_is kinds.Heartbeat channel payload rest =
-    let size = framed_length 8 channel payload in
+made_frame_is kind channel payload rest =
+    let size = framed_length (byte_of kind) channel payload in
     record { there = framed_at payload rest; within = omega arith; few = λ few three. omega (arith, few) }
 
 -- a protocol header of eight bytes has three numbers
@@ -129,19 +100,12 @@ version_size kind channel payload is eight = let whole = ap (λ k. length (bytes
 pub version_told : (pool : List ℕ) (nodes : List Node) (head : given.Head) (frame : Frame) → head.frame_type ≡ protocol_byte
     → TellsTyped pool nodes head frame → (head.channel ≡ 0) × ((bytes : List ℕ) → Spells plain bytes frame → length bytes ≡ 8)
 version_told pool nodes head (Proto major minor revision) is told = (told.1, λ bytes s. ap length s)
-version_told pool nodes head (Meth channel m) is told = absurd (omega arith)
-version_told pool nodes head (Head channel header) is told = absurd (omega arith)
-version_told pool nodes head (Body channel content) is told = absurd (omega arith)
-version_told pool nodes head Beat is told = absurd (omega arith)
-version_told pool nodes head (BadBeat channel) is told = absurd (omega arith)
+version_told pool nodes head frame is told = absurd (omega arith)
 
 -- the type of a body
 pub body_kind : (kind : AMQPFrameType) → byte_of kind ≡ body_byte → kind ≡ kinds.Body
-body_kind kinds.ProtocolHeader is = absurd (omega arith)
-body_kind kinds.Method is = absurd (omega arith)
-body_kind kinds.Header is = absurd (omega arith)
 body_kind kinds.Body is = refl
-body_kind kinds.Heartbeat is = absurd (omega arith)
+body_kind kind is = absurd (omega arith)
 
 -- where the header scan finds a frame, its payload is decoded as the verdict has it
 pub whole_is : (k : ℕ) (bytes : List ℕ) (raw : Raw) (n : ℕ) (frame : Frame) → scan (Some k) bytes ≡ took raw n
@@ -157,175 +121,105 @@ made_as (Err bad) bytes is h = absurd cc
 -- a head makes its payload with what is around it, where the payload is within the limit
 payload_framed : (pool : List ℕ) (nodes : List Node) (k : ℕ) (head : given.Head) (payload : List ℕ) → (head.frame_type ≡ protocol_byte → ⊥)
     → made_payload pool nodes head ≡ Ok payload → length payload ≤ k → made_typed pool nodes k head ≡ Ok (framed head.frame_type head.channel payload)
-payload_framed pool nodes k head payload other is within =
-    let short : nat_lt k (length payload) ≡ false = grind (arith, nat_tests) in
+unfolding made_typed
+payload_framed pool nodes k head payload differs is within =
     let given = given_within pool nodes head payload is in
-    typed_around pool nodes k head other (omega arith) ∙ ap (made_around k head) is
-    ∙ ap (λ test. if test then refuse_head whys.TooLarge else Ok (framed head.frame_type head.channel payload)) short
+    let other : (head.frame_type == protocol_byte) ≡ false = grind (arith, nat_tests) in
+    let few : are_beyond k nodes head ≡ false = grind (arith, nat_tests) in
+    let short : nat_lt k (length payload) ≡ false = grind (arith, nat_tests) in
+    rw (other, few, is, short)
 
-module _ (pool : List ℕ) (fits : IsBytes pool) (deep : Bool) (nodes : List Node) (start first : ℕ) (channel : ℕ) (own : List Node) where
+-- A head and its nodes make a frame at each limit that its payload keeps. It is no longer than what was read, and the nodes of its
+-- payload, wherever it stands, say the same.
+pub record IsFrame (pool : List ℕ) (deep : Bool) (nodes : List Node) (channel : ℕ) (own : List Node) (kind : AMQPFrameType) (payload : List ℕ)
+    (head : given.Head) : Type 0 where
+  pub made : List ℕ
+  pub typed_is : (k : ℕ) → length_around kind (length payload) ≤ k + 8 → made_typed pool nodes k head ≡ Ok (bytes_as kind channel made)
+  pub body : kind ≡ kinds.Body → made ≡ payload
+  pub whole_size : length (bytes_as kind channel made) ≤ length_around kind (length payload)
+  pub again : (other : List ℕ) (end : ℕ) → Stands other end made → AreSame (not deep) pool other own (payload_nodes kind deep end made)
+
+module _ (start first channel : ℕ) (own : List Node) where
   -- the head of a frame that was read
-  abbrev pub HeadOf : AMQPFrameType → List ℕ → Frame → given.Head
-  HeadOf kind payload frame = head_of (raw_as kind channel payload) (outline_of frame) start first (length own)
+  abbrev pub head_as : AMQPFrameType → List ℕ → Frame → given.Head
+  head_as kind payload frame = head_of (raw_as kind channel payload) (outline_of frame) start first (length own)
 
-  -- A head and its nodes make a frame at each limit that its payload keeps. It is no longer than what was read, and the nodes of its
-  -- payload, wherever it stands, say the same.
-  pub record IsFrame (kind : AMQPFrameType) (payload : List ℕ) (head : given.Head) : Type 0 where
-    pub made : List ℕ
-    pub typed_is : (k : ℕ) → length_around kind (length payload) ≤ k + 8 → made_typed pool nodes k head ≡ Ok (bytes_as kind channel made)
-    pub made_size : length made ≤ length payload
-    pub body : kind ≡ kinds.Body → made ≡ payload
-    pub whole_size : length (bytes_as kind channel made) ≤ length_around kind (length payload)
-    pub again : (other : List ℕ) (end : ℕ) → Stands other end made → AreSame (not deep) pool other own (payload_nodes kind deep end made)
-
-  -- its own nodes are those of the payload
-  abbrev OwnNodes : AMQPFrameType → List ℕ → Type 0
-  OwnNodes kind payload = own ≡ payload_nodes kind deep (start + length payload) payload
-
-  -- a frame, where the list has its nodes
-  abbrev FrameOf : AMQPFrameType → List ℕ → Frame → Type 0
-  FrameOf kind payload frame = OwnNodes kind payload → nodes_in nodes (HeadOf kind payload frame) ≡ Some own → IsFrame kind payload (HeadOf kind payload frame)
-
-  method_frame : (payload : List ℕ) (n : ℕ) (m : Method) → IsSpan pool start (length payload) payload → judge_payload payload ≡ took m n
-      → FrameOf kinds.Method payload (Meth channel m)
-  unfolding listed_payload made_payload
-  method_frame payload n m span h own_is there =
-      let head = HeadOf kinds.Method payload (Meth channel m) in
-      let known = method_round pool fits deep (start + length payload) payload n m (span_stands pool payload start span) h in
-      let round = known.round in
-      let same : own ≡ round.nodes = own_is ∙ ap nodes_of round.is in
-      let ids = number_bytes bytes2 m.class ++ number_bytes bytes2 m.id in
-      let end = first + length own in
-      record {
-        made = round.made;
-        typed_is = λ k within.
-            payload_framed pool nodes k head round.made (λ e. absurd (omega arith))
-            (method_parts pool nodes own head end there refl known.slots known.known refl
-            ∙ ap (λ ns. after (Ok ids) (made_slots pool end 0 known.slots ns)) same ∙ round.made_is end)
-            (omega arith);
-        made_size = round.made_size;
-        body = λ is. absurd cc;
-        whole_size = omega (arith, framed_length 1 channel round.made);
-        again = λ other e standing.
-            subst (λ ns. AreSame (not deep) pool other ns (payload_nodes kinds.Method deep e round.made)) (sym same) (round.again other e standing);
-      }
-
-  header_frame : (payload : List ℕ) (n : ℕ) (header : ContentHeader) → IsSpan pool start (length payload) payload → judge_content_header payload ≡ took header n
-      → FrameOf kinds.Header payload (Head channel header)
-  unfolding listed_payload made_payload
-  header_frame payload n header span h own_is there =
-      let head = HeadOf kinds.Header payload (Head channel header) in
-      let front = header_front head in
-      let round = header_round pool fits deep front refl (start + length payload) payload n header (span_stands pool payload start span) h in
-      let same : own ≡ round.nodes = own_is ∙ ap nodes_of round.is in
-      let end = first + length own in
-      record {
-        made = round.made;
-        typed_is = λ k within.
-            payload_framed pool nodes k head round.made (λ e. absurd (omega arith))
-            (header_parts pool nodes own head end there refl refl ∙ ap (λ ns. after (Ok front) (made_properties pool end ns)) same ∙ round.made_is end)
-            (omega arith);
-        made_size = round.made_size;
-        body = λ is. absurd cc;
-        whole_size = omega (arith, framed_length 2 channel round.made);
-        again = λ other e standing.
-            subst (λ ns. AreSame (not deep) pool other ns (payload_nodes kinds.Header deep e round.made)) (sym same) (round.again other e standing);
-      }
-
-  version_frame : (a b c : ℕ) → channel ≡ 0 → IsSpan pool start 3 (a ∷ b ∷ c ∷ []) → FrameOf kinds.ProtocolHeader (a ∷ b ∷ c ∷ []) (Proto a b c)
-  unfolding listed_payload made_typed
-  version_frame a b c none span own_is there =
-      let payload = a ∷ b ∷ c ∷ [] in
-      let head = HeadOf kinds.ProtocolHeader payload (Proto a b c) in
-      let round = version_round pool fits deep (start + 3) a b c (span_stands pool payload start span) in
-      let same : own ≡ round.nodes = own_is ∙ ap nodes_of round.is in
-      let end = first + length own in
-      record {
-        made = round.made;
-        typed_is = λ k within.
-            version_parts pool nodes own head end there refl refl none
-            ∙ ap (λ ns. after (Ok (protocol_byte ∷ protocol_mark)) (made_slots pool end 0 version_slots ns)) same
-            ∙ ap (after (Ok (protocol_byte ∷ protocol_mark))) (round.made_is end);
-        made_size = round.made_size;
-        body = λ is. absurd cc;
-        whole_size = omega arith;
-        again = λ other e standing.
-            subst (λ ns. AreSame (not deep) pool other ns (payload_nodes kinds.ProtocolHeader deep e round.made)) (sym same) (round.again other e standing);
-      }
-
-  no_nodes : (other : List ℕ) → own ≡ [] → AreSame (not deep) pool other own []
-  no_nodes other none = subst (λ ns. AreSame (not deep) pool other ns []) (sym none) (none_same pool other)
-
-  body_frame : (payload : List ℕ) → IsSpan pool start (length payload) payload → OwnNodes kinds.Body payload
-      → IsFrame kinds.Body payload (HeadOf kinds.Body payload (Body channel payload))
-  unfolding listed_payload made_payload made_body
-  body_frame payload span none =
-      let head = HeadOf kinds.Body payload (Body channel payload) in
-      let free : (has_no_ids head && (head.nodes == 0)) ≡ true = grind (arith, nat_tests, ap length none) in
-      let within_pool : nat_le (start + length payload) (length pool) ≡ true = grind (arith, nat_tests) in
-      record {
-        made = payload;
-        typed_is = λ k within.
-            payload_framed pool nodes k head payload (λ e. absurd (omega arith))
-            (ap
-            (λ test. if test then made_bytes (if nat_le (start + length payload) (length pool) then Some (take (length payload) (drop start pool)) else None)
-            else misfit_head)
-            free
-            ∙ ap (λ test. made_bytes (if test then Some (take (length payload) (drop start pool)) else None)) within_pool ∙ ap Ok span.bytes_are)
-            (omega arith);
-        made_size = omega arith;
-        body = λ is. refl;
-        whole_size = omega (arith, framed_length 3 channel payload);
-        again = λ other e standing. no_nodes other none;
-      }
-
-  -- a heartbeat has no payload, whatever was read
-  beat_frame : (payload : List ℕ) (on : Bool) → OwnNodes kinds.Heartbeat payload
-      → IsFrame kinds.Heartbeat payload (HeadOf kinds.Heartbeat payload (cond on Beat (BadBeat channel)))
-  unfolding listed_payload made_payload made_beat
-  beat_frame payload on none =
-      let head = HeadOf kinds.Heartbeat payload (cond on Beat (BadBeat channel)) in
-      let free : (has_no_ids head && (head.nodes == 0)) ≡ true = no_ids on none in
-      record {
-        made = [];
-        typed_is = λ k within.
-            payload_framed pool nodes k head [] (λ e. absurd (omega arith))
-            (ap (λ test. if test then Ok [] else misfit_head) free) (omega arith);
-        made_size = omega arith;
-        body = λ is. absurd cc;
-        whole_size = omega arith;
-        again = λ other e standing. no_nodes other none;
-      }
-    where
-      no_ids : (t : Bool) → own ≡ []
-          → (let head = HeadOf kinds.Heartbeat payload (cond t Beat (BadBeat channel)) in has_no_ids head && (head.nodes == 0)) ≡ true
-      no_ids true empty = grind (arith, nat_tests, ap length empty)
-      no_ids false empty = grind (arith, nat_tests, ap length empty)
+module _ {pool : List ℕ} (fits : IsBytes pool) (deep : Bool) (nodes : List Node) (start first channel : ℕ) (own : List Node) where
+  -- a frame that is no protocol header, by its payload
+  around : (kind : AMQPFrameType) (payload : List ℕ) (frame : Frame) {make : ℕ → List Node → Made} → (byte_of kind ≡ protocol_byte → ⊥)
+      → own ≡ payload_nodes kind deep (start + length payload) payload → (round : IsPayload pool deep kind make (start + length payload) payload)
+      → (kind ≡ kinds.Body → round.made ≡ payload)
+      → made_payload pool nodes (head_as start first channel own kind payload frame) ≡ make (first + length own) own
+      → IsFrame pool deep nodes channel own kind payload (head_as start first channel own kind payload frame)
+  around kinds.ProtocolHeader payload frame other own_is round body is = absurd (other refl)
+  around kind payload frame {make} other own_is round body is = record {
+    made = round.made;
+    typed_is = λ k within.
+        payload_framed pool nodes k (head_as start first channel own kind payload frame) round.made other
+        (is ∙ ap (make (first + length own)) own_is ∙ round.made_is (first + length own)) (omega (arith, round.made_size));
+    body = body;
+    whole_size = omega (arith, framed_length (byte_of kind) channel round.made, round.made_size);
+    again = λ other at stands. rw own_is (round.again other at stands);
+  }
 
   -- a frame of any type
   pub frame_round : (kind : AMQPFrameType) (payload : List ℕ) (frame : Frame) → (kind ≡ kinds.ProtocolHeader → channel ≡ 0)
-      → IsSpan pool start (length payload) payload → decode_payload kind channel payload ≡ Ok frame → OwnNodes kind payload
-      → nodes_in nodes (HeadOf kind payload frame) ≡ Some own → IsFrame kind payload (HeadOf kind payload frame)
-  unfolding decode_payload
-  frame_round kinds.ProtocolHeader [] frame free span h own_is there = absurd cc
-  frame_round kinds.ProtocolHeader (a ∷ []) frame free span h own_is there = absurd cc
-  frame_round kinds.ProtocolHeader (a ∷ b ∷ []) frame free span h own_is there = absurd cc
+      → IsSpan pool start (length payload) payload → decode_payload kind channel payload ≡ Ok frame
+      → own ≡ payload_nodes kind deep (start + length payload) payload
+      → nodes_in nodes (head_as start first channel own kind payload frame) ≡ Some own
+      → IsFrame pool deep nodes channel own kind payload (head_as start first channel own kind payload frame)
+  unfolding decode_payload listed_payload made_typed made_payload made_body made_beat
   frame_round kinds.ProtocolHeader (a ∷ b ∷ c ∷ []) frame free span h own_is there =
       let is : Proto a b c ≡ frame = cc in
-      subst (λ f. IsFrame kinds.ProtocolHeader (a ∷ b ∷ c ∷ []) (HeadOf kinds.ProtocolHeader (a ∷ b ∷ c ∷ []) f)) is
-      (version_frame a b c (free refl) span own_is there)
-  frame_round kinds.ProtocolHeader (a ∷ b ∷ c ∷ d ∷ more) frame free span h own_is there = absurd cc
+      let head = head_as start first channel own kinds.ProtocolHeader (a ∷ b ∷ c ∷ []) (Proto a b c) in
+      let round = version_round fits deep (start + 3) a b c (span_stands pool (a ∷ b ∷ c ∷ []) start span) in
+      let front = after (Ok (protocol_byte ∷ protocol_mark)) in
+      let made : IsFrame pool deep nodes channel own kinds.ProtocolHeader (a ∷ b ∷ c ∷ []) head = record {
+        made = round.made;
+        typed_is = λ k within.
+            version_parts pool nodes own head (first + length own) there refl refl (free refl)
+            ∙ ap front (ap (made_slots pool (first + length own) 0 version_slots) own_is ∙ round.made_is (first + length own));
+        body = λ is. absurd cc;
+        whole_size = omega (arith, round.made_size);
+        again = λ other at stands. rw own_is (round.again other at stands);
+      } in
+      let payload = a ∷ b ∷ c ∷ [] in
+      subst (λ f. IsFrame pool deep nodes channel own kinds.ProtocolHeader payload (head_as start first channel own kinds.ProtocolHeader payload f)) is made
+  frame_round kinds.ProtocolHeader payload frame free span h own_is there = absurd cc
   frame_round kinds.Method payload frame free span h own_is there =
       let read = read_as (λ x. Meth channel x) (all_of judge_payload payload) frame h in
       let m = filled_took (length payload) (judge_payload payload) read.0 read.1 in
-      subst (λ f. IsFrame kinds.Method payload (HeadOf kinds.Method payload f)) read.2 (method_frame payload m.0 read.0 span m.1 own_is there)
+      let known = method_round fits deep (start + length payload) payload m.0 read.0 (span_stands pool payload start span) m.1 in
+      let head = head_as start first channel own kinds.Method payload (Meth channel read.0) in
+      subst (λ f. IsFrame pool deep nodes channel own kinds.Method payload (head_as start first channel own kinds.Method payload f)) read.2
+      (around kinds.Method payload (Meth channel read.0) (λ e. absurd (omega arith)) own_is known.round (λ is. absurd cc)
+      (method_parts pool nodes own head (first + length own) there refl known.slots known.known refl))
   frame_round kinds.Header payload frame free span h own_is there =
       let read = read_as (λ x. Head channel x) (all_of judge_content_header payload) frame h in
       let header = filled_took (length payload) (judge_content_header payload) read.0 read.1 in
-      subst (λ f. IsFrame kinds.Header payload (HeadOf kinds.Header payload f)) read.2 (header_frame payload header.0 read.0 span header.1 own_is there)
+      let head = head_as start first channel own kinds.Header payload (Head channel read.0) in
+      let round =
+      header_round fits deep (header_front head) refl (start + length payload) payload header.0 read.0 (span_stands pool payload start span) header.1 in
+      subst (λ f. IsFrame pool deep nodes channel own kinds.Header payload (head_as start first channel own kinds.Header payload f)) read.2
+      (around kinds.Header payload (Head channel read.0) (λ e. absurd (omega arith)) own_is round (λ is. absurd cc)
+      (header_parts pool nodes own head (first + length own) there refl refl))
   frame_round kinds.Body payload frame free span h own_is there =
       let is : Body channel payload ≡ frame = cc in
-      subst (λ f. IsFrame kinds.Body payload (HeadOf kinds.Body payload f)) is (body_frame payload span own_is)
+      let head = head_as start first channel own kinds.Body payload (Body channel payload) in
+      let free : (has_no_ids head && (head.nodes == 0)) ≡ true = grind (arith, nat_tests, ap length own_is) in
+      let within_pool : nat_le (start + length payload) (length pool) ≡ true = grind (arith, nat_tests) in
+      subst (λ f. IsFrame pool deep nodes channel own kinds.Body payload (head_as start first channel own kinds.Body payload f)) is
+      (around kinds.Body payload (Body channel payload) {make = λ at ns. Ok payload} (λ e. absurd (omega arith)) own_is
+      (record { made = payload; made_is = λ at. refl; made_size = omega arith; again = λ other at stands. none_same }) (λ is. refl)
+      (rw (free, within_pool, span.bytes_are)))
   frame_round kinds.Heartbeat payload frame free span h own_is there =
       let is : beat_on channel ≡ frame = cc in
-      subst (λ f. IsFrame kinds.Heartbeat payload (HeadOf kinds.Heartbeat payload f)) is (beat_frame payload (channel == 0) own_is)
+      subst (λ f. IsFrame pool deep nodes channel own kinds.Heartbeat payload (head_as start first channel own kinds.Heartbeat payload f)) is
+      (around kinds.Heartbeat payload (beat_on channel) {make = λ at ns. Ok []} (λ e. absurd (omega arith)) own_is
+      (record { made = []; made_is = λ at. refl; made_size = omega arith; again = λ other at stands. none_same }) (λ is. absurd cc)
+      (rw (no_ids (channel == 0) own_is)))
+    where
+      no_ids : (t : Bool) → own ≡ []
+          → (let head = head_as start first channel own kinds.Heartbeat payload (cond t Beat (BadBeat channel)) in has_no_ids head && (head.nodes == 0)) ≡ true
+      no_ids true empty = grind (arith, nat_tests, ap length empty)
+      no_ids false empty = grind (arith, nat_tests, ap length empty)

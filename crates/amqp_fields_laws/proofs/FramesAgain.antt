@@ -36,7 +36,7 @@ use Rattle.amqp_fields_write.proofs.Ordered.{plain_order}
 use Rattle.amqp_fields.proofs.Spans.{Stands}
 use Rattle.amqp_fields.proofs.Answering.{span_stands}
 use Rattle.amqp_fields_laws.specs.RoundTrips.{IsReadAgain, IsSameHead, SameHeads, ReadAgainHasSameNodes, ReadIsAccepted}
-use proofs.Frames.{HeadOf, frame_round, around_fits, body_kind, made_as, made_frame_is, scan_made, spelled_few, version_size, version_told, whole_is}
+use proofs.Frames.{head_as, frame_round, around_fits, body_kind, made_as, made_frame_is, scan_made, spelled_few, version_size, version_told, whole_is}
 use proofs.Twins.{AreSame, both_same, none_same}
 
 -- ---- one frame
@@ -129,7 +129,7 @@ module _ (m : ℕ) (deep : Bool) (pool : List ℕ) (fits : IsBytes pool) (nodes 
       let spelled = verdict-spells plain (Some m) left frame size (IsBytes-drop at pool fits) (verdict_whole m left raw size frame says.found says.is) in
       let few : size < 2 ^ 32 + 8 =
       omega (arith, spelled_few frame (take size left) spelled.0, length-take-le size left bounds.within) in
-      let own_head = HeadOf pool fits deep nodes start first channel own kind payload frame in
+      let own_head = head_as start first channel own kind payload frame in
       let told = frame_told m deep pool fits at first size head nodes before own more parts there says in
       let told_own : TellsFrame pool nodes own_head frame = subst (λ h. TellsFrame pool nodes h frame) says.head_is told in
       let span : IsSpan pool start (length payload) payload = subst (λ (h : given.Head). IsSpan pool h.start h.length payload) says.head_is says.payload_is in
@@ -142,7 +142,7 @@ module _ (m : ℕ) (deep : Bool) (pool : List ℕ) (fits : IsBytes pool) (nodes 
       ∙ ap Some (ap (take (length own)) behind ∙ take_at own more (length own) refl) in
       let is_version = λ (version : kind ≡ kinds.ProtocolHeader). version_told pool nodes own_head frame (ap byte_of version) told_own.1 in
       let free : kind ≡ kinds.ProtocolHeader → channel ≡ 0 = λ version. (is_version version).0 in
-      let round = frame_round pool fits deep nodes start first channel own kind payload frame free span says.is says.nodes_are own_nodes in
+      let round = frame_round fits deep nodes start first channel own kind payload frame free span says.is says.nodes_are own_nodes in
       let made = bytes_as kind channel round.made in
       let own_made : (k : ℕ) → size ≤ k + 8 → made_frame pool nodes k own_head ≡ Ok made =
       λ k enough. ap (λ test. if test then made_typed pool nodes k own_head else misfit_head) told_own.0 ∙ round.typed_is k (omega arith) in
@@ -198,12 +198,6 @@ module _ (m : ℕ) (deep : Bool) (pool : List ℕ) (fits : IsBytes pool) (nodes 
             let parts : (before ++ one.made) ++ rest.made ≡ before ++ made = append_assoc before one.made rest.made in
             let there : length (before ++ one.made) ≡ length before + length one.made = length-append before one.made in
             let end : length (before ++ one.made) + length rest.made ≡ length before + length made = omega arith in
-            let P : List ℕ → Type 0 = λ bs.
-            SayFrames k deep bs (length before + length one.made) (place + length first.others) next.twins next.others (length before + length made) in
-            let Q : ℕ → Type 0 = λ a.
-            SayFrames k deep ((before ++ one.made) ++ rest.made) a (place + length first.others) next.twins next.others (length before + length made) in
-            let R : ℕ → Type 0 = λ e.
-            SayFrames k deep ((before ++ one.made) ++ rest.made) (length (before ++ one.made)) (place + length first.others) next.twins next.others e in
             record {
               twins = first.twin ∷ next.twins;
               others = first.others ++ next.others;
@@ -213,13 +207,11 @@ module _ (m : ℕ) (deep : Bool) (pool : List ℕ) (fits : IsBytes pool) (nodes 
                 size = length one.made;
                 nodes_are = refl;
                 says = first.says;
-                rest = subst P parts (subst Q there (subst R end next.says));
+                rest = rw (parts, end, there) at next.says;
               };
               count_is = ap suc next.count_is;
-              heads_same = (first.head_same, subst (λ bs. SameHeads pool bs heads next.twins) parts next.heads_same);
-              same =
-                  both_same pool (before ++ made) own first.others others next.others first.same
-                  (subst (λ bs. AreSame (not deep) pool bs others next.others) parts next.same);
+              heads_same = (first.head_same, rw parts at next.heads_same);
+              same = both_same first.same (rw parts at next.same);
             };
       }
 
@@ -232,7 +224,7 @@ module _ (m : ℕ) (deep : Bool) (pool : List ℕ) (fits : IsBytes pool) (nodes 
         made_is = λ k index le. refl;
         made_size = omega (arith, says.1);
         again = λ k le front place.
-            record { twins = []; others = []; says = (refl, omega arith); count_is = refl; heads_same = tt; same = none_same pool (front ++ []) };
+            record { twins = []; others = []; says = (refl, omega arith); count_is = refl; heads_same = tt; same = none_same };
       } in
       subst (λ ns. AreRead [] ns at used) (sym says.0) none
   heads_read at first used (head ∷ heads) before own more parts there says =

@@ -28,8 +28,8 @@ use Rattle.amqp_fields_write.proofs.MeantFieldsMade.{IsOne}
 use Rattle.amqp_fields_write.proofs.MeantFramesMade.{AreOne, all_one}
 use Rattle.amqp_fields.proofs.PayloadsFound.{fourteen, few_spare, front_used, known_took}
 use Rattle.amqp_fields.proofs.Spans.{Stands, byte_below, number_took, stands_drop}
-use proofs.Fields.{MakesField, form_round, AreSlots, slots_round}
-use proofs.Twins.{IsMade, both_made, none_made, then_took, AreSame}
+use proofs.Fields.{form_round, slots_round}
+use proofs.Twins.{IsMade, both_made, none_made, stands_behind, then_took, AreSame}
 use types.Rows.{rows_of, slots_at}
 use types.Methods.{Method, method, known, judge_in_class, judge_method, judge_payload}
 use types.ContentHeaders.{ContentHeader, header_slots, judge_content_header}
@@ -37,85 +37,67 @@ use Rattle.amqp_laws.proofs.MethodLaws.{in_table}
 use Rattle.amqp_wire.specs.declared.frame_type.AMQPFrameType.{AMQPFrameType}
 use Rattle.amqp_wire.specs.declared.frame_type.AMQPFrameType.TheVariants as kinds
 
-module _ (pool : List ℕ) (fits : IsBytes pool) (deep : Bool) where
-  -- ---- those that are set in a mask
+-- ---- those that are set in a mask
 
-  -- masks that set the same properties list the same
-  same_set : (twin mask : ℕ) (ps : List Property) → set_flags twin ps ≡ set_flags mask ps → (end place : ℕ) (bytes : List ℕ)
-      → listed_set twin deep end place ps bytes ≡ listed_set mask deep end place ps bytes
-  unfolding listed_set
-  same_set twin mask [] flags end place bytes = refl
-  same_set twin mask (p ∷ ps) flags end place bytes =
-      let first : flag_at twin p.bit ≡ flag_at mask p.bit = cc in
-      let others : set_flags twin ps ≡ set_flags mask ps = cc in
-      ap₂ (λ t (list : Judge (List Node)). judge_both (listed_option t deep end place p.form) list (λ x y. x ++ y) bytes) first
-      (fun_ext (λ bs. same_set twin mask ps others end (next_place place 1) bs))
+-- masks that set the same properties list the same
+same_set : (deep : Bool) (twin mask : ℕ) (ps : List Property) → set_flags twin ps ≡ set_flags mask ps → (end place : ℕ) (bytes : List ℕ)
+    → listed_set twin deep end place ps bytes ≡ listed_set mask deep end place ps bytes
+unfolding listed_set
+same_set deep twin mask [] flags end place bytes = refl
+same_set deep twin mask (p ∷ ps) flags end place bytes =
+    let first : flag_at twin p.bit ≡ flag_at mask p.bit = cc in
+    let others : set_flags twin ps ≡ set_flags mask ps = cc in
+    ap₂ (λ t (list : Judge (List Node)). judge_both (listed_option t deep end place p.form) list (λ x y. x ++ y) bytes) first
+    (fun_ext (λ bs. same_set deep twin mask ps others end (next_place place 1) bs))
 
-  -- the nodes of properties are at no place before them, and make those that a mask sets
-  pub record MakesSet (mask place : ℕ) (ps : List Property) (nodes : List Node) (made : List ℕ) : Type 0 where
-    pub later : (before : ℕ) → before < place → is_next before nodes ≡ false
-    pub chosen : map is_some (set_at place ps nodes) ≡ set_flags mask ps
-    pub is : (end : ℕ) → made_set pool end place ps nodes ≡ Ok made
+-- the nodes of properties are at no place before them, and make those that a mask sets
+pub record MakesSet (pool : List ℕ) (mask place : ℕ) (ps : List Property) (nodes : List Node) (made : List ℕ) : Type 0 where
+  pub later : (before : ℕ) → before < place → is_next before nodes ≡ false
+  pub chosen : map is_some (set_at place ps nodes) ≡ set_flags mask ps
+  pub is : (end : ℕ) → made_set pool end place ps nodes ≡ Ok made
 
+module _ (pool : List ℕ) (deep : Bool) where
   -- properties are made, and read again
-  abbrev pub AreSet : ℕ → ℕ → List Property → Judged (List Node) → ℕ → ℕ → Type 0
-  AreSet mask place ps listed size used = IsMade (not deep) pool (MakesSet mask place ps) listed (λ e bs. listed_set mask deep e place ps bs) size used
+  abbrev pub AreSet : ℕ → ℕ → List Property → ℕ → List ℕ → ℕ → Type 0
+  AreSet mask place ps end bytes used =
+      IsMade (not deep) pool (MakesSet pool mask place ps) (λ e. listed_set mask deep e place ps) end bytes used
 
-  module _ (mask place : ℕ) (p : Property) (ps : List Property) (room : place + 1 < 256) where
-    next_is : next_place place 1 ≡ place + 1
-    next_is = byte_below (place + 1) room
-
-    -- the first one is not set
-    past_one : flag_at mask p.bit ≡ false → (nodes : List Node) (made : List ℕ) → MakesSet mask (next_place place 1) ps nodes made
-        → MakesSet mask place (p ∷ ps) nodes made
-    unfolding made_set set_at
-    past_one off nodes made rest =
-        let not_next : is_next place nodes ≡ false = rest.later place (omega (arith, next_is)) in
-        record {
-          later = λ before less. rest.later before (omega (arith, next_is));
-          chosen = rw (not_next, off) (ap (λ bs. false ∷ bs) rest.chosen);
-          is = λ e. rw not_next (rest.is e);
-        }
-
-    -- the first one is set
-    this_one : flag_at mask p.bit ≡ true → (ns ms : List Node) (x y : List ℕ) → MakesField pool fits place p.form ns x
-        → MakesSet mask (next_place place 1) ps ms y → MakesSet mask place (p ∷ ps) (ns ++ ms) (x ++ y)
-    unfolding made_set set_at
-    this_one on ns ms x y field rest =
-        let is_first : is_next place (ns ++ ms) ≡ true = field.next place ms ∙ grind (arith, nat_tests) in
-        record {
-          later = λ before less. field.next before ms ∙ grind (arith, nat_tests);
-          chosen = rw (is_first, field.passed ms, on) (ap (λ bs. true ∷ bs) rest.chosen);
-          is = λ e. rw (is_first, field.passed ms, field.is e ms, rest.is e);
-        }
-
+module _ {pool : List ℕ} (fits : IsBytes pool) (deep : Bool) where
   by_flag : (mask place : ℕ) (p : Property) (ps : List Property) (end : ℕ) (bytes : List ℕ) (option : Option Item) (a b : ℕ) → IsOne p.form → place + 1 < 256
       → Stands pool end bytes → (set : Bool) → flag_at mask p.bit ≡ set → judge_optional set p.form bytes ≡ took option a
-      → (a ≤ length bytes
-      → AreSet mask (next_place place 1) ps (listed_set mask deep end (next_place place 1) ps (drop a bytes)) (length (drop a bytes)) b)
-      → IsMade (not deep) pool (MakesSet mask place (p ∷ ps))
-      (judge_both (listed_option set deep end place p.form) (listed_set mask deep end (next_place place 1) ps) (λ x y. x ++ y) bytes)
-      (λ e bs. judge_both (listed_option set deep e place p.form) (listed_set mask deep e (next_place place 1) ps) (λ x y. x ++ y) bs) (length bytes) (a + b)
-  unfolding judge_optional listed_option
+      → (a ≤ length bytes → AreSet pool deep mask (next_place place 1) ps end (drop a bytes) b)
+      → IsMade (not deep) pool (MakesSet pool mask place (p ∷ ps))
+      (λ e bs. judge_both (listed_option set deep e place p.form) (listed_set mask deep e (next_place place 1) ps) (λ x y. x ++ y) bs) end bytes (a + b)
+  unfolding judge_optional listed_option made_set set_at
   by_flag mask place p ps end bytes option a b one room stands false off h others =
       let none : 0 ≡ a = count_took None option 0 a h in
-      both_made {M = λ ns x. (ns ≡ []) × (x ≡ [])} (λ e bs. listed_option false deep e place p.form bs) (λ e bs. listed_set mask deep e
-      (next_place place 1) ps bs)
-      end bytes
-      (λ ns ms x y empty rest. subst (λ zs. MakesSet mask place (p ∷ ps) (zs ++ ms) (x ++ y)) (sym empty.0)
-      (subst (λ zs. MakesSet mask place (p ∷ ps) ms (zs ++ y)) (sym empty.1) (past_one mask place p ps room off ms y rest)))
+      let next : next_place place 1 ≡ place + 1 = byte_below (place + 1) room in
+      both_made {M = λ ns x. (ns ≡ []) × (x ≡ [])}
+      (λ ns ms x y empty rest.
+      let not_next : is_next place ms ≡ false = rest.later place (omega arith) in
+      rw (empty.0, empty.1)
+      (record {
+        later = λ before less. rest.later before (omega arith);
+        chosen = rw (not_next, off, rest.chosen);
+        is = λ e. rw not_next (rest.is e);
+      }))
       (none_made none (refl, refl) (λ e bs. refl)) (others (omega arith))
   by_flag mask place p ps end bytes option a b one room stands true on h others =
       let given = bind_took (judge_form p.form bytes) _ option a h in
       let used : given.1 ≡ a = count_took (first_item given.0) option given.1 a given.3 in
-      let field = form_round pool fits deep p.form one end place bytes given.0 a stands (given.2 ∙ ap (took given.0) used) in
-      both_made (λ e bs. listed_option true deep e place p.form bs)
-      (λ e bs. listed_set mask deep e (next_place place 1) ps bs) end bytes
-      (λ ns ms x y one rest. this_one mask place p ps room on ns ms x y one rest)
+      let field = form_round fits deep p.form one place stands (given.2 ∙ ap (took given.0) used) in
+      both_made
+      (λ ns ms x y one rest.
+      let is_first : is_next place (ns ++ ms) ≡ true = one.next place ms ∙ grind (arith, nat_tests) in
+      record {
+        later = λ before less. one.next before ms ∙ grind (arith, nat_tests);
+        chosen = rw (is_first, one.passed ms, on, rest.chosen);
+        is = λ e. rw (is_first, one.passed ms, one.is e ms, rest.is e);
+      })
       field (others field.bound)
 
   set_round : (mask : ℕ) (ps : List Property) → AreOne ps → (end place : ℕ) (bytes : List ℕ) (options : List (Option Item)) (n : ℕ) → place + length ps < 256
-      → Stands pool end bytes → judge_set mask ps bytes ≡ took options n → AreSet mask place ps (listed_set mask deep end place ps bytes) (length bytes) n
+      → Stands pool end bytes → judge_set mask ps bytes ≡ took options n → AreSet pool deep mask place ps end bytes n
   unfolding judge_set listed_set made_set set_at
   set_round mask [] one end place bytes options n room stands h =
       none_made (count_took [] options 0 n h) (record { later = λ before less. refl; chosen = refl; is = λ e. refl }) (λ e bs. refl)
@@ -125,21 +107,16 @@ module _ (pool : List ℕ) (fits : IsBytes pool) (deep : Bool) where
       let two = bind_took (judge_set mask ps (drop first.1 bytes)) _ options n first.3 in
       let used : first.1 + two.1 ≡ n = count_took (first.0 ∷ two.0) options (first.1 + two.1) n two.3 in
       let next : next_place place 1 ≡ place + 1 = byte_below (place + 1) (omega arith) in
-      subst (AreSet mask place (p ∷ ps) (listed_set mask deep end place (p ∷ ps) bytes) (length bytes)) used
+      subst (AreSet pool deep mask place (p ∷ ps) end bytes) used
       (by_flag mask place p ps end bytes first.0 first.1 two.1 one.0 (omega arith) stands set refl first.2
       (λ within. set_round mask ps one.1 end (next_place place 1) (drop first.1 bytes) two.0 two.1 (omega arith)
       (stands_drop pool bytes end first.1 stands within) two.2))
 
   -- ---- the mask and those properties
 
-  -- all properties are made, and read again
-  abbrev pub AreProperties : Judged (List Node) → ℕ → ℕ → Type 0
-  AreProperties listed size used =
-      IsMade (not deep) pool (λ nodes made. (end : ℕ) → made_properties pool end nodes ≡ Ok made) listed (λ e bs. listed_properties deep e bs) size used
-
   -- the properties of a content header that was read
   pub properties_round : (end : ℕ) (bytes : List ℕ) (options : List (Option Item)) (n : ℕ) → Stands pool end bytes → judge_properties bytes ≡ took options n
-      → AreProperties (listed_properties deep end bytes) (length bytes) n
+      → IsMade (not deep) pool (λ nodes made. (at : ℕ) → made_properties pool at nodes ≡ Ok made) (listed_properties deep) end bytes n
   unfolding judge_properties listed_properties made_properties
   properties_round end bytes options n stands h =
       let mask = bind_took (judge_number bytes2 bytes) _ options n h in
@@ -151,100 +128,82 @@ module _ (pool : List ℕ) (fits : IsBytes pool) (deep : Bool) where
       (omega (arith, fourteen)) (stands_drop pool bytes end mask.1 stands front.1) read.2 in
       let flags = set_flags mask.0 properties in
       let twin = mask_of properties (set_at 0 properties set.nodes) in
-      let twin_is : twin ≡ flags_mask properties flags = mask_of-flags properties (set_at 0 properties set.nodes) ∙ ap
-      (flags_mask properties) set.makes.chosen in
       let is : IsMaskOf twin flags =
-      subst (λ m. IsMaskOf m flags) (sym twin_is) (flags_mask_is flags (set_flags-length mask.0 properties ∙ fourteen)) in
+      rw (mask_of-flags properties (set_at 0 properties set.nodes), set.makes.chosen)
+      (flags_mask_is flags (set_flags-length mask.0 properties ∙ fourteen)) in
       let number = number_bytes bytes2 twin in
-      let made = number ++ set.made in
       let size = length-append number set.made in
       record {
         nodes = set.nodes;
         is = then_took _ _ mask.2 (then_took _ _ set.is (ap (took set.nodes) used));
-        made = made;
+        made = number ++ set.made;
         makes = λ e. ap (after (Ok number)) (set.makes.is e);
         made_size = omega arith;
         bound = omega (arith, length-drop mask.1 bytes);
-        again = λ other rest e standing.
-            let parts : (number ++ set.made) ++ rest ≡ number ++ (set.made ++ rest) = append_assoc number set.made rest in
-            let whole = number ++ (set.made ++ rest) in
-            let whole_standing = subst (Stands other e) parts standing in
-            let behind : drop (length number) whole ≡ set.made ++ rest = drop_at number (set.made ++ rest) (length number) refl in
-            let got = (number_exact bytes2).taken number (set.made ++ rest) twin (record { fits = is.fits; bytes_are = refl }) in
-            let again =
-            set.again other rest e
-            (subst (Stands other e) behind
-            (stands_drop other whole e (length number) whole_standing (omega (arith, length-append number (set.made ++ rest))))) in
+        again = λ other rest e stands_there.
+            let behind = set.made ++ rest in
+            let got = (number_exact bytes2).taken number behind twin (record { fits = is.fits; bytes_are = refl }) in
+            let again = set.again other rest e (stands_behind number (rw append_assoc at stands_there)) in
             record {
               nodes = again.nodes;
               is =
-                  ap (listed_properties deep e) parts
-                  ∙ then_took _ _ got (then_took _ _ (ap (listed_set twin deep e 0 properties) behind ∙ same_set twin mask.0 properties is.set e 0
-                  (set.made ++ rest) ∙ again.is) (ap (took again.nodes) (sym size)));
+                  ap (listed_properties deep e) (append_assoc number set.made rest)
+                  ∙ then_took _ _ got (then_took _ _ (ap (listed_set twin deep e 0 properties) (drop_at number behind (length number) refl)
+                  ∙ same_set deep twin mask.0 properties is.set e 0 behind ∙ again.is) (ap (took again.nodes) (sym size)));
               same = again.same;
             };
       }
 
-module _ (pool : List ℕ) (fits : IsBytes pool) (deep : Bool) where
-  -- The nodes of a payload make one that is no longer, whose nodes wherever it stands say the same.
-  pub record IsPayload (kind : AMQPFrameType) (listed : Judged (List Node)) (make : ℕ → List Node → Made) (size : ℕ) : Type 0 where
-    pub nodes : List Node
-    pub used : ℕ
-    pub is : listed ≡ took nodes used
-    pub made : List ℕ
-    pub made_is : (end : ℕ) → make end nodes ≡ Ok made
-    pub made_size : length made ≤ size
-    pub again : (other : List ℕ) (end : ℕ) → Stands other end made → AreSame (not deep) pool other nodes (payload_nodes kind deep end made)
+-- The nodes of a payload make one that is no longer, whose nodes wherever it stands say the same.
+pub record IsPayload (pool : List ℕ) (deep : Bool) (kind : AMQPFrameType) (make : ℕ → List Node → Made) (end : ℕ) (payload : List ℕ) : Type 0 where
+  pub made : List ℕ
+  pub made_is : (at : ℕ) → make at (payload_nodes kind deep end payload) ≡ Ok made
+  pub made_size : length made ≤ length payload
+  pub again : (other : List ℕ) (at : ℕ) → Stands other at made
+      → AreSame (not deep) pool other (payload_nodes kind deep end payload) (payload_nodes kind deep at made)
 
-  -- no bytes after them
-  alone : (other made : List ℕ) (end : ℕ) → Stands other end made → Stands other end (made ++ [])
-  alone other made end standing = subst (Stands other end) (sym (append-nil made)) standing
+module _ {pool : List ℕ} (deep : Bool) {list : ℕ → Judge (List Node)} {make : ℕ → List Node → Made} {end used : ℕ} {bytes : List ℕ}
+    (made : IsMade (not deep) pool (λ nodes made. (at : ℕ) → make at nodes ≡ Ok made) list end bytes used) where
+  -- what was made says the same behind any bytes that are passed
+  same_behind : (kind : AMQPFrameType) (payload front : List ℕ) → payload_nodes kind deep end payload ≡ made.nodes
+      → ((at : ℕ) → payload_nodes kind deep at (front ++ made.made) ≡ nodes_of (list at made.made)) → (other : List ℕ) (at : ℕ)
+      → Stands other at (front ++ made.made)
+      → AreSame (not deep) pool other (payload_nodes kind deep end payload) (payload_nodes kind deep at (front ++ made.made))
+  same_behind kind payload front was is other at stands =
+      let again = made.again other [] at (rw append-nil (stands_behind front stands)) in
+      rw (was, is at, rw append-nil at again.is) again.same
 
-  -- ---- methods
+-- ---- methods
 
-  -- both ids, and the fields
-  abbrev pub method_made : ℕ → ℕ → List Slot → ℕ → List Node → Made
-  method_made class id slots end nodes = after (Ok (number_bytes bytes2 class ++ number_bytes bytes2 id)) (made_slots pool end 0 slots nodes)
+-- both ids
+abbrev pub ids : ℕ → ℕ → List ℕ
+ids class id = number_bytes bytes2 class ++ number_bytes bytes2 id
 
-  -- the fields of a method stand behind its ids
-  fields_listed : (class id : ℕ) (slots : List Slot) → slots_at class id ≡ Some slots → class < 2 ^ 16 → id < 2 ^ 16 → (end : ℕ) (fields : List ℕ)
-      → listed_method deep end (number_bytes bytes2 class ++ (number_bytes bytes2 id ++ fields)) ≡ listed_slots deep end 0 slots fields
-  unfolding listed_method
-  fields_listed class id slots is class_fits id_fits end fields =
-      let a = number_bytes bytes2 class in
-      let b = number_bytes bytes2 id in
-      let first = (number_exact bytes2).taken a (b ++ fields) class (record { fits = class_fits; bytes_are = refl }) in
-      let second = (number_exact bytes2).taken b fields id (record { fits = id_fits; bytes_are = refl }) in
-      simp (first, drop_at a (b ++ fields) (length a) refl, second, drop_at b fields (length b) refl, is)
+-- the fields of a method stand behind its ids
+fields_listed : (deep : Bool) (class id : ℕ) (slots : List Slot) → slots_at class id ≡ Some slots → class < 2 ^ 16 → id < 2 ^ 16 → (end : ℕ) (fields : List ℕ)
+    → listed_method deep end (ids class id ++ fields) ≡ listed_slots deep end 0 slots fields
+unfolding listed_method
+fields_listed deep class id slots is class_fits id_fits end fields =
+    let a = number_bytes bytes2 class in
+    let b = number_bytes bytes2 id in
+    let first = (number_exact bytes2).taken a (b ++ fields) class (record { fits = class_fits; bytes_are = refl }) in
+    let second = (number_exact bytes2).taken b fields id (record { fits = id_fits; bytes_are = refl }) in
+    simp (append_assoc a b fields, first, drop_at a (b ++ fields) (length a) refl, second, drop_at b fields (length b) refl, is)
 
-  fields_again : (class id : ℕ) (slots : List Slot) → slots_at class id ≡ Some slots → class < 2 ^ 16 → id < 2 ^ 16
-      → {listed : Judged (List Node)} {size used : ℕ} → (made : AreSlots pool fits deep 0 slots listed size used)
-      → (other : List ℕ) (end : ℕ) → Stands other end ((number_bytes bytes2 class ++ number_bytes bytes2 id) ++ made.made)
-      → AreSame (not deep) pool other made.nodes (payload_nodes kinds.Method deep end ((number_bytes bytes2 class ++ number_bytes bytes2 id) ++ made.made))
-  unfolding listed_payload
-  fields_again class id slots is class_fits id_fits made other end standing =
-      let a = number_bytes bytes2 class in
-      let b = number_bytes bytes2 id in
-      let front = a ++ b in
-      let bytes = front ++ made.made in
-      let past : drop (length front) bytes ≡ made.made = drop_at front made.made (length front) refl in
-      let behind_standing : Stands other end made.made =
-      subst (Stands other end) past (stands_drop other bytes end (length front) standing (omega (arith, length-append front made.made))) in
-      let again = made.again other [] end (alone other made.made end behind_standing) in
-      let read : listed_method deep end bytes ≡ took again.nodes (length made.made) =
-      ap (listed_method deep end) (append_assoc a b made.made) ∙ fields_listed class id slots is class_fits id_fits end made.made
-      ∙ ap (listed_slots deep end 0 slots) (sym (append-nil made.made)) ∙ again.is in
-      subst (AreSame (not deep) pool other made.nodes) (sym (ap nodes_of read)) again.same
+-- a method of the table
+pub record IsKnown (pool : List ℕ) (deep : Bool) (m : Method) (end : ℕ) (payload : List ℕ) : Type 0 where
+  pub slots : List Slot
+  pub known : slots_at m.class m.id ≡ Some slots
+  pub round : IsPayload pool deep kinds.Method (λ at nodes. after (Ok (ids m.class m.id)) (made_slots pool at 0 slots nodes)) end payload
 
-  -- a method of the table
-  pub record IsKnown (m : Method) (listed : Judged (List Node)) (size : ℕ) : Type 0 where
-    pub slots : List Slot
-    pub known : slots_at m.class m.id ≡ Some slots
-    pub round : IsPayload kinds.Method listed (method_made m.class m.id slots) size
+three_read : (a b c : ℕ) → judge_slots version_slots (a ∷ b ∷ c ∷ []) ≡ took (number_item a ∷ number_item b ∷ number_item c ∷ []) 3
+unfolding judge_slots judge_form
+three_read a b c = refl
 
+module _ {pool : List ℕ} (fits : IsBytes pool) (deep : Bool) where
   -- the payload of a method
-  pub method_round : (end : ℕ) (payload : List ℕ) (n : ℕ) (m : Method) → Stands pool end payload → judge_payload payload ≡ took m n
-      → IsKnown m (listed_method deep end payload) (length payload)
+  pub method_round : (end : ℕ) (payload : List ℕ) (n : ℕ) (m : Method) → Stands pool end payload
+      → judge_payload payload ≡ took m n → IsKnown pool deep m end payload
   unfolding judge_payload judge_in_class judge_method listed_method listed_payload
   method_round end payload n m all h =
       let class = bind_took (judge_number bytes2 payload) _ m n h in
@@ -261,89 +220,61 @@ module _ (pool : List ℕ) (fits : IsBytes pool) (deep : Bool) where
       let id_size = number_took bytes2 behind id.0 id.1 id.2 in
       let stands = stands_drop pool behind end id.1 (stands_drop pool payload end class.1 all class_size.1) id_size.1 in
       let table = in_table class.0 id.0 slots.0 at in
-      let made = slots_round pool fits deep slots.0 (few_spare class.0 id.0 slots.0 at) table.least end 0 fields items.0 items.1 stands items.2 in
+      let made = slots_round fits deep slots.0 (few_spare class.0 id.0 slots.0 at) table.least 0 stands items.2 in
       let is : method class.0 id.0 items.0 ≡ m =
       value_took (method class.0 id.0 items.0) of_class.0 items.1 of_class.1 items.3
       ∙ value_took of_class.0 inner.0 (id.1 + of_class.1) inner.1 of_class.3 ∙ value_took inner.0 m (class.1 + inner.1) n inner.3 in
-      let a = number_bytes bytes2 class.0 in
-      let b = number_bytes bytes2 id.0 in
-      let bytes = (a ++ b) ++ made.made in
-      let size = length-append (a ++ b) made.made in
-      let two = length-append a b in
-      let said : IsKnown (method class.0 id.0 items.0) (listed_method deep end payload) (length payload) = record {
+      let front = ids class.0 id.0 in
+      let sizes = length-append front made.made in
+      let two = length-append (number_bytes bytes2 class.0) (number_bytes bytes2 id.0) in
+      let was : payload_nodes kinds.Method deep end payload ≡ made.nodes =
+      ap nodes_of (then_took _ _ class.2 (then_took _ _ id.2 (ap (λ o. listed_known deep end o fields) at ∙ made.is))) in
+      let said : IsKnown pool deep (method class.0 id.0 items.0) end payload = record {
         slots = slots.0;
         known = at;
         round = record {
-          nodes = made.nodes;
-          used = items.1;
-          is = then_took _ _ class.2 (then_took _ _ id.2 (ap (λ o. listed_known deep end o fields) at ∙ made.is));
-          made = bytes;
-          made_is = λ e. ap (after (Ok (a ++ b))) (made.makes e);
+          made = front ++ made.made;
+          made_is = λ e. ap (λ ns. after (Ok front) (made_slots pool e 0 slots.0 ns)) was ∙ ap (after (Ok front)) (made.makes e);
           made_size = omega (arith, made.made_size, made.bound, length-drop class.1 payload, length-drop id.1 behind);
-          again = λ other e standing. fields_again class.0 id.0 slots.0 at table.class_fits table.id_fits made other e standing;
+          again = same_behind deep made kinds.Method payload front was
+              (λ e. ap nodes_of (fields_listed deep class.0 id.0 slots.0 at table.class_fits table.id_fits e made.made));
         };
       } in
-      subst (λ x. IsKnown x (listed_method deep end payload) (length payload)) is said
+      rw is at said
 
   -- ---- content headers
 
-  -- what stands in front of the properties, and these
-  abbrev pub header_made : List ℕ → ℕ → List Node → Made
-  header_made front end nodes = after (Ok front) (made_properties pool end nodes)
-
   -- the payload of a content header, with any 12 bytes in front
   pub header_round : (front : List ℕ) → length front ≡ 12 → (end : ℕ) (payload : List ℕ) (n : ℕ) (header : ContentHeader) → Stands pool end payload
-      → judge_content_header payload ≡ took header n → IsPayload kinds.Header (listed_header deep end payload) (header_made front) (length payload)
+      → judge_content_header payload ≡ took header n
+      → IsPayload pool deep kinds.Header (λ at nodes. after (Ok front) (made_properties pool at nodes)) end payload
   unfolding judge_content_header listed_header listed_payload
   header_round front twelve end payload n header stands h =
       let first = bind_took (judge_slots header_slots payload) _ header n h in
       let parts = front_used payload first.0 first.1 first.2 in
       let behind = drop first.1 payload in
       let set = bind_took (judge_properties behind) _ header n first.3 in
-      let set_made = properties_round pool fits deep end behind set.0 set.1 (stands_drop pool payload end first.1 stands parts.1) set.2 in
-      let made = front ++ set_made.made in
-      let size = length-append front set_made.made in
+      let made = properties_round fits deep end behind set.0 set.1 (stands_drop pool payload end first.1 stands parts.1) set.2 in
+      let size = length-append front made.made in
+      let was : payload_nodes kinds.Header deep end payload ≡ made.nodes = rw (← parts.0, made.is) in
       record {
-        nodes = set_made.nodes;
-        used = set.1;
-        is = ap (λ k. listed_properties deep end (drop k payload)) (sym parts.0) ∙ set_made.is;
-        made = made;
-        made_is = λ e. ap (after (Ok front)) (set_made.makes e);
+        made = front ++ made.made;
+        made_is = λ e. rw (was, made.makes e);
         made_size = omega (arith, length-drop first.1 payload);
-        again = λ other e standing.
-            let past_front : drop 12 made ≡ set_made.made = drop_at front set_made.made 12 twelve in
-            let behind_standing : Stands other e set_made.made =
-            subst (Stands other e) past_front (stands_drop other made e 12 standing (omega arith)) in
-            let again = set_made.again other [] e (alone other set_made.made e behind_standing) in
-            let read : listed_header deep e made ≡ took again.nodes (length set_made.made) =
-            ap (listed_properties deep e) (past_front ∙ sym (append-nil set_made.made)) ∙ again.is in
-            subst (AreSame (not deep) pool other set_made.nodes) (sym (ap nodes_of read)) again.same;
+        again = same_behind deep made kinds.Header payload front was (λ e. rw (drop_at front made.made 12 twelve));
       }
 
   -- ---- protocol headers
 
-  three_read : (a b c : ℕ) → judge_slots version_slots (a ∷ b ∷ c ∷ []) ≡ took (number_item a ∷ number_item b ∷ number_item c ∷ []) 3
-  unfolding judge_slots judge_form
-  three_read a b c = refl
-
   -- the three numbers of a protocol header
   pub version_round : (end a b c : ℕ) → Stands pool end (a ∷ b ∷ c ∷ [])
-      → IsPayload kinds.ProtocolHeader (listed_slots deep end 0 version_slots (a ∷ b ∷ c ∷ [])) (λ e nodes. made_slots pool e 0 version_slots nodes) 3
+      → IsPayload pool deep kinds.ProtocolHeader (λ at nodes. made_slots pool at 0 version_slots nodes) end (a ∷ b ∷ c ∷ [])
   unfolding listed_payload
   version_round end a b c stands =
-      let made =
-      slots_round pool fits deep version_slots (omega arith) refl end 0 (a ∷ b ∷ c ∷ []) (number_item a ∷ number_item b ∷ number_item c ∷ []) 3
-      stands (three_read a b c) in
+      let made = slots_round fits deep version_slots (omega arith) refl 0 stands (three_read a b c) in
       record {
-        nodes = made.nodes;
-        used = 3;
-        is = made.is;
         made = made.made;
-        made_is = made.makes;
+        made_is = λ e. rw made.is (made.makes e);
         made_size = made.made_size;
-        again = λ other e standing.
-            let again = made.again other [] e (alone other made.made e standing) in
-            let read : listed_slots deep e 0 version_slots made.made ≡ took again.nodes (length made.made) =
-            ap (listed_slots deep e 0 version_slots) (sym (append-nil made.made)) ∙ again.is in
-            subst (AreSame (not deep) pool other made.nodes) (sym (ap nodes_of read)) again.same;
+        again = same_behind deep made kinds.ProtocolHeader (a ∷ b ∷ c ∷ []) [] (ap nodes_of made.is) (λ e. refl);
       }

@@ -1,15 +1,15 @@
 -- Frames of many channels of which each becomes frames of its own channel: those of a channel come of its frames alone, unit by unit.
+use Rattle.amqp_turns.specs as turns
 use Rattle.std.proofs.lemmas.Grind.{common_steps}
-use Rattle.std.proofs.Common.{arith}
-use Rattle.std.proofs.Common.{◌≡◌, ℕ, Bool, true, false, cond, List, [], ◌∷◌, ◌++◌, append_assoc, refl, sym, ap, ap₂, subst, ◌∙◌}
+use Rattle.std.proofs.Common.{arith, ◌≡◌, ℕ, Bool, true, false, cond, List, [], ◌∷◌, ◌++◌, append_assoc, refl, ap}
 use Rattle.std.specs.List.{AllByRecursion, flat_map, filter}
 use Rattle.std.proofs.lemmas.List.Elements.{filter-append}
 use Rattle.amqp_wire.specs.Frames.{Frame, channel_id_of}
 use Rattle.amqp_wire.specs.Outlines.{outline_of}
-use Rattle.amqp_turns.specs.Units.{Finished, Begun, Nothing, begun_frames, finished_frames, frames_in, IsFinished, IsInTurn, is_of_channel, of_channel}
-use Rattle.amqp_turns.specs.Stands.{State, At}
-use Rattle.amqp_turns.specs.Steps.{step, run_state}
-use Rattle.amqp_turns.specs.InTurn.{greatest, state_on}
+use turns.Units.{Finished, Begun, Nothing, begun_frames, finished_frames, frames_in, IsFinished, IsInTurn, is_of_channel, of_channel}
+use turns.Stands.{State, At}
+use turns.Steps.{step}
+use turns.InTurn.{greatest, state_on}
 use Rattle.amqp_turns.proofs.Apart.{of_channel-in, of_channel-out}
 use Rattle.amqp_turns.proofs.Messages.{IsOn, channel_is, all_on, all_front, all_back}
 use Rattle.amqp_turns.proofs.Running.{run_state-append}
@@ -25,10 +25,8 @@ pub record GoesByChannel (each inside : State Frame → Frame → List Frame) (a
   pub inside_is : (channel : ℕ) (state : State Frame) (frame : Frame) → is_of_channel outline_of channel frame ≡ true → each state frame ≡ inside state frame
 
 filter_alike : {X : Type 0} (test : X → Bool) (b : Bool) (xs : List X) → AllByRecursion (λ x. test x ≡ b) xs → filter test xs ≡ cond b xs []
-filter_alike test true [] h = refl
-filter_alike test false [] h = refl
-filter_alike test true (x ∷ xs) h = rw h.0 (ap (λ ys. x ∷ ys) (filter_alike test true xs h.1))
-filter_alike test false (x ∷ xs) h = rw h.0 (filter_alike test false xs h.1)
+filter_alike test b [] h = grind arith
+filter_alike test b (x ∷ xs) h = grind (arith, common_steps, filter_alike test b xs h.1)
 
 -- what frames of one channel become, after what has come on it
 abbrev pub channel_made : (State Frame → Frame → List Frame) → State Frame → List Frame → List Frame
@@ -41,11 +39,13 @@ pub made_on : {each inside : State Frame → Frame → List Frame} {after : List
     → of_channel outline_of channel (after earlier frames) ≡ channel_made inside (state_on earlier channel) (of_channel outline_of channel frames)
 made_on by channel earlier [] = ap (of_channel outline_of channel) (by.none earlier)
 made_on {each = each} {inside = inside} {after = after} by channel earlier (frame ∷ frames) =
-    ap (of_channel outline_of channel) (by.more earlier frame frames)
-    ∙ filter-append (is_of_channel outline_of channel) first (after (earlier ++ frame ∷ []) frames)
-    ∙ ap₂ (λ xs ys. xs ++ ys) (filter_alike (is_of_channel outline_of channel) (is_of_channel outline_of channel frame) first
-    (by.alike channel (state_on earlier (channel_id_of frame)) frame)) (made_on by channel (earlier ++ frame ∷ []) frames)
-    ∙ by_test (is_of_channel outline_of channel frame) refl
+    let test = is_of_channel outline_of channel in
+    rw (
+      by.more earlier frame frames,
+      filter-append test first (after (earlier ++ frame ∷ []) frames),
+      filter_alike test (test frame) first (by.alike channel (state_on earlier (channel_id_of frame)) frame),
+      made_on by channel (earlier ++ frame ∷ []) frames,
+    ) (by_test (is_of_channel outline_of channel frame) refl)
   where
     first : List Frame
     first = each (state_on earlier (channel_id_of frame)) frame
@@ -55,15 +55,15 @@ made_on {each = each} {inside = inside} {after = after} by channel earlier (fram
         ≡ channel_made inside (state_on earlier channel) (of_channel outline_of channel (frame ∷ frames))
     by_test true e =
         let own : first ≡ inside (state_on earlier channel) frame =
-        ap (λ c. each (state_on earlier c) frame) (channel_is channel frame e) ∙ by.inside_is channel (state_on earlier channel) frame e in
-        let next : state_on (earlier ++ frame ∷ []) channel ≡ (step outline_of greatest (state_on earlier channel) frame).1 =
-        ap (run_state outline_of greatest (At Nothing)) (of_channel-in channel earlier frame e)
-        ∙ run_state-append outline_of greatest (At Nothing) (of_channel outline_of channel earlier) (frame ∷ []) in
-        rw e (ap₂ (λ xs s. xs ++ channel_made inside s (of_channel outline_of channel frames)) own next)
+        rw (channel_is channel frame e) (by.inside_is channel (state_on earlier channel) frame e) in
+        rw (
+          e,
+          own,
+          of_channel-in channel earlier frame e,
+          run_state-append outline_of greatest (At Nothing) (of_channel outline_of channel earlier) (frame ∷ []),
+        )
     by_test false e =
-        let next : state_on (earlier ++ frame ∷ []) channel ≡ state_on earlier channel =
-        ap (run_state outline_of greatest (At Nothing)) (of_channel-out channel earlier frame e) in
-        rw e (ap (λ s. channel_made inside s (of_channel outline_of channel frames)) next)
+        rw (e, of_channel-out channel earlier frame e)
 
 module _ (inside : State Frame → Frame → List Frame) where
   -- a frame that leads from one state to another, and frames after it

@@ -1,34 +1,33 @@
 -- What a writer returns for one frame, by what was judged of it.
+use Rattle.amqp_turns.specs as turns
+use Rattle.amqp_stream.specs as stream
+use Rattle.amqp_in_turn.specs
 use Rattle.std.proofs.lemmas.Grind.{common_steps}
-use Rattle.std.proofs.Common.{◌≡◌, ℕ, Bool, true, false, List, [], refl, sym, ap, subst, ◌∙◌, arith, Option, Ok, Err, IsTrue}
+use Rattle.std.proofs.Common.{◌≡◌, ℕ, Bool, true, false, List, refl, ap, arith, Option, Ok, Err, IsTrue}
 use Rattle.amqp_types.specs.Levels.{plain}
-use Rattle.amqp_wire.specs.Verdicts.{is_at}
-use Rattle.amqp_wire.specs.Frames.{Raw, Frame, Proto, Meth, Head, Body, Beat, BadBeat}
-use Rattle.amqp_wire.specs.Canonical.{canon}
+use Rattle.amqp_wire.specs.Verdicts.{is_at, decode_raw}
+use Rattle.amqp_wire.specs.Frames.{Raw, Frame}
 use Rattle.amqp_wire.specs.Outlines.{outline_of}
-use Rattle.amqp_wire.specs.Verdicts.{decode_raw}
-use Rattle.amqp_turns.specs.declared.fault.ContentFault.{ContentFault}
-use Rattle.amqp_turns.specs.declared.mark.Mark.TheVariants as marks
-use Rattle.amqp_turns.specs.declared.progress.Progress.{Progress}
-use Rattle.amqp_turns.specs.declared.progress.Progress.TheVariants as progresses
-use Rattle.amqp_turns.specs.InTurn.{greatest}
-use Rattle.amqp_turns.specs.Steps.{mark_after}
-use Rattle.amqp_turns.specs.Units.{is_content}
-use Rattle.amqp_stream.specs.declared.decision.Decision.{Decision}
-use Rattle.amqp_stream.specs.declared.decision.Decision.TheVariants as decisions
-use Rattle.amqp_stream.specs.declared.errors.RunError.{RunError}
-use Rattle.amqp_stream.specs.declared.errors.RunError.TheVariants as runs_end
-use Rattle.amqp_stream.specs.declared.errors.StreamError.TheVariants as streams
-use Rattle.amqp_stream.specs.Decisions.{TakesTo, RefusesTo}
-use Rattle.amqp_stream.specs.Ends.{Store}
-use Rattle.amqp_stream.specs.Errors.{faulty, cut_short, budget_spent, read_failed, write_failed, out_of_memory}
-use Rattle.amqp_stream.specs.Steps.{Manner}
-use Rattle.amqp_stream.specs.Streaming.{Ending, finished, refused_by, stopped_by, error_ending, WritesBy}
-use Rattle.amqp_stream.specs.Writing.{IsFaulty}
+use turns.declared.fault.ContentFault.{ContentFault}
+use turns.declared.mark.Mark.TheVariants as marks
+use turns.declared.progress.Progress.{Progress}
+use turns.InTurn.{greatest}
+use turns.Steps.{mark_after}
+use turns.Units.{is_content}
+use stream.declared.decision.Decision.{Decision}
+use stream.declared.decision.Decision.TheVariants as decisions
+use stream.declared.errors.RunError.{RunError}
+use stream.declared.errors.RunError.TheVariants as runs_end
+use stream.declared.errors.StreamError.TheVariants as streams
+use stream.Decisions.{TakesTo, RefusesTo}
+use stream.Ends.{Store}
+use stream.Errors.{faulty}
+use stream.Steps.{Manner}
+use stream.Streaming.{Ending, refused_by, stopped_by, error_ending, WritesBy}
 use Rattle.amqp_stream.proofs.Writes.{kept}
-use Rattle.amqp_in_turn.specs.declared.errors.Refusal.{Refusal}
-use Rattle.amqp_in_turn.specs.declared.errors.Refusal.TheVariants as refusals
-use Rattle.amqp_in_turn.specs.Judging.{given, JudgesKept, RefusesFrame}
+use specs.declared.errors.Refusal.{Refusal}
+use specs.declared.errors.Refusal.TheVariants as refusals
+use specs.Judging.{given, JudgesKept, RefusesFrame}
 
 -- ---- marks
 
@@ -47,14 +46,8 @@ module _ {S : Type 0} (w : Manner S Refusal) (level : w.level ≡ plain) (compac
       → y ≡ x → ((frame : Frame) → decode_raw raw ≡ Ok frame → w.step s frame ≡ Err (refusals.BadContent bad))
       → RefusesFrame raw bad ending → WritesBy w s s raw a a x y ending
   refused_as s raw bad (refused_by (refusals.BadContent other)) a x y same steps h = grind (arith, common_steps, at_plain, kept)
-  refused_as s raw bad (refused_by (refusals.OpenContent channel)) a x y same steps h = absurd h
-  refused_as s raw bad finished a x y same steps h = absurd h
   refused_as s raw bad (stopped_by (faulty worse)) a x y same steps h = grind (arith, common_steps, kept)
-  refused_as s raw bad (stopped_by cut_short) a x y same steps h = absurd h
-  refused_as s raw bad (stopped_by budget_spent) a x y same steps h = absurd h
-  refused_as s raw bad (stopped_by read_failed) a x y same steps h = absurd h
-  refused_as s raw bad (stopped_by write_failed) a x y same steps h = absurd h
-  refused_as s raw bad (stopped_by out_of_memory) a x y same steps h = absurd h
+  refused_as s raw bad ending a x y same steps h = absurd h
 
   -- a frame that is not in turn, before anything is written for it
   pub turn_refuses : (s : S) (raw : Raw) (bad : ContentFault) (error : RunError Refusal)
@@ -68,13 +61,7 @@ module _ {S : Type 0} (w : Manner S Refusal) (level : w.level ≡ plain) (compac
       → TakesTo w s u raw decision
   judged_takes s t u keep raw (decisions.Kept judged) is steps h = record {
     is_judged = h.1;
-    step =
-        record {
-          frame = h.1.frame;
-          is_whole = h.1.is;
-          at_level = at_plain _;
-          steps = steps h.1.frame h.1.is ∙ ap (λ k. Ok (given k h.1.frame, t)) h.0 ∙ ap (λ v. Ok (canon h.1.frame, v)) (sym is);
-        };
+    step = record { frame = h.1.frame; is_whole = h.1.is; at_level = at_plain _; steps = rw (steps h.1.frame h.1.is, h.0, is) };
     compact = compact;
   }
   judged_takes s t u keep raw decisions.Dropped is steps h = grind (arith, common_steps, at_plain)

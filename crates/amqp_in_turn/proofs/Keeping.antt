@@ -1,9 +1,12 @@
 -- A writer that keeps something of each channel on which a message has begun: what it keeps stands for the frames so far.
-use Rattle.std.proofs.lemmas.Grind.{common_steps}
-use Rattle.std.proofs.Common.{◌≡◌, ◌≢◌, ℕ, ◌+◌, ◌<◌, true, false, Bool, cond, eqb, leb, length, arith, List, [], ◌∷◌, ◌++◌, refl, sym, ap, subst, ◌∙◌, inl, inr}
-use Rattle.std.proofs.Common.{Option, Some, None, Result, Ok, Err}
-use Rattle.std.proofs.lemmas.Bool.{cases_eq}
-use Rattle.std.proofs.lemmas.Bool.Decides.{nat_tests}
+use Rattle.amqp_turns.specs as turns
+use Rattle.std.proofs.lemmas
+use Rattle.amqp_in_turn.specs
+use lemmas.Grind.{common_steps}
+use Rattle.std.proofs.Common.{◌≡◌, ◌≢◌, ℕ, ◌+◌, ◌<◌, true, false, Bool, cond, eqb, leb, length, arith, List, [], ◌∷◌, ◌++◌, refl, sym, ap, ◌∙◌, Option, Some}
+use Rattle.std.proofs.Common.{None, Result, Ok, Err}
+use lemmas.Bool.{cases_eq}
+use lemmas.Bool.Decides.{nat_tests}
 use Rattle.std.specs.Prelude.{IsSome}
 use Rattle.std.specs.FinMap as finite
 use Rattle.std.specs.FinMap.{get-empty}
@@ -12,25 +15,25 @@ use Rattle.amqp_types.specs.Methods.{Method}
 use Rattle.amqp_types.specs.ContentHeaders.{ContentHeader}
 use Rattle.amqp_wire.specs.Frames.{Frame, Proto, Meth, Head, Body, Beat, BadBeat, channel_id_of}
 use Rattle.amqp_wire.specs.Outlines.{outline_of}
-use Rattle.amqp_turns.specs.declared.fault.ContentFault.{ContentFault}
-use Rattle.amqp_turns.specs.declared.fault.ContentFault.TheVariants as faults
-use Rattle.amqp_turns.specs.declared.mark.Mark.TheVariants as marks
-use Rattle.amqp_turns.specs.declared.progress.Progress.{Progress}
-use Rattle.amqp_turns.specs.ByChannel.{ByChannel, set_at}
-use Rattle.amqp_turns.specs.InTurn.{greatest, EndsBegun, NoneIsOpen, state_on}
-use Rattle.amqp_turns.specs.Units.{Begun, Nothing, Opened, Headed, IsBegun, is_content, is_opening_id, size_in, bytes_in, of_channel}
-use Rattle.amqp_turns.specs.Answers.{Answer, Wrong, IsLastAnswer}
-use Rattle.amqp_turns.specs.Stands.{State, At, Lost, Stands}
-use Rattle.amqp_turns.specs.Marks.{begun_progress}
-use Rattle.amqp_turns.specs.Steps.{mark_after, step}
+use turns.declared.fault.ContentFault.{ContentFault}
+use turns.declared.fault.ContentFault.TheVariants as faults
+use turns.declared.mark.Mark.TheVariants as marks
+use turns.declared.progress.Progress.{Progress}
+use turns.ByChannel.{ByChannel, set_at}
+use turns.InTurn.{greatest, EndsBegun, NoneIsOpen, state_on}
+use turns.Units.{Begun, Nothing, Opened, Headed, IsBegun, is_content, is_opening_id, size_in, bytes_in, of_channel}
+use turns.Answers.{Wrong}
+use turns.Stands.{State, At, Lost, Stands}
+use turns.Marks.{begun_progress}
+use turns.Steps.{mark_after, step}
 use Rattle.amqp_turns.proofs.Running.{run_stands, stands_run, advance}
 use Rattle.amqp_turns.proofs.Apart.{of_channel-in, of_own}
 use Rattle.amqp_turns.proofs.Holding.{at_itself, at_other, get-set_at, none_held}
 use Rattle.amqp_turns.proofs.Turns.{state_on-own, state_on-other, state_on-outside, begun_on}
-use Rattle.amqp_in_turn.specs.declared.errors.Refusal.{Refusal}
-use Rattle.amqp_in_turn.specs.declared.errors.Refusal.TheVariants as refusals
-use Rattle.amqp_in_turn.specs.Ending.{least_channel, refused_at_end}
-use Rattle.amqp_in_turn.specs.Reports.{IsLeastOpen}
+use specs.declared.errors.Refusal.{Refusal}
+use specs.declared.errors.Refusal.TheVariants as refusals
+use specs.Ending.{least_channel, refused_at_end}
+use specs.Reports.{IsLeastOpen}
 use Rattle.amqp_in_turn.proofs.Least.{least_kept, least_none}
 use Rattle.amqp_in_turn.proofs.RunsInTurn.{IsFresh, Stepped, takes, refuses, GoesByTurns}
 
@@ -89,16 +92,13 @@ other_fresh bad frame e = grind (arith, common_steps, is_other)
 
 -- the least channel of which something is kept, by whether the writer may end
 end_none : (least : Option ℕ) → refused_at_end least ≡ None → least ≡ None
-end_none None e = refl
-end_none (Some channel) e = absurd cc
+end_none least e = grind arith
 
 end_open : (least : Option ℕ) (channel : ℕ) → refused_at_end least ≡ Some (refusals.OpenContent channel) → least ≡ Some channel
-end_open None channel e = absurd cc
-end_open (Some other) channel e = let same : other ≡ channel = cc in ap Some same
+end_open least channel e = grind arith
 
 end_bad : (least : Option ℕ) (bad : ContentFault) → refused_at_end least ≡ Some (refusals.BadContent bad) → ⊥
-end_bad None bad e = cc
-end_bad (Some other) bad e = cc
+end_bad least bad e = grind arith
 
 stands_on : (frames : List Frame) (channel : ℕ) (now : State Frame) → state_on frames channel ≡ now
     → Stands outline_of greatest (of_channel outline_of channel frames) now
@@ -141,87 +141,63 @@ module _ {S H : Type 0} {messages : S → ByChannel H} {put : S → ℕ → Opti
     next_is = grind (arith, common_steps, state_on-own)
 
     taken : (next : Begun Frame) → (step outline_of greatest (At begun) frame).1 ≡ At next
-        → steps s frame ≡ Ok (given earlier frame, put s (channel_id_of frame) (held_of (At next))) → Steps s earlier frame
+        → (held_at s (channel_id_of frame) ≡ held_of (At begun) → steps s frame ≡ Ok (given earlier frame, put s (channel_id_of frame) (held_of (At next))))
+        → Steps s earlier frame
     taken next e gives =
-        takes _ gives (stands_more s earlier frame _ h (ap held_of (sym (next_is ∙ e))) (λ lost. let no = sym (next_is ∙ e) ∙ lost in absurd cc))
+        takes _ (gives here) (stands_more s earlier frame _ h (ap held_of (sym (next_is ∙ e))) (λ lost. let no = sym (next_is ∙ e) ∙ lost in absurd cc))
 
     stopped : (bad : ContentFault) → mark_after greatest (begun_progress outline_of begun) (outline_of frame) ≡ marks.Fault bad
         → IsFresh bad frame → Steps s earlier frame
     stopped bad mark fresh =
         let channel = channel_id_of frame in
         let xs = of_channel outline_of channel earlier in
-        let answer : step outline_of greatest (At begun) frame ≡ (Wrong bad, Lost) = rw content (rw mark refl) in
-        let whole : step outline_of greatest (state_on earlier channel) frame ≡ (Wrong bad, Lost) = ap (λ st. step outline_of greatest st frame) is ∙ answer in
+        let answer : step outline_of greatest (At begun) frame ≡ (Wrong bad, Lost) = rw (content, mark) in
         let last = (advance outline_of greatest xs (state_on earlier channel) frame (run_stands outline_of greatest xs)).last in
-        refuses bad (by.refuses s frame bad (ap (λ p. mark_after greatest p (outline_of frame)) (ap progress_in here ∙ by.progress begun) ∙ mark)) (record {
-          lost = next_is ∙ ap (λ (p : Answer Frame × State Frame). p.1) answer;
-          last =
-              subst (λ (ys : List Frame). IsLastAnswer outline_of greatest ys (Wrong bad)) (sym (of_channel-in channel earlier frame (of_own frame content)))
-              (subst (IsLastAnswer outline_of greatest (xs ++ frame ∷ [])) (ap (λ (p : Answer Frame × State Frame). p.0) whole) last);
+        refuses bad (by.refuses s frame bad (rw (here, by.progress begun) mark)) (record {
+          lost = rw (next_is, answer);
+          last = rw (of_channel-in channel earlier frame (of_own frame content)) (rw (is, answer) at last);
           fresh = fresh;
         })
 
   module _ (s : S) (earlier : List Frame) (h : ForFrames s earlier) where
-    step_method : (channel : ℕ) (m : Method) (opens : Bool) → is_opening_id m.class m.id ≡ opens
-        → state_on earlier channel ≡ At Nothing → Steps s earlier (Meth channel m)
-    step_method channel m true e is =
-        taken s earlier (Meth channel m) Nothing h refl is (Opened (Meth channel m)) (rw e refl)
-        (by.method s earlier channel m true h.own e is (h.held_is channel ∙ ap held_of is))
-    step_method channel m false e is =
-        taken s earlier (Meth channel m) Nothing h refl is Nothing (rw e refl)
-        (by.method s earlier channel m false h.own e is (h.held_is channel ∙ ap held_of is))
-
-    step_header : (opening : Frame) (channel : ℕ) (header : ContentHeader) (basic fits all : Bool) → eqb header.class_id 60 ≡ basic
-        → leb header.body_size greatest ≡ fits → eqb 0 header.body_size ≡ all → state_on earlier channel ≡ At (Opened opening)
-        → Steps s earlier (Head channel header)
+    step_header : (opening : Frame) (channel : ℕ) (header : ContentHeader) (basic fits : Bool) → eqb header.class_id 60 ≡ basic
+        → leb header.body_size greatest ≡ fits → state_on earlier channel ≡ At (Opened opening) → Steps s earlier (Head channel header)
     unfolding is_other
-    step_header opening channel header false fits all basic fit done is =
-        stopped s earlier (Head channel header) (Opened opening) h refl is faults.WrongClass (rw basic refl) (other_fresh faults.WrongClass _ refl)
-    step_header opening channel header true false all basic fit done is =
-        stopped s earlier (Head channel header) (Opened opening) h refl is faults.BodyTooLarge (rw basic (rw fit refl))
+    step_header opening channel header false fits basic fit is =
+        stopped s earlier _ _ h refl is faults.WrongClass (rw basic) (other_fresh _ _ refl)
+    step_header opening channel header true false basic fit is =
+        stopped s earlier _ _ h refl is faults.BodyTooLarge (rw (basic, fit))
         (record { other = λ e. absurd cc; large = λ e. grind (arith, nat_tests) })
-    step_header opening channel header true true true basic fit done is =
-        taken s earlier (Head channel header) (Opened opening) h refl is Nothing (rw basic (rw fit (rw done refl)))
-        (by.header s earlier opening channel header true h.own basic fit done is (h.held_is channel ∙ ap held_of is))
-    step_header opening channel header true true false basic fit done is =
-        taken s earlier (Head channel header) (Opened opening) h refl is (Headed opening (Head channel header) []) (rw basic (rw fit (rw done refl)))
-        (by.header s earlier opening channel header false h.own basic fit done is (h.held_is channel ∙ ap held_of is))
+    step_header opening channel header true true basic fit is =
+        let all = eqb 0 header.body_size in
+        taken s earlier _ _ h refl is (cond all Nothing (Headed opening (Head channel header) []))
+        (grind (arith, common_steps)) (by.header s earlier opening channel header all h.own basic fit refl is)
 
-    step_body : (opening header : Frame) (bodies : List Frame) (channel : ℕ) (content : List ℕ) (fits all : Bool)
+    step_body : (opening header : Frame) (bodies : List Frame) (channel : ℕ) (content : List ℕ) (fits : Bool)
         → bytes_in outline_of bodies < size_in (outline_of header) → leb (bytes_in outline_of bodies + length content) (size_in (outline_of header)) ≡ fits
-        → eqb (bytes_in outline_of bodies + length content) (size_in (outline_of header)) ≡ all
         → state_on earlier channel ≡ At (Headed opening header bodies) → Steps s earlier (Body channel content)
     unfolding is_other
-    step_body opening header bodies channel content false all some fit done is =
-        stopped s earlier (Body channel content) (Headed opening header bodies) h refl is faults.BodyOverrun (rw fit refl)
-        (other_fresh faults.BodyOverrun _ refl)
-    step_body opening header bodies channel content true true some fit done is =
-        taken s earlier (Body channel content) (Headed opening header bodies) h refl is Nothing (rw fit (rw done refl))
-        (by.body s earlier opening header bodies channel content true h.own some fit done is (h.held_is channel ∙ ap held_of is))
-    step_body opening header bodies channel content true false some fit done is =
-        taken s earlier (Body channel content) (Headed opening header bodies) h refl is (Headed opening header (bodies ++ Body channel content ∷ []))
-        (rw fit (rw done refl)) (by.body s earlier opening header bodies channel content false h.own some fit done is (h.held_is channel ∙ ap held_of is))
+    step_body opening header bodies channel content false some fit is =
+        stopped s earlier _ _ h refl is faults.BodyOverrun (rw fit) (other_fresh _ _ refl)
+    step_body opening header bodies channel content true some fit is =
+        let all = eqb (bytes_in outline_of bodies + length content) (size_in (outline_of header)) in
+        taken s earlier _ _ h refl is
+        (cond all Nothing (Headed opening header (bodies ++ Body channel content ∷ []))) (grind (arith, common_steps))
+        (by.body s earlier opening header bodies channel content all h.own some fit refl is)
 
     step_content : (frame : Frame) (begun : Begun Frame) → IsBegun outline_of greatest begun → is_content (outline_of frame) ≡ true
         → state_on earlier (channel_id_of frame) ≡ At begun → Steps s earlier frame
     unfolding is_other
-    step_content (Meth channel m) Nothing b content is = step_method channel m (is_opening_id m.class m.id) refl is
-    step_content (Head channel header) (Opened opening) b content is =
-        step_header opening channel header (eqb header.class_id 60) (leb header.body_size greatest) (eqb 0 header.body_size) refl refl refl is
-    step_content (Body channel bytes) (Headed opening header bodies) b content is =
-        step_body opening header bodies channel bytes (leb (bytes_in outline_of bodies + length bytes) (size_in (outline_of header)))
-        (eqb (bytes_in outline_of bodies + length bytes) (size_in (outline_of header))) b.4 refl refl is
-    step_content (Head channel header) Nothing b content is = stopped s earlier _ Nothing h refl is faults.UnexpectedHeader refl (other_fresh _ _ refl)
-    step_content (Body channel bytes) Nothing b content is = stopped s earlier _ Nothing h refl is faults.UnexpectedBody refl (other_fresh _ _ refl)
-    step_content (Meth channel m) (Opened opening) b content is = stopped s earlier _ _ h refl is faults.UnexpectedMethod refl (other_fresh _ _ refl)
-    step_content (Body channel bytes) (Opened opening) b content is = stopped s earlier _ _ h refl is faults.UnexpectedBody refl (other_fresh _ _ refl)
-    step_content (Meth channel m) (Headed opening header bodies) b content is =
-        stopped s earlier _ _ h refl is faults.UnexpectedMethod refl (other_fresh _ _ refl)
-    step_content (Head channel second) (Headed opening header bodies) b content is =
-        stopped s earlier _ _ h refl is faults.UnexpectedHeader refl (other_fresh _ _ refl)
+    step_content (Meth channel m) Nothing b content is =
+        let opens = is_opening_id m.class m.id in
+        taken s earlier _ _ h refl is (cond opens (Opened (Meth channel m)) Nothing) (grind (arith, common_steps))
+        (by.method s earlier channel m opens h.own refl is)
+    step_content (Head channel header) (Opened opening) b content is = step_header opening channel header _ _ refl refl is
+    step_content (Body channel bytes) (Headed opening header bodies) b content is = step_body opening header bodies channel bytes _ b.4 refl is
     step_content (Proto major minor revision) begun b content is = absurd cc
     step_content Beat begun b content is = absurd cc
     step_content (BadBeat channel) begun b content is = absurd cc
+    step_content frame begun b content is = stopped s earlier frame begun h content is _ refl (other_fresh _ _ refl)
 
     step_by : (frame : Frame) (content : Bool) → is_content (outline_of frame) ≡ content → Steps s earlier frame
     step_by frame true content =
@@ -238,7 +214,7 @@ module _ {S H : Type 0} {messages : S → ByChannel H} {put : S → ℕ → Opti
   pub start : (s : S) → Own s → messages s ≡ finite.empty → ForFrames s []
   start s own none = record {
     own = own;
-    held_is = λ channel. ap (λ m. finite.get m channel) none ∙ get-empty nat_cmp channel ∙ sym by.nothing;
+    held_is = λ channel. rw none (get-empty nat_cmp channel ∙ sym by.nothing);
     in_turn = λ channel e. absurd cc;
   }
 
@@ -256,9 +232,9 @@ module _ {S H : Type 0} {messages : S → ByChannel H} {put : S → ℕ → Opti
       by_held : (held : Option H) → held_at s channel ≡ held → IsSome held
       by_held (Some kept) e = refl
       by_held None e =
-          let now : state_on frames channel ≡ At begun.begun =
-          sym (stands_run outline_of greatest (of_channel outline_of channel frames) (At begun.begun) begun.stands) in
-          absurd (begun.some (by.something begun.begun (ap held_of (sym now) ∙ sym (h.held_is channel) ∙ e)))
+          let now = stands_run outline_of greatest (of_channel outline_of channel frames) (At begun.begun) begun.stands in
+          let held = h.held_is channel in
+          absurd (begun.some (by.something begun.begun (cc)))
 
   -- a message is open on a channel of which something is kept
   kept_open : (s : S) (frames : List Frame) (channel : ℕ) (kept : H) → ForFrames s frames → held_at s channel ≡ Some kept → EndsBegun frames channel
@@ -267,7 +243,7 @@ module _ {S H : Type 0} {messages : S → ByChannel H} {put : S → ℕ → Opti
       let found : held_of (At at.begun) ≡ Some kept = ap held_of (sym at.is) ∙ sym (h.held_is channel) ∙ e in
       record {
         begun = at.begun;
-        some = λ none. absurd (let other = sym by.nothing ∙ ap (λ b. held_of (At b)) (sym none) ∙ found in cc);
+        some = λ none. absurd (let nothing = by.nothing in cc);
         stands = stands_on frames channel (At at.begun) at.is;
       }
 
@@ -286,10 +262,11 @@ module _ {S H : Type 0} {messages : S → ByChannel H} {put : S → ℕ → Opti
       by_least : (least : Option ℕ) → least_channel (messages s) ≡ least → refused_at_end least ≡ None
       by_least None e = refl
       by_least (Some channel) e =
-          let found = least_kept (messages s) channel e in
-          let now : state_on frames channel ≡ At Nothing =
-          sym (stands_run outline_of greatest (of_channel outline_of channel frames) (At Nothing) (none channel)) in
-          absurd (let other = sym by.nothing ∙ ap held_of (sym now) ∙ sym (h.held_is channel) ∙ found.kept in cc)
+          let found = (least_kept (messages s) channel e).kept in
+          let now = stands_run outline_of greatest (of_channel outline_of channel frames) (At Nothing) (none channel) in
+          let held = h.held_is channel in
+          let nothing = by.nothing in
+          absurd cc
 
   -- ---- all of it
 

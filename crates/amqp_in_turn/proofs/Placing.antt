@@ -1,23 +1,22 @@
 -- The frame that a payload is: its channel, and its mark by what is kept of the channel that stands before the payload.
+use Rattle.amqp_turns.specs as turns
+use Rattle.amqp_wire.specs as wire
 use Rattle.std.proofs.lemmas.Grind.{common_steps}
-use Rattle.std.proofs.Common.{arith}
-use Rattle.std.proofs.Common.{◌≡◌, ◌≢◌, ℕ, false, List, [], ◌∷◌, refl, sym, ap, subst, ◌∙◌, inl, inr, ◌⊎◌, Option, Some, Ok}
+use Rattle.std.proofs.Common.{arith, ◌≡◌, ◌≢◌, ℕ, false, List, [], ◌∷◌, inl, inr, ◌⊎◌, Option, Some, Ok}
 use Rattle.std.proofs.lemmas.Bool.{cases_eq, eq-eqb, ne_eqb}
-use Rattle.amqp_types.specs.Methods.{judge_payload}
-use Rattle.amqp_types.specs.ContentHeaders.{judge_content_header}
-use Rattle.amqp_wire.specs.declared.frame_type.AMQPFrameType.{AMQPFrameType}
-use Rattle.amqp_wire.specs.declared.frame_type.AMQPFrameType.TheVariants as kinds
-use Rattle.amqp_wire.specs.declared.outline.FrameOutline.{FrameOutline}
-use Rattle.amqp_wire.specs.Frames.{Raw, Frame, Proto, Meth, Head, Body, channel_id_of, beat_on}
-use Rattle.amqp_wire.specs.Outlines.{outline_of}
-use Rattle.amqp_wire.specs.Verdicts.{decode_raw, decode_payload, all_of}
+use wire.declared.frame_type.AMQPFrameType.{AMQPFrameType}
+use wire.declared.frame_type.AMQPFrameType.TheVariants as kinds
+use wire.declared.outline.FrameOutline.{FrameOutline}
+use wire.Frames.{Raw, Frame, channel_id_of}
+use wire.Outlines.{outline_of}
+use wire.Verdicts.{decode_raw, decode_payload}
 use Rattle.amqp_wire.proofs.Encoded.{read_as}
-use Rattle.amqp_turns.specs.declared.mark.Mark.{Mark}
-use Rattle.amqp_turns.specs.declared.mark.Mark.TheVariants as marks
-use Rattle.amqp_turns.specs.declared.progress.Progress.{Progress}
-use Rattle.amqp_turns.specs.InTurn.{greatest}
-use Rattle.amqp_turns.specs.Steps.{mark_after}
-use Rattle.amqp_turns.specs.Units.{is_content}
+use turns.declared.mark.Mark.{Mark}
+use turns.declared.mark.Mark.TheVariants as marks
+use turns.declared.progress.Progress.{Progress}
+use turns.InTurn.{greatest}
+use turns.Steps.{mark_after}
+use turns.Units.{is_content}
 use Rattle.amqp_in_turn.proofs.Judging.{passed_mark}
 
 -- ---- frames outside of content
@@ -26,10 +25,7 @@ proto_outside : (channel : ℕ) (payload : List ℕ) (frame : Frame)
     → decode_payload kinds.ProtocolHeader channel payload ≡ Ok frame → is_content (outline_of frame) ≡ false
 unfolding decode_payload
 proto_outside channel (a ∷ b ∷ c ∷ []) frame h = grind (arith, common_steps)
-proto_outside channel [] frame h = absurd cc
-proto_outside channel (a ∷ []) frame h = absurd cc
-proto_outside channel (a ∷ b ∷ []) frame h = absurd cc
-proto_outside channel (a ∷ b ∷ c ∷ d ∷ more) frame h = absurd cc
+proto_outside channel payload frame h = absurd cc
 
 beat_outside : (channel : ℕ) (payload : List ℕ) (frame : Frame)
     → decode_payload kinds.Heartbeat channel payload ≡ Ok frame → is_content (outline_of frame) ≡ false
@@ -56,9 +52,7 @@ placed_as : (kind : AMQPFrameType) (channel : ℕ) (payload : List ℕ) (frame :
 unfolding decode_payload
 placed_as kinds.ProtocolHeader channel payload frame h = outside (proto_outside channel payload frame h)
 placed_as kinds.Heartbeat channel payload frame h = outside (beat_outside channel payload frame h)
-placed_as kinds.Method channel payload frame h = grind (arith, common_steps, read_as)
-placed_as kinds.Header channel payload frame h = grind (arith, common_steps, read_as)
-placed_as kinds.Body channel payload frame h = grind (arith, common_steps)
+placed_as kind channel payload frame h = grind (arith, common_steps, read_as)
 
 placed : (raw : Raw) (frame : Frame) → decode_raw raw ≡ Ok frame → IsPlaced raw.channel frame
 placed raw frame h = placed_as raw.kind raw.channel raw.payload frame h

@@ -1,39 +1,36 @@
 -- Where a run of a writer that goes by the turns of the channels ended, and its report.
+use Rattle.amqp_stream.specs as stream
+use Rattle.amqp_in_turn.specs
 use Rattle.std.proofs.lemmas.Grind.{common_steps}
-use Rattle.std.proofs.Common.{arith}
-use Rattle.std.proofs.Common.{◌≡◌, ℕ, Bool, List, [], ◌∷◌, ◌++◌, drop, refl, sym, ap, subst, ◌∙◌, inl, inr, ◌⊎◌, Option, Some, None, Result, Ok, Err}
+use Rattle.std.proofs.Common.{arith, ◌≡◌, ℕ, Bool, List, [], ◌++◌, drop, refl, sym, ap, ◌∙◌, inl, inr, ◌⊎◌, Option, Some, Result, Ok, Err}
 use Rattle.std.specs.Prelude.{IfErr}
 use Rattle.amqp_types.specs.Levels.{plain}
 use Rattle.amqp_wire.specs.declared.frame_type.AMQPFrameType.{AMQPFrameType}
-use Rattle.amqp_wire.specs.Frames.{Frame, channel_id_of}
+use Rattle.amqp_wire.specs.Frames.{Frame}
 use Rattle.amqp_wire.specs.Fronts.{front}
-use Rattle.amqp_wire.specs.Outlines.{outline_of}
 use Rattle.amqp_wire.proofs.Cuts.{front-got}
 use Rattle.amqp_wire.proofs.Sequences.{SpellsFrames-precedes, sequence_front}
 use Rattle.amqp_turns.specs.declared.fault.ContentFault.{ContentFault}
-use Rattle.amqp_turns.specs.Answers.{Wrong, IsLastAnswer}
-use Rattle.amqp_turns.specs.InTurn.{greatest, IsNextFault}
-use Rattle.amqp_turns.specs.Units.{of_channel}
-use Rattle.amqp_stream.specs.declared.errors.StreamError.TheVariants as streams
-use Rattle.amqp_stream.specs.declared.errors.RunError.{RunError}
-use Rattle.amqp_stream.specs.declared.errors.RunError.TheVariants as runs_end
-use Rattle.amqp_stream.specs.declared.report.RunReport.{RunReport}
-use Rattle.amqp_stream.specs.Errors.{Cause, faulty, cut_short, budget_spent, read_failed, write_failed, out_of_memory, cause_of}
-use Rattle.amqp_stream.specs.Changes.{Change}
-use Rattle.amqp_stream.specs.Ends.{Supply, Store}
-use Rattle.amqp_stream.specs.Calls.{Call, as_reported}
-use Rattle.amqp_stream.specs.Steps.{Manner}
-use Rattle.amqp_stream.specs.Causes.{IsSequence}
-use Rattle.amqp_stream.specs.Streaming.{stopped_by, error_ending, refused_of, state_of}
-use Rattle.amqp_stream.specs.Resuming.{IsRefusedThere}
-use Rattle.amqp_stream.specs.Reports.{channel_in, IsRestBy, IsReportBy, IsAtStart, WriterReport, NeverRanReport, NeverBeganReport, unreported}
-use Rattle.amqp_in_turn.specs.declared.errors.TurnError.{TurnError}
-use Rattle.amqp_in_turn.specs.declared.errors.TurnError.TheVariants as errors
-use Rattle.amqp_in_turn.specs.declared.errors.Refusal.{Refusal}
-use Rattle.amqp_in_turn.specs.declared.errors.Refusal.TheVariants as refusals
-use Rattle.amqp_in_turn.specs.Errors.{turn_error, as_turned}
-use Rattle.amqp_in_turn.specs.RunsInTurn.{frames_at, TurnRun}
-use Rattle.amqp_in_turn.specs.Reports.{IsRestOf, IsRestInTurn, next_channel, IsTurnReport, named_channel, TurnReport, as_turned_report}
+use Rattle.amqp_turns.specs.InTurn.{IsNextFault}
+use stream.declared.errors.StreamError.TheVariants as streams
+use stream.declared.errors.RunError.{RunError}
+use stream.declared.errors.RunError.TheVariants as runs_end
+use stream.declared.report.RunReport.{RunReport}
+use stream.Errors.{Cause, write_failed, cause_of}
+use stream.Changes.{Change}
+use stream.Ends.{Supply, Store}
+use stream.Calls.{Call}
+use stream.Steps.{Manner}
+use stream.Causes.{IsSequence}
+use stream.Streaming.{stopped_by, error_ending, state_of}
+use stream.Resuming.{IsRefusedThere}
+use stream.Reports.{channel_in, IsRestBy, IsReportBy, IsAtStart, WriterReport, NeverRanReport, NeverBeganReport, unreported}
+use specs.declared.errors.TurnError.TheVariants as errors
+use specs.declared.errors.Refusal.{Refusal}
+use specs.declared.errors.Refusal.TheVariants as refusals
+use specs.Errors.{turn_error, as_turned}
+use specs.RunsInTurn.{frames_at}
+use specs.Reports.{IsRestOf, IsRestInTurn, next_channel, IsTurnReport, named_channel, TurnReport, as_turned_report}
 use Rattle.amqp_in_turn.proofs.RunsInTurn.{plainly, IsRefused, takes, refuses, GoesByTurns, whole_in_turn, turn_run}
 
 -- A run returns the same errors with its report as without it.
@@ -60,49 +57,44 @@ module _ {S : Type 0} {step : S → Frame → Result (List ℕ × S) Refusal} {e
 
   -- ---- where it ended
 
-  -- the frame after these, where it is refused, is not in turn
-  refused_there : (t : S) (m : ℕ) (rest : List ℕ) (earlier : List Frame) (why : Refusal) → StandsFor t earlier
-      → (there : IsRefusedThere w t m rest why) → (bad : ContentFault) × (why ≡ refusals.BadContent bad) × IsRefused earlier there.frame bad
-  refused_there t m rest earlier why h there = elim (by.steps t earlier there.frame h) [
-    | takes u e g ↦ absurd (let other = sym e ∙ there.refuses in cc)
-    | refuses bad e refused ↦ (bad, (let other = sym e ∙ there.refuses in cc), refused)
-  ]
-
-  next_refused : (m : ℕ) (sequence rest : List ℕ) (t : S) (fault : ContentFault) → IsSequence plain m sequence → StandsFor t (frames_at m sequence)
-      → IsRefusedThere w t m rest (refusals.BadContent fault) → IsNextFault (frames_at m (sequence ++ rest)) (frames_at m sequence) fault
-  next_refused m sequence rest t fault is h there =
-      let found = refused_there t m rest (frames_at m sequence) (refusals.BadContent fault) h there in
-      let same : found.0 ≡ fault = let e = found.1 in cc in
-      record {
-        next = there.frame;
-        rest = front plain (Some m) (drop there.used rest);
-        parts =
-            sequence_then m sequence rest is
-            ∙ ap (λ (fs : List Frame). frames_at m sequence ++ fs) (front-got plain (Some m) rest there.frame there.used there.found).sequence;
-        wrong = (subst (IsRefused (frames_at m sequence) there.frame) same found.2).last;
-      }
-
   rest_of : (t : S) (m : ℕ) (taken rest : List ℕ) (cause : Cause) → IsRestBy w t m taken rest (stopped_by cause) → IsRestOf wants m taken rest cause
   rest_of t m taken rest write_failed h = tt
-  rest_of t m taken rest out_of_memory h = h
-  rest_of t m taken rest (faulty bad) h = h
-  rest_of t m taken rest cut_short h = h
-  rest_of t m taken rest budget_spent h = h
-  rest_of t m taken rest read_failed h = h
+  rest_of t m taken rest cause h = h
 
-  -- what follows a sequence of frames is that of one in turn, and the channel of the next frame is named; at the end of input there is none
-  rest_by : (t : S) (m : ℕ) (taken sequence rest : List ℕ) (error : RunError Refusal) (next : Option ℕ) → StandsFor t (frames_at m sequence)
-      → taken ≡ sequence ++ rest → IsSequence plain m sequence → IsRestBy w t m taken rest (error_ending error) → next ≡ channel_in rest
-      → IsRestInTurn wants m taken sequence rest (named_channel error next) (turn_error error)
-      × (next_channel (turn_error error) (named_channel error next) ≡ channel_in rest)
-  unfolding channel_in
-  rest_by t m taken sequence rest (runs_end.Stream error) next h parts is there named = (rest_of t m taken rest (cause_of error) there, named)
-  rest_by t m taken sequence rest (runs_end.Refused (refusals.BadContent fault)) next h parts is (inl there) named = grind (arith, common_steps, next_refused)
-  rest_by t m taken sequence rest (runs_end.Refused (refusals.BadContent fault)) next h parts is (inr end) named = absurd (by.only_open t fault end.1)
-  rest_by t m taken sequence rest (runs_end.Refused (refusals.OpenContent channel)) next h parts is (inl there) named =
-      absurd (let other = (refused_there t m rest (frames_at m sequence) (refusals.OpenContent channel) h there).1 in cc)
-  rest_by t m taken sequence rest (runs_end.Refused (refusals.OpenContent channel)) next h parts is (inr end) named =
-      ((end.0, by.ends_open t (frames_at m sequence) channel h end.1), ap channel_in (sym end.0))
+  module _ (t : S) (m : ℕ) (sequence rest : List ℕ) (h : StandsFor t (frames_at m sequence)) (is : IsSequence plain m sequence) where
+    -- the frame after a sequence, where it is refused, is not in turn
+    refused_there : (why : Refusal) → (there : IsRefusedThere w t m rest why)
+        → (bad : ContentFault) × (why ≡ refusals.BadContent bad) × IsRefused (frames_at m sequence) there.frame bad
+    refused_there why there = elim (by.steps t (frames_at m sequence) there.frame h) [
+      | takes u e g ↦ absurd (let other = sym e ∙ there.refuses in cc)
+      | refuses bad e refused ↦ (bad, (let other = sym e ∙ there.refuses in cc), refused)
+    ]
+
+    next_refused : (fault : ContentFault) → IsRefusedThere w t m rest (refusals.BadContent fault)
+        → IsNextFault (frames_at m (sequence ++ rest)) (frames_at m sequence) fault
+    next_refused fault there =
+        let found = refused_there (refusals.BadContent fault) there in
+        let same : found.0 ≡ fault = let e = found.1 in cc in
+        record {
+          next = there.frame;
+          rest = front plain (Some m) (drop there.used rest);
+          parts = rw (sequence_then m sequence rest is, (front-got plain (Some m) rest there.frame there.used there.found).sequence);
+          wrong = (rw same at found.2).last;
+        }
+
+    -- what follows a sequence of frames is that of one in turn, and the channel of the next frame is named; at the end of input there is none
+    rest_by : (taken : List ℕ) (error : RunError Refusal) (next : Option ℕ) → taken ≡ sequence ++ rest
+        → IsRestBy w t m taken rest (error_ending error) → next ≡ channel_in rest
+        → IsRestInTurn wants m taken sequence rest (named_channel error next) (turn_error error)
+        × (next_channel (turn_error error) (named_channel error next) ≡ channel_in rest)
+    unfolding channel_in
+    rest_by taken (runs_end.Stream error) next parts there named = (rest_of t m taken rest (cause_of error) there, named)
+    rest_by taken (runs_end.Refused (refusals.BadContent fault)) next parts (inl there) named = grind (arith, common_steps, next_refused)
+    rest_by taken (runs_end.Refused (refusals.BadContent fault)) next parts (inr end) named = absurd (by.only_open t fault end.1)
+    rest_by taken (runs_end.Refused (refusals.OpenContent channel)) next parts (inl there) named =
+        absurd (let other = (refused_there (refusals.OpenContent channel) there).1 in cc)
+    rest_by taken (runs_end.Refused (refusals.OpenContent channel)) next parts (inr end) named =
+        ((end.0, by.ends_open t (frames_at m sequence) channel h end.1), ap channel_in (sym end.0))
 
   reports_in_turn : (s : S) (m : ℕ) (source : Change Supply) (r : Result (Unit {0}) (RunReport (RunError Refusal)))
       → StandsFor s [] → IfErr r (IsReportBy w s m source) → IfErr (as_turned_report r) (IsTurnReport wants m source)
@@ -110,7 +102,7 @@ module _ {S : Type 0} {step : S → Frame → Result (List ℕ × S) Refusal} {e
   reports_in_turn s m source (Err report) new h =
       let whole = whole_in_turn wants compact by s m h.sequence new h.there.0 in
       let rest =
-      rest_by (state_of w s m h.sequence) m h.taken h.sequence h.rest report.error report.channel whole.stands h.parts h.is_sequence h.there.1 h.channel_is in
+      rest_by (state_of w s m h.sequence) m h.sequence h.rest whole.stands h.is_sequence h.taken report.error report.channel h.parts h.there.1 h.channel_is in
       record {
         taken = h.taken;
         reads = h.reads;

@@ -1,23 +1,16 @@
 -- Valid text ends well, but for memory that runs out.
-use Rattle.std.proofs.Common.{◌≡◌, ◌≢◌, ℕ, List, [], ◌∷◌, ◌++◌, length, drop, Option, Some, None, Result, Ok, Err, refl, sym, ap, ◌∙◌, inl, inr, append_assoc}
-use Rattle.std.proofs.Common.{append-nil, arith}
-use Rattle.std.specs.List.{flat_map}
-use Rattle.std.proofs.lemmas.List.{length-append}
-use Rattle.amqp_wire.specs.Frames.{Frame}
-use Rattle.amqp_stream.specs.Changes.{◌⇒◌}
-use Rattle.amqp_stream.specs.Calls.{call_of}
-use Rattle.amqp_stream.specs.Ends.{Supply, Store, prepended, IsEmpty}
+use Rattle.amqp_lines.proofs
+use proofs.Names.{◌≡◌, ◌≢◌, ℕ, List, [], ◌∷◌, ◌++◌, length, drop, Option, Some, None, Ok, Err, refl, sym, ap, ◌∙◌, inl, inr, append_assoc, append-nil, arith}
+use proofs.Names.{flat_map, Frame, ◌⇒◌, call_of, Supply, Store, IsEmpty, taken_of, line, lines, HoldsNewline, Undumps, lengths, Answer}
+use proofs.Names.errors
+use Rattle.amqp_stream.specs.Ends.{prepended}
 use Rattle.amqp_stream.specs.Causes.{NoFaults}
-use Rattle.amqp_stream.proofs.Adding.{taken_of}
-use Rattle.amqp_lines.specs.Lines.{line, lines}
-use Rattle.amqp_lines.specs.Undumping.{HoldsNewline, Undumps, IsValidText, IsOkOrNoMemory}
-use Rattle.amqp_lines.specs.declared.errors.UndumpError.{UndumpError}
-use Rattle.amqp_lines.specs.declared.errors.UndumpError.TheVariants as errors
-use Rattle.amqp_lines.proofs.Newlines.{one_newline}
-use Rattle.amqp_lines.proofs.TextFronts.{AllStrict, all_strict, holds_none, first_line, line_front, line_first, IsAtNone}
-use Rattle.amqp_lines.proofs.Deciding.{first_or}
-use Rattle.amqp_lines.proofs.Gathering.{at_none}
-use Rattle.amqp_lines.proofs.LinesApart.{line_some}
+use Rattle.amqp_lines.specs.Undumping.{IsValidText, IsOkOrNoMemory}
+use proofs.Newlines.{one_newline}
+use proofs.TextFronts.{AllStrict, all_strict, holds_none, first_line, line_front, line_first, IsAtNone}
+use proofs.Deciding.{first_or}
+use proofs.Gathering.{at_none}
+use proofs.LinesApart.{line_some}
 
 -- ---- the lines after those of a sequence
 
@@ -69,34 +62,34 @@ pub record Left (bytes taken : List ℕ) (left : Option (List ℕ)) : Type 0 whe
   pub is : left ≡ Some more
 
 -- Where a source reports all of its bytes, those that were not taken yet are left.
-pub left_of : (bytes taken : List ℕ) (left : Option (List ℕ)) → Some bytes ≡ prepended taken left → Left bytes taken left
-left_of bytes taken None h = absurd cc
-left_of bytes taken (Some more) h = record { more = more; parts = cc; is = refl }
+pub left_of : {bytes taken : List ℕ} {left : Option (List ℕ)} → Some bytes ≡ prepended taken left → Left bytes taken left
+left_of {left = None} h = absurd cc
+left_of {left = Some more} h = record { more = more; parts = cc; is = refl }
 
 -- Where a source has nothing left, what is left is empty.
-pub empty_left : (left : Option (List ℕ)) (more : List ℕ) → left ≡ Some more → IsEmpty left → more ≡ []
-empty_left left more is empty = rw is at empty
+pub empty_left : {left : Option (List ℕ)} {more : List ℕ} → left ≡ Some more → IsEmpty left → more ≡ []
+empty_left is empty = rw is at empty
 
 -- Over a source that reports the bytes of a valid text, without faults of source or sink, the call returns no error but out of memory.
-pub complete : {m budget : ℕ} {a b : Supply} {k l : Store} {r : Result (Unit {0}) UndumpError} (bytes : List ℕ)
+pub complete : {m budget : ℕ} {a b : Supply} {k l : Store} {r : Answer} (bytes : List ℕ)
     → Undumps (call_of m budget (a ⇒ b) (k ⇒ l)) r → a.left ≡ Some bytes → IsValidText m budget bytes → NoFaults (a ⇒ b) (k ⇒ l) → IsOkOrNoMemory r
 complete {m = m} {budget = budget} {a = a} {b = b} {k = k} {l = l} {r = r} bytes run left valid faults =
-    by_answer r run (left_of bytes run.taken b.left (taken_of left run.takes))
+    by_answer r run (left_of (taken_of left run.takes))
   where
     after : (taken more rest : List ℕ) (frames : List Frame) → bytes ≡ taken ++ more → taken ≡ lines frames ++ rest → Others m (rest ++ more)
     after taken more rest frames parts is =
         others m frames valid.frames _ (all_strict m valid.frames valid.are_strict)
         (sym valid.is_text ∙ parts ∙ ap (λ xs. xs ++ more) is ∙ append_assoc _ rest more)
 
-    by_answer : (r : Result (Unit {0}) UndumpError) (u : Undumps (call_of m budget (a ⇒ b) (k ⇒ l)) r) → Left bytes u.taken b.left → IsOkOrNoMemory r
+    by_answer : (r : Answer) (u : Undumps (call_of m budget (a ⇒ b) (k ⇒ l)) r) → Left bytes u.taken b.left → IsOkOrNoMemory r
     by_answer (Ok done) u is = tt
     by_answer (Err errors.NoMemory) u is = tt
     by_answer (Err errors.BadText) u is =
-        no_others m _ (λ e. omega (arith, ap length e, length-append {A = ℕ}, ap length u.cause.parts))
-        (at_none_more m u.rest is.more u.cause (at_none m u.taken u.frames u.rest u.text)) (after u.taken is.more u.rest u.frames is.parts u.text.parts)
+        no_others m _ (λ e. omega (lengths, ap length e, ap length u.cause.parts))
+        (at_none_more m u.rest is.more u.cause (at_none u.text)) (after u.taken is.more u.rest u.frames is.parts u.text.parts)
     by_answer (Err errors.CutShort) u is =
-        no_others m u.rest u.cause.0 (at_none m u.taken u.frames u.rest u.text)
-        (rw (empty_left b.left is.more is.is u.cause.2, append-nil) at (after u.taken is.more u.rest u.frames is.parts u.text.parts))
-    by_answer (Err errors.TurnsSpent) u is = omega (arith, valid.enough, u.cause.0, ap length is.parts, length-append u.taken is.more)
+        no_others m u.rest u.cause.0 (at_none u.text)
+        (rw (empty_left is.is u.cause.2, append-nil) at (after u.taken is.more u.rest u.frames is.parts u.text.parts))
+    by_answer (Err errors.TurnsSpent) u is = omega (lengths, valid.enough, u.cause.0, ap length is.parts)
     by_answer (Err errors.ReadFault) u is = omega (arith, u.cause.0 faults.source_below, faults.source)
     by_answer (Err errors.WriteFault) u is = omega (arith, u.cause faults.sink_below, faults.sink)

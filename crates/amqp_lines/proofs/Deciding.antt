@@ -1,30 +1,15 @@
 -- Whether a text is the line of a frame can be decided, and so some sequence of lines in front of a text is the longest.
-use Rattle.std.proofs.Common.{◌≡◌, ◌≢◌, ◌⊎◌, ℕ, zero, suc, ◌-◌, ◌≤◌, Bool, true, false, List, [], ◌∷◌, ◌++◌, length, take, drop, Some, refl, sym, ap, ◌∙◌}
-use Rattle.std.proofs.Common.{inl, inr, append_assoc, arith}
+use Rattle.amqp_lines.proofs
+use proofs.Names.{◌≡◌, ◌≢◌, ◌⊎◌, ℕ, zero, suc, ◌-◌, ◌≤◌, Bool, true, false, List, [], ◌∷◌, ◌++◌, length, take, drop, Some, refl, sym, ap, ◌∙◌, inl, inr}
+use proofs.Names.{append_assoc, arith, cases_lt, length-drop, take_at, take-append-drop, bytes_eq-Decides, strict, IsBytes, Judged, took, value_took, Frame}
+use proofs.Names.{Raw, channel_id_of, raw_bytes, canon, payload_of, judge_frame, verdict-spelled, verdict-spells, IsBytes-append, IsBytes-nil, IsStrict, words}
+use proofs.Names.{line, lines, HasNoNewline, IsFirstLine, IsStrictWithin, IsNoLine, read_words, lengths}
 use Rattle.std.specs.Str.{bytes_eq}
-use Rattle.std.proofs.lemmas.Bool.{cases_lt}
-use Rattle.std.proofs.lemmas.List.{length-append, length-drop, take_at, take-append-drop}
-use Rattle.std.proofs.lemmas.Slice.Eq.{bytes_eq-Decides}
-use Rattle.amqp_types.specs.Levels.{strict}
-use Rattle.amqp_types.specs.Judging.{IsBytes, Judged, took}
-use Rattle.amqp_types.proofs.Took.{value_took}
-use Rattle.amqp_wire.specs.Frames.{Frame, Raw, channel_id_of}
-use Rattle.amqp_wire.specs.Spelling.{raw_bytes}
-use Rattle.amqp_wire.specs.Canonical.{canon, payload_of}
-use Rattle.amqp_wire.specs.Verdicts.{judge_frame}
-use Rattle.amqp_wire.proofs.Spelled.{verdict-spelled}
-use Rattle.amqp_wire.proofs.Encoded.{verdict-spells}
-use Rattle.amqp_stream.proofs.Adding.{IsBytes-append, IsBytes-nil}
-use Rattle.amqp_lines.specs.Laws.{IsStrict}
-use Rattle.amqp_lines.specs.Lines.{words, line, lines}
-use Rattle.amqp_lines.specs.LineReading.{HasNoNewline, IsFirstLine}
-use Rattle.amqp_lines.specs.OneLine.{IsStrictWithin, IsNoLine}
-use Rattle.amqp_lines.specs.Reading.{read_words}
-use Rattle.amqp_lines.proofs.ReadLines.{kind_of}
-use Rattle.amqp_lines.proofs.ReadWords.{bytes_behind, bytes_front}
-use Rattle.amqp_lines.proofs.LinesApart.{raw_canon, strict_back}
-use Rattle.amqp_lines.proofs.TextFronts.{AllStrict, first_is_canon, IsAtNone, at_clean, at_other}
-use Rattle.amqp_lines.proofs.CanonBytes.{one_byte}
+use proofs.ReadLines.{kind_of}
+use proofs.ReadWords.{bytes_behind, bytes_front}
+use proofs.LinesApart.{raw_canon, strict_back}
+use proofs.TextFronts.{AllStrict, first_is_canon, IsAtNone, at_clean, at_other}
+use proofs.CanonBytes.{one_byte}
 
 -- ---- what is read of a line
 
@@ -32,13 +17,13 @@ use Rattle.amqp_lines.proofs.CanonBytes.{one_byte}
 abbrev pub raw_in : Frame → Raw
 raw_in f = record { kind = kind_of f; channel = channel_id_of f; payload = payload_of f }
 
-words_in : (f : Frame) (text : List ℕ) → text ≡ line f → take (length text - 1) text ≡ words f
+words_in : (f : Frame) {text : List ℕ} → text ≡ line f → take (length text - 1) text ≡ words f
 unfolding line
-words_in f text e = rw e (take_at (words f) _ _ (omega (arith, length-append (words f) (10 ∷ []))))
+words_in f e = rw e (take_at (words f) _ _ (omega lengths))
 
 -- What is read of the words of a strict frame's line is the frame's kind, channel and canonical payload.
-pub line_back : (f : Frame) (text : List ℕ) → IsStrict f → text ≡ line f → read_words (take (length text - 1) text) ≡ raw_in f
-line_back f text h e = cc (words_in f text e, strict_back f h)
+pub line_back : {f : Frame} {text : List ℕ} → IsStrict f → text ≡ line f → read_words (take (length text - 1) text) ≡ raw_in f
+line_back {f = f} h e = cc (words_in f e, strict_back f h)
 
 -- ---- tests
 
@@ -47,17 +32,17 @@ bytes_or [] = inl IsBytes-nil
 bytes_or (x ∷ xs) = elim (cases_lt x 256) [
   | inl low ↦ elim (bytes_or xs) [
     | inl h ↦ inl (IsBytes-append (x ∷ []) xs (λ i. one_byte x i low) h)
-    | inr never ↦ inr (λ h. never (bytes_behind (x ∷ []) xs _ refl h))
+    | inr never ↦ inr (λ h. never (bytes_behind (x ∷ []) xs refl h))
   ]
   | inr high ↦ inr (λ h. omega (arith, h 0))
 ]
 
-same_or : (xs ys : List ℕ) → (xs ≡ ys) ⊎ (xs ≢ ys)
-same_or xs ys = by_test _ refl
+same_or : {xs ys : List ℕ} → (xs ≡ ys) ⊎ (xs ≢ ys)
+same_or {xs = xs} {ys = ys} = by_test _ refl
   where
     by_test : (b : Bool) → bytes_eq xs ys ≡ b → (xs ≡ ys) ⊎ (xs ≢ ys)
     by_test true h = inl ((bytes_eq-Decides xs ys).0 h)
-    by_test false h = inr (λ e. absurd (let x = sym h ∙ (bytes_eq-Decides xs ys).1 e in cc))
+    by_test false h = inr (λ e. let x = (bytes_eq-Decides xs ys).1 e in cc)
 
 -- ---- deciding
 
@@ -67,27 +52,27 @@ pub record IsALine (m : ℕ) (text : List ℕ) : Type 0 where
   pub is_line : text ≡ line frame
 
 -- what the bytes of a frame are decoded as, of which a text is the line
-judged_line : (m : ℕ) (text : List ℕ) (f : Frame) → IsStrictWithin m f → text ≡ line f → raw_bytes (read_words (take (length text - 1) text)) ≡ canon f
-judged_line m text f good e = cc (line_back f text good.is_strict e, raw_canon f)
+judged_line : {m : ℕ} {text : List ℕ} {f : Frame} → IsStrictWithin m f → text ≡ line f → raw_bytes (read_words (take (length text - 1) text)) ≡ canon f
+judged_line {f = f} good e = cc (line_back good.is_strict e, raw_canon f)
 
-verdict_line : (m : ℕ) (text : List ℕ) (f : Frame) → IsStrictWithin m f → text ≡ line f
+verdict_line : {m : ℕ} {text : List ℕ} {f : Frame} → IsStrictWithin m f → text ≡ line f
     → judge_frame strict (Some m) (raw_bytes (read_words (take (length text - 1) text))) ≡ took f (length (canon f))
-verdict_line m text f good e =
-    rw (judged_line m text f good e) (verdict-spelled strict _ _ f good.is_strict.encodes good.within)
+verdict_line {f = f} good e =
+    rw (judged_line good e) (verdict-spelled strict _ _ f good.is_strict.encodes good.within)
 
 by_verdict : (m : ℕ) (text : List ℕ) (v : Judged Frame)
     → judge_frame strict (Some m) (raw_bytes (read_words (take (length text - 1) text))) ≡ v → IsALine m text ⊎ IsNoLine m text
 by_verdict m text (took g n) h =
     let bytes = raw_bytes (read_words (take (length text - 1) text)) in
     elim (bytes_or bytes) [
-      | inr never ↦ inr (λ f good e. absurd (never (rw (judged_line m text f good e) good.is_strict.are_bytes)))
-      | inl fits ↦ elim (same_or text (line g)) [
+      | inr never ↦ inr (λ f good e. absurd (never (rw (judged_line good e) good.is_strict.are_bytes)))
+      | inl fits ↦ elim (same_or) [
         | inr different ↦
-            inr (λ f good e. absurd (different (cc (e, value_took f g (length (canon f)) n (sym (verdict_line m text f good e) ∙ h)))))
+            inr (λ f good e. absurd (different (cc (e, value_took f g (length (canon f)) n (sym (verdict_line good e) ∙ h)))))
         | inl same ↦
             let spelled = verdict-spells strict (Some m) bytes g n fits h in
-            let is = first_is_canon (take n bytes) g spelled.0 in
-            let front = bytes_front (take n bytes) (drop n bytes) bytes (sym (take-append-drop n bytes)) fits in
+            let is = first_is_canon g spelled.0 in
+            let front = bytes_front (take n bytes) (drop n bytes) (sym (take-append-drop n bytes)) fits in
             inl (record {
               frame = g;
               good = record { is_strict = record { are_bytes = rw is at front; encodes = rw is at spelled.0 }; within = rw is at spelled.1 };
@@ -95,15 +80,15 @@ by_verdict m text (took g n) h =
             })
       ]
     ]
-by_verdict m text v h = inr (λ f good e. absurd (let x = sym h ∙ verdict_line m text f good e in cc))
+by_verdict m text v h = inr (λ f good e. absurd (let x = sym h ∙ verdict_line good e in cc))
 
 decide_line : (m : ℕ) (text : List ℕ) → IsALine m text ⊎ IsNoLine m text
 decide_line m text = by_verdict m text _ refl
 
 -- ---- the first line of a text
 
-first_more : (c : ℕ) (text : List ℕ) (end : ℕ) → c ≢ 10 → IsFirstLine text end → IsFirstLine (c ∷ text) (suc end)
-first_more c text end differs h =
+first_more : {c : ℕ} {text : List ℕ} {end : ℕ} → c ≢ 10 → IsFirstLine text end → IsFirstLine (c ∷ text) (suc end)
+first_more {c = c} differs h =
     record {
       front = c ∷ h.front;
       parts = ap (λ xs. c ∷ xs) h.parts;
@@ -119,12 +104,12 @@ pub record HasFirstLine (text : List ℕ) : Type 0 where
 -- A text has a first line, or it has no newline.
 pub first_or : (text : List ℕ) → HasFirstLine text ⊎ HasNoNewline text
 first_or [] = inr tt
-first_or (c ∷ cs) = elim (same_or (c ∷ []) (10 ∷ [])) [
+first_or (c ∷ cs) = elim (same_or) [
   | inl same ↦ inl (record { end = 1; is_first = record { front = []; parts = same; none_before = tt; some = omega arith; within = omega arith } })
   | inr other ↦
       let differs : c ≢ 10 = λ e. other (ap (λ x. x ∷ []) e) in
       elim (first_or cs) [
-        | inl h ↦ inl (record { end = suc h.end; is_first = first_more c cs h.end differs h.is_first })
+        | inl h ↦ inl (record { end = suc h.end; is_first = first_more differs h.is_first })
         | inr none ↦ inr (differs, none)
       ]
 ]
@@ -139,9 +124,9 @@ pub record Fronts (m : ℕ) (text : List ℕ) : Type 0 where
   pub parts : text ≡ lines frames ++ rest
   pub none : IsAtNone m rest
 
-none_front : (m : ℕ) (text : List ℕ) → IsAtNone m text → Fronts m text
+none_front : {m : ℕ} {text : List ℕ} → IsAtNone m text → Fronts m text
 unfolding lines
-none_front m text h = record { frames = []; rest = text; good = tt; parts = refl; none = h }
+none_front {text = text} h = record { frames = []; rest = text; good = tt; parts = refl; none = h }
 
 unfoldable pub more_front : (m : ℕ) (text : List ℕ) (end : ℕ) (f : Frame)
     → IsStrictWithin m f → take end text ≡ line f → Fronts m (drop end text) → Fronts m text
@@ -156,21 +141,21 @@ more_front m text end f good is h = record {
 }
 
 fronts_by : (m n : ℕ) (text : List ℕ) → length text ≤ n → Fronts m text
-fronts_by m zero text few = none_front m text (at_clean m text (none_in text few))
+fronts_by m zero text few = none_front (at_clean m text (none_in text few))
   where
     none_in : (xs : List ℕ) → length xs ≤ 0 → HasNoNewline xs
     none_in [] h = tt
     none_in _ h = absurd (omega arith)
 fronts_by m (suc n) text few = elim (first_or text) [
-  | inr none ↦ none_front m text (at_clean m text none)
+  | inr none ↦ none_front (at_clean m text none)
   | inl h ↦ elim (decide_line m _) [
     | inl is ↦
         more_front m text h.end is.frame is.good is.is_line
         (fronts_by m n _ (omega (arith, few, length-drop h.end text, h.is_first.some, h.is_first.within)))
-    | inr other ↦ none_front m text (at_other m text h.end h.is_first other)
+    | inr other ↦ none_front (at_other m text h.end h.is_first other)
   ]
 ]
 
 -- Each text is the lines of strict frames, and then what begins with no line.
-pub fronts_of : (m : ℕ) (text : List ℕ) → Fronts m text
-fronts_of m text = fronts_by m (length text) text (omega arith)
+pub fronts_of : {m : ℕ} {text : List ℕ} → Fronts m text
+fronts_of {m = m} {text = text} = fronts_by m (length text) text (omega arith)

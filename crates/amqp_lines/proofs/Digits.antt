@@ -1,13 +1,12 @@
 -- Digits of a number that are put at the end of a buffer, the last one first.
-use Rattle.std.proofs.Common.{◌≡◌, ℕ, ◌+◌, ◌-◌, ◌/◌, ◌%◌, ◌^◌, ◌<◌, ◌≤◌, List, [], ◌∷◌, ◌++◌, length, drop, sym, ap, ◌∙◌, append_assoc, arith}
-use Rattle.std.specs.Prelude.{map, slice_set}
-use Rattle.std.specs.Fmt.{decimal}
+use Rattle.amqp_lines.proofs
+use proofs.Names.{◌≡◌, ℕ, ◌+◌, ◌-◌, ◌/◌, ◌%◌, ◌^◌, ◌<◌, ◌≤◌, List, [], ◌∷◌, ◌++◌, length, drop, sym, ap, ◌∙◌, append_assoc, arith, map, decimal, length-append}
+use proofs.Names.{length-drop, flag_at, flags_from, sign}
+use Rattle.std.specs.Prelude.{slice_set}
 use Rattle.std.proofs.lemmas.Fmt.{decimal_digit, decimal_step, decimal_nonempty, length-decimal-le}
 use Rattle.std.proofs.lemmas.Grind.{drop-set_at}
-use Rattle.std.proofs.lemmas.List.{length-append, length-drop, map-append}
-use Rattle.amqp_types.specs.Flags.{flag_at, flags_from}
+use Rattle.std.proofs.lemmas.List.{map-append}
 use Rattle.amqp_types.proofs.FlagBytes.{flags_from_next}
-use Rattle.amqp_lines.specs.Words.{sign}
 
 -- the last digits are put, and those of the rest of the number are not
 pub record ArePut (number : ℕ) (digits : List ℕ) (place rest : ℕ) : Type 0 where
@@ -33,8 +32,7 @@ pub one_more : (number : ℕ) (digits : List ℕ) (place rest : ℕ) → length 
 one_more number digits place rest count more some h =
     let fits_rest = h.fits in
     let few = h.few in
-    let put =
-    drop-set_at digits place (place - 1 + 1) (48 + rest % 10) (omega arith) (omega arith) in
+    let put = drop-set_at digits place (place - 1 + 1) (48 + rest % 10) (omega arith) (omega arith) in
     record {
       few = omega arith;
       fits = omega arith;

@@ -1,55 +1,19 @@
 -- A run of a dumper dumps its stream.
-use Rattle.std.proofs.Common.{◌≡◌, ◌≢◌, ℕ, List, [], ◌∷◌, ◌++◌, ◌⊎◌, inl, inr, None, Result, Ok, Err, refl, sym, ap, ◌∙◌}
+use Rattle.amqp_lines.proofs
+use proofs.Names.{◌≡◌, ◌≢◌, ℕ, List, [], ◌∷◌, ◌++◌, ◌⊎◌, inl, inr, None, Result, Ok, Err, refl, sym, ap, ◌∙◌, plain, Frame, front, StreamError, cause_of, IfErr}
+use proofs.Names.{◌⇒◌, Call, as_reported, Supply, Store, line, lines}
 use Rattle.std.specs.declared.string.ParseError.{Infallible}
-use Rattle.amqp_types.specs.Levels.{plain}
-use Rattle.amqp_wire.specs.Frames.{Frame, Raw}
-use Rattle.amqp_wire.specs.Fronts.{front}
-use Rattle.amqp_wire.specs.Verdicts.{decode_raw}
-use Rattle.amqp_stream.specs.declared.errors.StreamError.{StreamError}
-use Rattle.amqp_stream.specs.declared.errors.StreamError.TheVariants as errors
-use Rattle.amqp_stream.specs.Errors.{Cause, faulty, write_failed, out_of_memory, cause_of}
-use Rattle.std.specs.Prelude.{IfErr}
-use Rattle.amqp_stream.specs.Changes.{Change, ◌⇒◌}
-use Rattle.amqp_stream.specs.Calls.{Call, as_reported}
-use Rattle.amqp_stream.specs.Ends.{Supply, Store}
-use Rattle.amqp_stream.specs.Writing.{Gathered, GatherFails}
+use Rattle.amqp_stream.specs.Changes.{Change}
 use Rattle.amqp_stream.specs.Steps.{text, refused}
-use Rattle.amqp_stream.specs.Streaming.{finished, stopped_by, ending_of, as_run, plan_of, IsStep, WritesBy, IsWelcome, IsDoneOrWanting}
+use Rattle.amqp_stream.specs.Streaming.{stopped_by, ending_of, as_run, plan_of, IsWelcome, IsDoneOrWanting}
 use Rattle.amqp_stream.specs.Causes.{IsOkOrNoMemory}
 use Rattle.amqp_stream.specs.declared.report.RunReport.{RunReport}
 use Rattle.amqp_stream.specs.Runs.{WriterRun}
 use Rattle.amqp_stream.specs.Reports.{IsReportBy, WriterReport, NeverRanReport, NeverBeganReport, as_run_report, unreported}
 use Rattle.amqp_stream.proofs.Runs.{run_by, stream_error}
 use Rattle.amqp_stream.proofs.Reporting.{unreported_as_run, never_began_report}
-use Rattle.amqp_stream.proofs.Writes.{kept}
-use Rattle.amqp_lines.specs.Lines.{line, lines}
-use Rattle.amqp_lines.specs.LineTexts.{HasNoLine, PutsLine}
 use Rattle.amqp_lines.specs.Dumping.{dumping, WritesLines, DumpRun, IsDumpReport, DumpReport}
-
--- ---- one frame
-
--- the line of a frame that was read
-line_step : (s t : Unit {0}) (raw : Raw) (frame : Frame) → decode_raw raw ≡ Ok frame → IsStep dumping s t raw (line frame)
-line_step s t raw frame is = record { frame = frame; is_whole = is; at_level = refl; steps = refl }
-
-pub line_gathered : (s t : Unit {0}) (raw : Raw) (text : List ℕ) (a b : Store) (before after : List ℕ) (done : Unit {0})
-    → PutsLine raw text (Ok done) → Gathered a b before after text → WritesBy dumping s t raw a b before after finished
-line_gathered s t raw text a b before after done h g = record { bytes = line h.0; step = line_step s t raw h.0 h.1; gathered = rw h.2 at g }
-
-pub line_failed : (s t : Unit {0}) (raw : Raw) (text : List ℕ) (a b : Store) (before after : List ℕ) (done : Unit {0})
-    → PutsLine raw text (Ok done) → GatherFails a b before after text → WritesBy dumping s t raw a b before after (stopped_by write_failed)
-line_failed s t raw text a b before after done h g =
-    record { bytes = line h.0; next = t; step = line_step s t raw h.0 h.1; failed = rw h.2 at g }
-
-unrendered_by : (s t : Unit {0}) (raw : Raw) (a : Store) (before : List ℕ) (cause : Cause)
-    → HasNoLine raw cause → WritesBy dumping s t raw a a before before (stopped_by cause)
-unrendered_by s t raw a before (faulty bad) h = (h, kept a before before refl, refl)
-unrendered_by s t raw a before out_of_memory h = (refl, kept a before before refl)
-unrendered_by s t raw a before cause h = absurd h
-
-pub line_unrendered : (s t : Unit {0}) (raw : Raw) (text : List ℕ) (a : Store) (before : List ℕ) (error : StreamError)
-    → PutsLine raw text (Err error) → WritesBy dumping s t raw a a before before (stopped_by (cause_of error))
-line_unrendered s t raw text a before error h = unrendered_by s t raw a before (cause_of error) h
+use Rattle.amqp_stream.specs.declared.errors.StreamError.TheVariants as errors
 
 -- ---- the text of frames
 
@@ -72,8 +36,8 @@ welcome m bytes = record { none_refused = none_refused (front plain _ bytes); en
 
 -- ---- a whole call
 
-ending_is : (r : Result (Unit {0}) StreamError) (error : StreamError) → r ≡ Err error → ending_of {E = Infallible} (as_run r) ≡ stopped_by (cause_of error)
-ending_is r error e = ap (λ x. ending_of (as_run x)) e
+ending_is : {r : Result (Unit {0}) StreamError} {error : StreamError} → r ≡ Err error → ending_of {E = Infallible} (as_run r) ≡ stopped_by (cause_of error)
+ending_is e = ap (λ x. ending_of (as_run x)) e
 
 done_or_wanting : (r : Result (Unit {0}) StreamError) → IsDoneOrWanting (ending_of {E = Infallible} (as_run r)) → IsOkOrNoMemory r
 done_or_wanting (Ok done) h = tt
@@ -113,10 +77,10 @@ ReportedOrNever supply store call r =
 -- No dump ends with the error that an encoding is not tidy.
 pub untidy_never : {S K : Type 0} {supply : S → Supply} {store : K → Store} {call : Call S K} (r : Result (Unit {0}) (RunReport StreamError))
     → ReportedOrNever supply store call r → unreported r ≢ Err errors.NotTidy
-untidy_never r (inl run) e = let alone = rw unreported_as_run at run.0 in alone.stream.run.tidy_only (ending_is (unreported r) errors.NotTidy e)
+untidy_never r (inl run) e = let alone = rw unreported_as_run at run.0 in alone.stream.run.tidy_only (ending_is e)
 untidy_never r (inr never) e =
     let alone = rw unreported_as_run at never.0 in
-    let other = sym (ending_is (unreported r) errors.NotTidy e) ∙ ap ending_of alone.0.no_memory in absurd cc
+    let other = sym (ending_is e) ∙ ap ending_of alone.0.no_memory in absurd cc
 
 -- A dump with its report writes the lines of its stream and reports where it ended, or never began, out of memory.
 pub dump_report : {S K : Type 0} {supply : S → Supply} {store : K → Store} {call : Call S K} (r : Result (Unit {0}) (RunReport StreamError))

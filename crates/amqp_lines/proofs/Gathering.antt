@@ -1,24 +1,16 @@
 -- Canonical bytes of lines, gathered one after another.
-use Rattle.std.proofs.Common.{subst, ◌≡◌, ℕ, ◌-◌, List, [], ◌∷◌, ◌++◌, length, take, drop, Ok, Err, refl, sym, ap, ◌∙◌, append_assoc, append-nil, arith, Result}
-use Rattle.std.proofs.lemmas.List.{length-append, take-append-drop, drop_at}
+use Rattle.amqp_lines.proofs
+use proofs.Names.{subst, ◌≡◌, ℕ, ◌-◌, List, [], ◌∷◌, ◌++◌, length, take, drop, Ok, Err, refl, sym, ap, ◌∙◌, append_assoc, append-nil, arith, Result}
+use proofs.Names.{length-append, take-append-drop, drop_at, Frame, canon, canon_frames, Store, Gathered, Gains-none, Gains-then, Rises-later, line, lines}
+use proofs.Names.{HasNoNewline, IsFirstLine, GathersLines, GathersAll, PassesLines, IsLineOf, IsStrictWithin, IsLongestText, LinePlace, UndumpError, lengths}
+use proofs.Names.errors
 use Rattle.std.proofs.lemmas.Grind.{flat_map-append}
-use Rattle.amqp_wire.specs.Frames.{Frame}
-use Rattle.amqp_wire.specs.Canonical.{canon, canon_frames}
-use Rattle.amqp_stream.specs.Ends.{Store}
-use Rattle.amqp_stream.specs.Writing.{Gathered, Keeps}
-use Rattle.amqp_stream.proofs.Adding.{Gains-none, Gains-then, Rises-later}
-use Rattle.amqp_lines.specs.Lines.{line, lines}
-use Rattle.amqp_lines.specs.LineReading.{HasNoNewline, IsFirstLine, GathersLine, GathersLines, IsNextPlace, PassesLine, GathersAll}
-use Rattle.amqp_lines.specs.UndumpReports.{PassesLines}
-use Rattle.amqp_lines.specs.OneLine.{IsLineOf, IsStrictWithin}
-use Rattle.amqp_lines.specs.Undumping.{IsLongestText}
-use Rattle.amqp_lines.specs.declared.report.LinePlace.{LinePlace}
-use Rattle.amqp_lines.specs.declared.errors.UndumpError.{UndumpError}
-use Rattle.amqp_lines.specs.declared.errors.UndumpError.TheVariants as errors
-use Rattle.amqp_lines.proofs.TextFronts.{AllStrict, all_strict, are_strict, first_line, IsAtNone, at_other, is_longest}
-use Rattle.amqp_lines.proofs.Deciding.{Fronts}
+use Rattle.amqp_stream.specs.Writing.{Keeps}
+use Rattle.amqp_lines.specs.LineReading.{GathersLine, IsNextPlace, PassesLine}
+use proofs.TextFronts.{AllStrict, all_strict, are_strict, first_line, IsAtNone, at_other, is_longest}
+use proofs.Deciding.{Fronts}
 use Rattle.amqp_stream.proofs.Transcribing.{gathered_then}
-use Rattle.amqp_lines.proofs.Newlines.{each_both}
+use proofs.Newlines.{each_both}
 
 -- ---- sequences one after another
 
@@ -49,8 +41,8 @@ passes_both fs gs at beyond now h k =
     let all = ap length (lines_both fs gs) ∙ length-append _ (lines gs) in
     record { line = λ fits. omega (arith, few, fits, h.line, k.line); place = λ fits. omega (arith, all, fits, h.place, k.place) }
 
-passes_one : (f : Frame) (text : List ℕ) (at now : LinePlace) → text ≡ line f → IsNextPlace (length text) at now → PassesLines (f ∷ []) at now
-passes_one f text at now is h =
+passes_one : (f : Frame) {text : List ℕ} (at now : LinePlace) → text ≡ line f → IsNextPlace (length text) at now → PassesLines (f ∷ []) at now
+passes_one f at now is h =
     let size = ap length (line_alone f ∙ sym is) in
     record { line = λ fits. omega (arith, h.line, fits); place = λ fits. omega (arith, size, h.place, fits) }
 
@@ -94,7 +86,7 @@ module _ {m : ℕ} {text rest before after : List ℕ} {at now : LinePlace} {a b
       record {
         good = each_both (IsStrictWithin m) h.frames one h.good (is.strict_within, tt);
         parts = cc (h.parts, here, append_assoc (lines h.frames) (lines one) others, lines_both h.frames one);
-        passes = passes_both h.frames one at now beyond h.passes (passes_one is.frame part now beyond is.is_line next);
+        passes = passes_both h.frames one at now beyond h.passes (passes_one is.frame now beyond is.is_line next);
         canonical = cc (canon_both h.frames one, append-nil (canon is.frame));
       }
 
@@ -127,7 +119,7 @@ module _ {m : ℕ} {text rest before after : List ℕ} {at now : LinePlace} {a b
       → GathersLines m text at beyond a c before later (Err error)
   error_at {end = end} errors.BadText first g same =
       rw same (lines_by _ (
-        is_longest m text h.frames rest h.good h.parts (at_other m rest end first g.0),
+        is_longest h.good h.parts (at_other m rest end first g.0),
         record { front = first.front; back = drop end rest; parts = first_line rest end first },
         still h.gathered g.1,
       ))
@@ -155,7 +147,7 @@ module _ {m : ℕ} {text rest before after : List ℕ} {at now : LinePlace} {a b
         passes = more.passes;
         gathers = record {
           piece = w.written ++ f.piece;
-          gains = Gains-then a b c w.written f.piece w.gains f.gains;
+          gains = Gains-then _ _ _ _ _ w.gains f.gains;
           prefix = (f.prefix.0, whole);
           rises = Rises-later a.faults b.faults c.faults w.gains.faults f.gains.faults f.rises;
           none = f.none;
@@ -174,9 +166,9 @@ module _ {m : ℕ} {text rest before after : List ℕ} {at now : LinePlace} {a b
 -- ---- the longest text, in parts
 
 -- After the longest text in front of some bytes no line is in front.
-pub at_none : (m : ℕ) (text : List ℕ) (frames : List Frame) (rest : List ℕ) → IsLongestText m text frames rest → IsAtNone m rest
+pub at_none : {m : ℕ} {text : List ℕ} {frames : List Frame} {rest : List ℕ} → IsLongestText m text frames rest → IsAtNone m rest
 unfolding IsAtNone
-at_none m text frames rest h f x good e =
+at_none {m = m} {text = text} {frames = frames} h f x good e =
     let one = f ∷ [] in
     let begins : lines (frames ++ one) ++ x ≡ text =
     cc (lines_both frames one, append_assoc (lines frames) (lines one) x, line_alone f, e, h.parts) in
@@ -188,15 +180,15 @@ at_none m text frames rest h f x good e =
     )
 
 -- Lines in front of a longest text are a longest text together with it.
-pub longest_after : (m : ℕ) (fs : List Frame) (text : List ℕ) (gs : List Frame) (rest : List ℕ)
+pub longest_after : {m : ℕ} (fs : List Frame) {text : List ℕ} {gs : List Frame} {rest : List ℕ}
     → AllStrict m fs → IsLongestText m text gs rest → IsLongestText m (lines fs ++ text) (fs ++ gs) rest
-longest_after m fs text gs rest good h =
-    is_longest m _ _ rest (each_both (IsStrictWithin m) fs gs good (all_strict m gs h.are_strict))
-    (cc (h.parts, append_assoc (lines fs) (lines gs) rest, lines_both fs gs)) (at_none m text gs rest h)
+longest_after {m = m} fs {gs = gs} {rest = rest} good h =
+    is_longest (each_both _ fs gs good (all_strict m gs h.are_strict))
+    (cc (h.parts, append_assoc (lines fs) (lines gs) rest, lines_both fs gs)) (at_none h)
 
 -- The lines in front of a text that are followed by no line are the longest text in front.
-pub longest_is : (m : ℕ) (text : List ℕ) (h : Fronts m text) → IsLongestText m text h.frames h.rest
-longest_is m text h = is_longest m text h.frames h.rest h.good h.parts h.none
+pub longest_is : {m : ℕ} {text : List ℕ} (h : Fronts m text) → IsLongestText m text h.frames h.rest
+longest_is h = is_longest h.good h.parts h.none
 
 -- ---- how it ends
 
@@ -210,4 +202,4 @@ pub kept_rest : {m place : ℕ} {text before after : List ℕ} {at now : LinePla
     (h : GathersLines m text at now a b before after (Ok place)) → drop (length text - place) text ≡ h.rest
 kept_rest {place = place} {text = text} h =
     ap (drop _) h.parts
-    ∙ drop_at _ h.rest (length text - place) (omega (arith, h.gathers.0, ap length h.parts, length-append (lines h.frames) h.rest))
+    ∙ drop_at _ h.rest (length text - place) (omega (lengths, h.gathers.0, ap length h.parts))

@@ -1,4 +1,5 @@
 -- The lemmas of amqp_lines.
+pub mod Names
 pub mod Digits
 pub mod Rendered
 pub mod RenderedSlots
@@ -25,4 +26,3 @@ pub mod Exactly
 pub mod LineReports
 pub mod CanonBytes
 pub mod TextLaws
-pub mod OneLine

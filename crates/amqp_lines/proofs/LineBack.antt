@@ -1,35 +1,20 @@
 -- What is read of a line is its frame, so a text that is not the line of what is read of it is the line of no frame.
-use Rattle.std.proofs.Common.{◌≡◌, ◌≢◌, ℕ, ◌+◌, ◌-◌, ◌^◌, ◌<◌, ◌≤◌, ◌↔◌, IsTrue, Bool, true, false, List, [], ◌∷◌, length, take, None, Result, Ok, Err, refl}
-use Rattle.std.proofs.Common.{sym, ap, ◌∙◌, append-nil, arith, inl, inr}
-use Rattle.std.proofs.lemmas.Bool.{cases_lt, ne_eqb}
-use Rattle.amqp_types.specs.declared.errors.NoMemory.{NoMemory}
-use Rattle.amqp_types.specs.Levels.{plain, strict}
-use Rattle.amqp_types.specs.Judging.{IsBytes}
-use Rattle.amqp_types.specs.Methods.{payload_bytes}
-use Rattle.amqp_types.specs.ContentHeaders.{content_header_bytes}
+use Rattle.amqp_lines.proofs
+use proofs.Names.{◌≡◌, ◌≢◌, ℕ, ◌+◌, ◌-◌, ◌^◌, ◌<◌, ◌≤◌, ◌↔◌, Bool, true, false, List, [], ◌∷◌, length, take, None, Result, Ok, Err, refl, sym, ap, ◌∙◌}
+use proofs.Names.{append-nil, arith, ne_eqb, NoMemory, plain, strict, IsBytes, payload_bytes, content_header_bytes, payloads_lawful, content_headers_lawful}
+use proofs.Names.{AMQPFrameType, Frame, Proto, Meth, Head, Body, BadBeat, Raw, Spells, SpellsFrames, canon, payload_of, decode_raw, decode_payload, one_strict}
+use proofs.Names.{StreamError, cause_of, line, HasNoLine, PutsBoth, RendersLine, IsStrictWithin, IsNoLine, read_words, numbers}
+use proofs.Names.kinds
+use Rattle.std.proofs.Common.{IsTrue}
 use Rattle.amqp_types.specs.ValueJudging.{read_map}
-use Rattle.amqp_laws.proofs.MethodLaws.{payloads_lawful}
-use Rattle.amqp_laws.proofs.HeaderLaws.{content_headers_lawful}
-use Rattle.amqp_wire.specs.declared.frame_type.AMQPFrameType.{AMQPFrameType}
-use Rattle.amqp_wire.specs.declared.frame_type.AMQPFrameType.TheVariants as kinds
-use Rattle.amqp_wire.specs.Frames.{Frame, Proto, Meth, Head, Body, BadBeat, Raw}
-use Rattle.amqp_wire.specs.Spelling.{Spells, SpellsFrames, bytes_as}
-use Rattle.amqp_wire.specs.Canonical.{canon, payload_of}
-use Rattle.amqp_wire.specs.Verdicts.{decode_raw, decode_payload}
+use Rattle.amqp_wire.specs.Spelling.{bytes_as}
 use Rattle.amqp_wire.proofs.Encoded.{spells_as}
-use Rattle.amqp_wire.proofs.Strictness.{one_strict}
 use Rattle.amqp_wire.proofs.Typed.{method_whole, header_whole}
-use Rattle.amqp_stream.specs.declared.errors.StreamError.{StreamError}
+use Rattle.amqp_lines.specs.Reading.{ReadsWords}
+use proofs.TextFronts.{first_is_canon}
+use proofs.Deciding.{raw_in, line_back}
+use proofs.LinesApart.{payload_is}
 use Rattle.amqp_stream.specs.declared.errors.StreamError.TheVariants as errors
-use Rattle.amqp_stream.specs.Errors.{cause_of}
-use Rattle.amqp_lines.specs.Lines.{line}
-use Rattle.amqp_lines.specs.LineTexts.{HasNoLine, PutsBoth}
-use Rattle.amqp_lines.specs.LineReading.{RendersLine}
-use Rattle.amqp_lines.specs.OneLine.{IsStrictWithin, IsNoLine}
-use Rattle.amqp_lines.specs.Reading.{ReadsWords, read_words}
-use Rattle.amqp_lines.proofs.TextFronts.{first_is_canon}
-use Rattle.amqp_lines.proofs.Deciding.{raw_in, line_back}
-use Rattle.amqp_lines.proofs.LinesApart.{payload_is}
 
 -- ---- the payload of a strict frame is its own
 
@@ -72,22 +57,22 @@ strict_read kind channel payload f fits c l h =
     let bytes = bytes_as kind channel payload in
     let sequence : SpellsFrames plain None bytes (f ∷ []) = (bytes, [], sym (append-nil bytes), spells_plain kind channel payload f fits c l h, tt, refl) in
     let canonical = (one_strict plain None bytes (f ∷ []) sequence).canonical in
-    rw (first_is_canon canonical.0 f canonical.3) at canonical.3
+    rw (first_is_canon f canonical.3) at canonical.3
 
-faulty_not : (raw : Raw) (f : Frame) (error : StreamError) → error ≢ errors.NoMemory → decode_raw raw ≡ Ok f → HasNoLine raw (cause_of error) → ⊥
-faulty_not raw f errors.NoMemory other e h = other refl
-faulty_not raw f errors.CutShort other e h = h
-faulty_not raw f errors.TurnsSpent other e h = h
-faulty_not raw f errors.ReadFault other e h = h
-faulty_not raw f errors.WriteFault other e h = h
-faulty_not raw f error other e h = let x = h.judged_bad 0 in let y = rw e at x in cc
+faulty_not : (raw : Raw) {f : Frame} (error : StreamError) → error ≢ errors.NoMemory → decode_raw raw ≡ Ok f → HasNoLine raw (cause_of error) → ⊥
+faulty_not raw errors.NoMemory other e h = other refl
+faulty_not raw errors.CutShort other e h = h
+faulty_not raw errors.TurnsSpent other e h = h
+faulty_not raw errors.ReadFault other e h = h
+faulty_not raw errors.WriteFault other e h = h
+faulty_not raw error other e h = let x = h.judged_bad 0 in let y = rw e at x in cc
 
 module _ (m : ℕ) (text payload : List ℕ) (found : AMQPFrameType × ℕ)
     (h : ReadsWords (read_words (take (length text - 1) text)) [] payload (Ok found)) where
   -- what is found of a line
   found_back : (f : Frame) → IsStrictWithin m f → text ≡ line f → found_raw found payload ≡ raw_in f
   found_back f good e =
-      let same : ReadsWords (raw_in f) [] payload (Ok found) = rw (line_back f text good.is_strict e) at h in
+      let same : ReadsWords (raw_in f) [] payload (Ok found) = rw (line_back good.is_strict e) at h in
       rw (same.0, same.1, same.2) refl
 
   decoded_back : (f : Frame) → IsStrictWithin m f → text ≡ line f → decode_raw (found_raw found payload) ≡ Ok f
@@ -102,7 +87,7 @@ module _ (m : ℕ) (text payload : List ℕ) (found : AMQPFrameType × ℕ)
   pub refused_line : (canonical : List ℕ) (error : StreamError) (r : Result Bool NoMemory) → HasNoLine (found_raw found payload) (cause_of error)
       → r ≢ Ok true → (r ≡ Ok false → error ≢ errors.NoMemory) → RendersLine m text canonical r
   refused_line canonical error (Ok true) u never none = absurd (never refl)
-  refused_line canonical error (Ok false) u never none = λ f good e. absurd (faulty_not _ f error (none refl) (decoded_back f good e) u)
+  refused_line canonical error (Ok false) u never none = λ f good e. absurd (faulty_not _ error (none refl) (decoded_back f good e) u)
   refused_line canonical error (Err bad) u never none = tt
 
   -- the frame of a line is the one that is put
@@ -133,10 +118,9 @@ module _ (m : ℕ) (text payload : List ℕ) (found : AMQPFrameType × ℕ)
 
 -- canonical bytes above the limit
 pub large_by : (b : Bool) (n m : ℕ) → (IsTrue b ↔ n ≤ m) → b ≡ false → m < n
-large_by true n m h e = absurd cc
-large_by false n m h e = elim (cases_lt m n) [ inl large ↦ large | inr few ↦ absurd (let x = h.1 few in cc) ]
+large_by b n m h e = grind numbers
 
 -- Where a test says that a number is within a limit, an equal number is.
-pub within_by : (b : Bool) (n m k : ℕ) → (IsTrue b ↔ n ≤ m) → b ≡ true → n ≡ k → k ≤ m
-within_by true n m k h e same = omega (arith, h.0 refl, same)
-within_by false n m k h e same = absurd cc
+pub within_by : {b : Bool} {n : ℕ} (m : ℕ) {k : ℕ} → (IsTrue b ↔ n ≤ m) → b ≡ true → n ≡ k → k ≤ m
+within_by {b = true} m h e same = omega (arith, h.0 refl, same)
+within_by {b = false} m h e same = absurd cc

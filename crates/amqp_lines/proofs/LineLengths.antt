@@ -1,43 +1,19 @@
 -- A line is at most four times as long as the bytes that encode its frame strictly, and 400 bytes.
-use Rattle.std.proofs.Common.{◌≡◌, ◌≤◌, ◌<◌, ℕ, zero, suc, ◌+◌, ◌*◌, ◌/◌, ◌%◌, ◌^◌, Bool, true, false, cond, List, [], ◌∷◌, length, Option, Some, None, refl}
-use Rattle.std.proofs.Common.{ap, subst, ◌∙◌, inl, inr, arith}
-use Rattle.std.proofs.lemmas.Bool.{cases_eq, eq-eqb, ne_eqb}
-use Rattle.std.proofs.lemmas.Bool.Decides.{nat_tests}
-use Rattle.std.proofs.lemmas.List.{length-append}
-use Rattle.std.specs.Prelude.{unwrap_or, nat_le, option_and_then, ◌==◌}
-use Rattle.std.specs.Fmt.{digit_glyph, digits_onto, digits, decimal}
-use Rattle.std.specs.List.{AllByRecursion, list_all}
-use Rattle.std.specs.Map.{lookup}
-use Rattle.amqp_types.specs.Levels.{strict}
-use Rattle.amqp_types.specs.Numbers.{bytes2}
-use Rattle.amqp_types.specs.Values.{Entry}
-use Rattle.amqp_types.specs.ValueSpelling.{SpellsTable, SpellsValue}
-use Rattle.amqp_types.specs.Slots.{Item, Form, number_form, flags_form, short_string_form, long_string_form, table_form, Slot, kept_slot, reserved_slot}
-use Rattle.amqp_types.specs.SlotSpelling.{SpellsForm, SpellsSlots, SpellsSlot}
-use Rattle.amqp_types.specs.Rows.{classes, rows_of, slots_at}
-use Rattle.amqp_types.specs.Methods.{Method}
-use Rattle.amqp_types.specs.MethodSpelling.{SpellsPayload}
-use Rattle.amqp_types.specs.Properties.{Property, properties, later_properties}
-use Rattle.amqp_types.specs.PropertyLaws.{gives_one, give_one}
-use Rattle.amqp_types.specs.PropertySpelling.{SpellsOptional, SpellsSet}
-use Rattle.amqp_types.specs.Flags.{flag_at}
-use Rattle.amqp_types.specs.ContentHeaders.{ContentHeader, SpellsContentHeader}
-use Rattle.amqp_types.proofs.FlagBytes.{flags_from_length}
-use Rattle.amqp_laws.proofs.Conversions.{pairs-entries_of}
-use Rattle.amqp_laws.proofs.SlotForms.{flags_of-map}
-use Rattle.amqp_laws.proofs.SlotLaws.{both_true}
-use Rattle.amqp_laws.proofs.HeaderLaws.{options_are}
-use Rattle.amqp_laws.proofs.PropertyLaws.{one_each}
-use Rattle.amqp_wire.specs.Frames.{Frame, Proto, Meth, Head, Body, Beat, BadBeat}
-use Rattle.amqp_wire.specs.Spelling.{Spells, IsFramed}
-use Rattle.amqp_lines.specs.Values.{table_text}
-use Rattle.amqp_lines.specs.Slots.{form_text, slots_text, property_names, property_name, option_text, set_text}
-use Rattle.amqp_lines.specs.Lines.{spaced, method_words, header_words, words, line}
+use Rattle.amqp_lines.proofs
+use proofs.Names.{◌≡◌, ◌≤◌, ◌<◌, ℕ, zero, suc, ◌+◌, ◌*◌, ◌/◌, ◌%◌, ◌^◌, Bool, true, false, cond, List, [], ◌∷◌, length, Option, Some, None, refl, ap, subst}
+use proofs.Names.{◌∙◌, inl, inr, arith, cases_eq, eq-eqb, ne_eqb, unwrap_or, ◌==◌, digit_glyph, digits_onto, digits, decimal, AllByRecursion, list_all, lookup}
+use proofs.Names.{strict, bytes2, Entry, SpellsTable, SpellsValue, Item, Form, number_form, flags_form, short_string_form, long_string_form, table_form, Slot}
+use proofs.Names.{kept_slot, reserved_slot, SpellsForm, SpellsSlots, SpellsSlot, slots_at, Method, SpellsPayload, Property, properties, later_properties}
+use proofs.Names.{gives_one, give_one, SpellsOptional, SpellsSet, flag_at, ContentHeader, SpellsContentHeader, flags_from_length, pairs-entries_of}
+use proofs.Names.{flags_of-map, both_true, options_are, one_each, Frame, Proto, Meth, Head, Body, Beat, BadBeat, Spells, IsFramed, table_text, form_text}
+use proofs.Names.{slots_text, property_names, property_name, option_text, set_text, spaced, method_words, header_words, words, line, slot_text, lengths}
+use proofs.Names.{numbers}
+use Rattle.std.specs.Prelude.{nat_le, option_and_then}
+use Rattle.amqp_types.specs.Rows.{classes, rows_of}
 use Rattle.amqp_lines.specs.Laws.{LinesAreBounded}
-use Rattle.amqp_lines.proofs.Lengths.{number_long, number_size, quoted_long, hex_long, signs_long, long_inner, value_long, table_long}
-use Rattle.amqp_lines.proofs.Newlines.{each_name}
-use Rattle.amqp_lines.proofs.RenderedSlots.{one_text, form_count, first_text}
-use Rattle.amqp_lines.specs.Rendering.{slot_text}
+use proofs.Lengths.{number_long, number_size, quoted_long, hex_long, signs_long, long_inner, value_long, table_long}
+use proofs.Newlines.{each_name}
+use proofs.RenderedSlots.{one_text, form_count, first_text}
 
 -- ---- any number
 
@@ -58,7 +34,7 @@ any_spaced n = omega (arith, any_decimal n)
 
 channel_long : (n : ℕ) → n < 2 ^ 16 → length (spaced n) ≤ 8
 unfolding spaced
-channel_long n fits = let h = number_long bytes2 n fits in omega (arith, h)
+channel_long n fits = omega (arith, number_long bytes2 n fits)
 
 -- ---- fields
 
@@ -86,7 +62,7 @@ form_long (flags_form count) bytes items h =
       ap length h.spelled.bytes_are,
     ))
 form_long short_string_form bytes items h = rw h.made (omega (arith, quoted_long h.thing, ap length h.spelled.bytes_are))
-form_long long_string_form bytes items h = rw h.made (omega (arith, quoted_long h.thing, long_inner bytes h.thing h.spelled))
+form_long long_string_form bytes items h = rw h.made (omega (arith, quoted_long h.thing, long_inner h.spelled))
 form_long table_form bytes items h = rw h.made (omega (arith, table_text_long bytes h.thing h.spelled))
 
 abbrev slot_room : Slot → ℕ
@@ -108,8 +84,7 @@ unfolding slots_text
 slots_long [] bytes items h = omega arith
 slots_long (slot ∷ slots) bytes items h =
     omega (
-      arith,
-      length-append {A = ℕ},
+      lengths,
       ap (λ xs. length (slots_text (slot ∷ slots) xs)) h.joined,
       ap length (first_text slot slots h.front h.one h.two h.first_is),
       slot_long slot h.front h.one h.first_is,
@@ -130,22 +105,19 @@ module _ {X : Type 0} (test : X → Bool) (key : ℕ) (x : X) where
       let both = both_true (test e.1) (list_all (λ f. test f.1) es) all in
       found_by (key == e.0) e.1 (lookup (λ k. key == k) es) both.0 (found_passes es both.1) h
 
-found_both : {A B : Type 0} (f : A → Option B) (o : Option A) (y : B) → option_and_then f o ≡ Some y → (x : A) × (o ≡ Some x) × (f x ≡ Some y)
-found_both f None y h = absurd cc
-found_both f (Some x) y h = (x, refl, h)
+found_both : {A B : Type 0} (f : A → Option B) (o : Option A) {y : B} → option_and_then f o ≡ Some y → (x : A) × (o ≡ Some x) × (f x ≡ Some y)
+found_both f None h = absurd cc
+found_both f (Some x) h = (x, refl, h)
 
 abbrev has_few : List Slot → Bool
 has_few slots = nat_le (slots_room slots) 16
 
-few_room : (slots : List Slot) → has_few slots ≡ true → slots_room slots ≤ 16
-few_room slots h = grind (arith, nat_tests)
-
 room_at : (class id : ℕ) (slots : List Slot) → slots_at class id ≡ Some slots → slots_room slots ≤ 16
 unfolding rows_of slots_at
 room_at class id slots h =
-    let both = found_both (λ rows. lookup (λ key. id == key) rows) (rows_of class) slots h in
+    let both = found_both (λ rows. lookup (λ key. id == key) rows) (rows_of class) h in
     let rows = found_passes (λ rs. list_all (λ row. has_few row.1) rs) class both.0 classes refl both.1 in
-    few_room slots (found_passes has_few id slots both.0 rows both.2)
+    let few : has_few slots ≡ true = found_passes has_few id slots both.0 rows both.2 in grind numbers
 
 -- ---- properties
 
@@ -154,7 +126,7 @@ names_within : (names : List (ℕ × List ℕ)) → list_all (λ name. nat_le (l
 names_within [] h = tt
 names_within (name ∷ names) h =
     let both = both_true (nat_le (length name.1) 16) _ h in
-    let here : length name.1 ≤ 16 = grind (arith, nat_tests, both.0) in (here, names_within names both.1)
+    (grind (numbers, both.0), names_within names both.1)
 
 name_long : (bit : ℕ) → length (property_name bit) ≤ 16
 unfolding property_name
@@ -164,8 +136,8 @@ option_long : (p : Property) (present : Bool) (bytes : List ℕ) (option : Optio
     → SpellsOptional strict present p.form bytes option → length (option_text p option) ≤ 4 * length bytes + (17 + form_room p.form)
 unfolding option_text
 option_long p true bytes option one h =
-    let text = ap (option_text p) h.made ∙ one_text p.form h.thing p refl one (form_count p.form bytes h.thing h.spelled) in
-    omega (arith, length-append {A = ℕ}, ap length text, name_long p.bit, form_long p.form bytes h.thing h.spelled)
+    let text = ap (option_text p) h.made ∙ one_text h.thing p refl one (form_count p.form bytes h.thing h.spelled) in
+    omega (lengths, ap length text, name_long p.bit, form_long p.form bytes h.thing h.spelled)
 option_long p false bytes option one h = omega (arith, ap (λ o. length (option_text p o)) h.1)
 
 abbrev set_room : List Property → ℕ
@@ -179,8 +151,7 @@ set_long mask [] bytes options one h = omega arith
 set_long mask (p ∷ ps) bytes options one h =
     let ones = both_true _ _ one in
     omega (
-      arith,
-      length-append {A = ℕ},
+      lengths,
       ap (λ os. length (set_text (p ∷ ps) os)) h.joined,
       option_long p (flag_at mask p.bit) h.front h.one ones.0 h.first_is,
       set_long mask ps h.behind h.two ones.1 h.second_is,
@@ -193,15 +164,14 @@ room_of_all = refl
 
 -- ---- lines
 
-inside : (bytes payload : List ℕ) (type channel : ℕ) → IsFramed bytes type channel payload → length payload ≤ length bytes
-inside bytes payload type channel h = omega (arith, ap length h.bytes_are, length-append {A = ℕ})
+inside : {bytes payload : List ℕ} {type channel : ℕ} → IsFramed bytes type channel payload → length payload ≤ length bytes
+inside h = omega (lengths, ap length h.bytes_are)
 
-method_long : (bytes : List ℕ) (m : Method) → SpellsPayload strict bytes m → length (method_words m) ≤ 4 * length bytes + 150
+method_long : {bytes : List ℕ} (m : Method) → SpellsPayload strict bytes m → length (method_words m) ≤ 4 * length bytes + 150
 unfolding method_words
-method_long bytes m h =
+method_long m h =
     omega (
-      arith,
-      length-append {A = ℕ},
+      lengths,
       any_spaced m.class,
       any_decimal m.id,
       ap (λ o. length (slots_text (unwrap_or o []) m.items)) h.known,
@@ -216,8 +186,7 @@ header_long bytes header h =
     let same : header.options ≡ h.two = cc (h.joined, options_are h.one h.two) in
     let set = h.second_is in
     omega (
-      arith,
-      length-append {A = ℕ},
+      lengths,
       any_spaced header.class_id,
       any_spaced header.body_size,
       ap (λ os. length (set_text properties os)) same,
@@ -227,35 +196,29 @@ header_long bytes header h =
       ap length set.bytes_are,
     )
 
-beat_long : (channel : ℕ) (b : Bool) → channel < 2 ^ 16 → length (cond b [] (spaced channel)) ≤ 8
-beat_long channel true fits = omega arith
-beat_long channel false fits = channel_long channel fits
-
 words_long : (bytes : List ℕ) (frame : Frame) → Spells strict bytes frame → length (words frame) + 1 ≤ 4 * length bytes + 400
 unfolding words
-words_long bytes (Proto major minor revision) h = omega (arith, length-append {A = ℕ}, any_decimal)
+words_long bytes (Proto major minor revision) h = omega (lengths, any_decimal)
 words_long bytes (Meth channel m) h =
     omega (
-      arith,
-      length-append {A = ℕ},
+      lengths,
       channel_long channel h.is_framed.channel_fits,
-      method_long h.payload m h.spelled,
-      inside bytes h.payload 1 channel h.is_framed,
+      method_long m h.spelled,
+      inside h.is_framed,
     )
 words_long bytes (Head channel header) h =
     omega (
-      arith,
-      length-append {A = ℕ},
+      lengths,
       channel_long channel h.is_framed.channel_fits,
       header_long h.payload header h.spelled,
-      inside bytes h.payload 2 channel h.is_framed,
+      inside h.is_framed,
     )
 words_long bytes (Body channel content) h =
-    omega (arith, length-append {A = ℕ}, channel_long channel h.channel_fits, hex_long content, inside bytes content 3 channel h)
+    omega (lengths, channel_long channel h.channel_fits, hex_long content, inside h)
 words_long bytes Beat h = omega arith
-words_long bytes (BadBeat channel) h = omega (arith, beat_long channel (channel == 0) h.1.is_framed.channel_fits)
+words_long bytes (BadBeat channel) h = grind (numbers, channel_long channel h.1.is_framed.channel_fits)
 
 -- The line of a frame is at most four times as long as its strict encoding, and 400 bytes.
 pub lines_bounded : LinesAreBounded
 unfolding line
-lines_bounded bytes frame h = omega (arith, length-append {A = ℕ}, words_long bytes frame h)
+lines_bounded bytes frame h = omega (lengths, words_long bytes frame h)

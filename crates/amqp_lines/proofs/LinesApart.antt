@@ -1,35 +1,19 @@
 -- Equal lines are those of equal frames, and equal texts those of equal sequences.
-use Rattle.std.proofs.Common.{◌≡◌, ◌≢◌, ℕ, List, [], ◌∷◌, ◌++◌, length, take, refl, sym, ap, subst, ◌∙◌, append_assoc, arith}
-use Rattle.std.specs.Prelude.{None}
-use Rattle.std.specs.List.{AllByRecursion}
-use Rattle.std.proofs.lemmas.List.{length-append, take_at}
-use Rattle.amqp_types.specs.Levels.{strict}
-use Rattle.amqp_types.specs.Judging.{IsBytes}
-use Rattle.amqp_types.specs.ContentHeaders.{SpellsContentHeader}
-use Rattle.amqp_types.specs.MethodSpelling.{SpellsPayload}
-use Rattle.amqp_types.proofs.Took.{value_took}
-use Rattle.amqp_laws.proofs.MethodLaws.{payloads_lawful}
-use Rattle.amqp_laws.proofs.HeaderLaws.{content_headers_lawful}
-use Rattle.amqp_wire.specs.Frames.{Frame, Proto, Meth, Head, Body, Beat, BadBeat, channel_id_of}
-use Rattle.amqp_wire.specs.Spelling.{Spells, raw_bytes}
-use Rattle.amqp_wire.specs.Canonical.{canon, payload_of}
-use Rattle.amqp_wire.specs.Verdicts.{judge_frame}
-use Rattle.amqp_wire.proofs.Spelled.{verdict-spelled}
-use Rattle.amqp_lines.specs.Lines.{words, line, lines}
-use Rattle.amqp_lines.specs.Payloads.{IsPayload}
-use Rattle.amqp_lines.specs.Laws.{IsStrict}
-use Rattle.amqp_lines.specs.Reading.{read_words}
-use Rattle.amqp_lines.proofs.ReadWords.{bytes_front}
-use Rattle.amqp_lines.proofs.ReadLines.{IsNumbered, kind_of, words_back}
-use Rattle.amqp_lines.proofs.Newlines.{one_newline}
-use Rattle.amqp_types.proofs.Bytes.{IsBytes-drop}
+use Rattle.amqp_lines.proofs
+use proofs.Names.{◌≡◌, ◌≢◌, ℕ, List, [], ◌∷◌, ◌++◌, length, take, refl, sym, ap, subst, ◌∙◌, append_assoc, None, AllByRecursion, take_at, strict, IsBytes}
+use proofs.Names.{SpellsContentHeader, SpellsPayload, value_took, payloads_lawful, content_headers_lawful, Frame, Proto, Meth, Head, Body, Beat, BadBeat}
+use proofs.Names.{channel_id_of, Spells, raw_bytes, canon, payload_of, judge_frame, verdict-spelled, words, line, lines, IsPayload, IsStrict, read_words}
+use proofs.Names.{IsBytes-drop, lengths}
+use proofs.ReadWords.{bytes_front}
+use proofs.ReadLines.{IsNumbered, kind_of, words_back}
+use proofs.Newlines.{one_newline}
 
 -- ---- what a frame is that its canonical bytes encode strictly
 
 payload_fits : (f : Frame) → IsBytes (canon f) → IsBytes (payload_of f)
 unfolding canon
 payload_fits (Proto a b c) fits = IsBytes-drop 5 (canon (Proto a b c)) fits
-payload_fits f fits = bytes_front (payload_of f) (206 ∷ []) (payload_of f ++ 206 ∷ []) refl (IsBytes-drop 7 (canon f) fits)
+payload_fits f fits = bytes_front (payload_of f) (206 ∷ []) refl (IsBytes-drop 7 (canon f) fits)
 
 -- The canonical payload of a frame that its canonical bytes encode strictly encodes it strictly.
 pub payload_is : (f : Frame) → Spells strict (canon f) f → IsPayload (payload_of f) f
@@ -59,7 +43,7 @@ raw_canon f = refl
 
 -- what is read of its words
 pub strict_back : (f : Frame) → IsStrict f → read_words (words f) ≡ record { kind = kind_of f; channel = channel_id_of f; payload = payload_of f }
-strict_back f h = words_back f _ (payload_fits f h.are_bytes) (payload_is f h.encodes) (numbers_fit f h.are_bytes h.encodes)
+strict_back f h = words_back f (payload_fits f h.are_bytes) (payload_is f h.encodes) (numbers_fit f h.are_bytes h.encodes)
 
 -- ---- one frame
 
@@ -71,7 +55,7 @@ same_words f g p q h =
 
 same_front : (a b end : List ℕ) → a ++ end ≡ b ++ end → a ≡ b
 same_front a b end h =
-    let count : length a ≡ length b = omega (arith, ap length h, length-append a end, length-append b end) in
+    let count : length a ≡ length b = omega (lengths, ap length h) in
     sym (take_at a end _ count) ∙ ap (take _) h ∙ take_at b end _ refl
 
 -- Strict frames with equal lines are equal.
@@ -98,14 +82,14 @@ pub split : (f g : Frame) (x y : List ℕ) → line f ++ x ≡ line g ++ y → S
 split f g x y h =
     let a = one_newline f in
     let b = one_newline g in
-    let left : line f ++ x ≡ a.front ++ (10 ∷ x) = cc (a.parts, append_assoc a.front (10 ∷ []) x) in
-    let right : line g ++ y ≡ b.front ++ (10 ∷ y) = cc (b.parts, append_assoc b.front (10 ∷ []) y) in
-    let same = newline_once a.front b.front x y a.none_before b.none_before (cc (left, h, right)) in
+    let same =
+    newline_once a.front b.front x y a.none_before b.none_before
+    (cc (a.parts, append_assoc a.front (10 ∷ []) x, h, b.parts, append_assoc b.front (10 ∷ []) y)) in
     record { first = cc (a.parts, same.0, b.parts); others = same.1 }
 
 -- No line is empty.
 pub line_some : (f : Frame) (x : List ℕ) → [] ≡ line f ++ x → ⊥
-line_some f x h = let a = one_newline f in omega (arith, ap length h, length-append (line f) x, ap length a.parts, length-append a.front (10 ∷ []))
+line_some f x h = let a = one_newline f in omega (lengths, ap length h, ap length a.parts)
 
 -- Strict frames with equal texts are equal, one by one.
 pub same_sequence : (fs gs : List Frame) → AllByRecursion IsStrict fs → AllByRecursion IsStrict gs → lines fs ≡ lines gs → fs ≡ gs

@@ -1,25 +1,12 @@
 -- The line of a frame is what its canonical payload is rendered as, with the words in front.
-use Rattle.std.proofs.Common.{◌≡◌, ℕ, List, [], ◌++◌, drop, Some, None, Result, Ok, Err, sym, ap, ◌∙◌, append_assoc, append-nil, arith}
-use Rattle.std.specs.Prelude.{codes, unwrap_or}
-use Rattle.std.specs.Fmt.{decimal}
-use Rattle.amqp_types.specs.Levels.{strict}
-use Rattle.amqp_types.specs.Numbers.{bytes2, number_bytes}
-use Rattle.amqp_types.specs.Slots.{Slot}
-use Rattle.amqp_types.specs.SlotSpelling.{SpellsSlots}
-use Rattle.amqp_types.specs.Rows.{slots_at}
-use Rattle.amqp_types.specs.Properties.{properties}
-use Rattle.amqp_types.specs.PropertySpelling.{SpellsProperties}
-use Rattle.amqp_types.specs.declared.errors.NoMemory.{NoMemory}
-use Rattle.amqp_wire.specs.declared.outline.FrameOutline.{FrameOutline}
-use Rattle.amqp_wire.specs.declared.outline.FrameOutline.TheVariants as outlines
-use Rattle.amqp_wire.specs.declared.version.ProtocolVersion.{ProtocolVersion}
-use Rattle.amqp_wire.specs.Frames.{Frame, Proto, Head, Beat, BadBeat}
-use Rattle.amqp_wire.proofs.Outlined.{header_front}
-use Rattle.amqp_lines.specs.Slots.{slots_text, set_text}
-use Rattle.amqp_lines.specs.Rendering.{Says, AppendsText}
-use Rattle.amqp_lines.specs.Lines.{method_words, header_words, beat_words, words}
-use Rattle.amqp_lines.specs.Payloads.{IsIn, SaysMethod, SaysHeader, fields_at, ids_words, sizes_words}
-use Rattle.amqp_lines.proofs.RenderedSlots.{no_slots}
+use Rattle.amqp_lines.proofs
+use proofs.Names.{◌≡◌, ℕ, List, [], ◌++◌, drop, Some, None, Result, Ok, Err, sym, ap, ◌∙◌, append_assoc, append-nil, arith, codes, unwrap_or, decimal, strict}
+use proofs.Names.{bytes2, number_bytes, Slot, SpellsSlots, slots_at, properties, SpellsProperties, NoMemory, FrameOutline, ProtocolVersion, Frame, Proto, Head}
+use proofs.Names.{Beat, BadBeat, header_front, slots_text, set_text, Says, method_words, header_words, beat_words, words, IsIn}
+use proofs.Names.outlines
+use Rattle.amqp_lines.specs.Rendering.{AppendsText}
+use Rattle.amqp_lines.specs.Payloads.{SaysMethod, SaysHeader, fields_at, ids_words, sizes_words}
+use proofs.RenderedSlots.{no_slots}
 
 -- ---- methods
 

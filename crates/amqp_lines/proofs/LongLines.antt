@@ -1,29 +1,17 @@
 -- Lines that are longer than any of a frame: the first bytes of one are held, and all ends as if all of them were.
-use Rattle.std.proofs.Common.{◌≢◌, ◌≡◌, ℕ, zero, suc, ◌+◌, ◌-◌, ◌<◌, ◌≤◌, List, [], ◌∷◌, ◌++◌, length, take, drop, Result, Ok, Err, refl, sym, ap, ◌∙◌, inl}
-use Rattle.std.proofs.Common.{inr, append_assoc, arith}
-use Rattle.std.proofs.lemmas.Bool.{cases_lt}
-use Rattle.std.proofs.lemmas.List.{length-take, length-take-le, take-append-le, take_all}
-use Rattle.amqp_wire.specs.Frames.{Frame}
-use Rattle.amqp_wire.specs.Canonical.{canon}
-use Rattle.amqp_stream.specs.declared.sink.SinkFault.{SinkFault}
-use Rattle.amqp_stream.specs.Changes.{◌⇒◌}
-use Rattle.amqp_stream.specs.Calls.{call_of}
-use Rattle.amqp_stream.specs.Ends.{Supply, Store}
-use Rattle.amqp_stream.specs.Writing.{WritesAll}
-use Rattle.amqp_lines.specs.Lines.{line, lines, longest_line}
-use Rattle.amqp_lines.specs.OneLine.{IsStrictWithin}
-use Rattle.amqp_lines.specs.LineReading.{HasNoNewline, GathersAll, GathersLines, ReadsOnce, StopsWith, Decides, end_of_text}
-use Rattle.amqp_lines.specs.Undumping.{HoldsNewline}
-use Rattle.amqp_lines.specs.UndumpReports.{first_line}
-use Rattle.amqp_lines.specs.declared.report.LinePlace.{LinePlace}
-use Rattle.amqp_lines.specs.declared.errors.UndumpError.{UndumpError}
-use Rattle.amqp_lines.specs.declared.errors.UndumpError.TheVariants as errors
-use Rattle.amqp_lines.proofs.LineLengths.{lines_bounded}
-use Rattle.amqp_lines.proofs.TextFronts.{AllStrict, all_strict, are_strict, none_take, holds_none, first_line as first_parts, line_longer, IsAtNone, is_longest}
-use Rattle.amqp_lines.proofs.Deciding.{first_or}
-use Rattle.amqp_lines.proofs.Gathering.{kept_rest}
-use Rattle.amqp_lines.proofs.Undumps.{Going, ends_at_end, ends_at_lines, goes_on, begins, unflushed}
-use Rattle.amqp_lines.proofs.Newlines.{each_back, clean_both}
+use Rattle.amqp_lines.proofs
+use proofs.Names.{◌≢◌, ◌≡◌, ℕ, zero, suc, ◌+◌, ◌-◌, ◌<◌, ◌≤◌, List, [], ◌∷◌, ◌++◌, length, take, drop, Result, Ok, Err, refl, sym, ap, ◌∙◌, inl, inr}
+use proofs.Names.{append_assoc, arith, cases_lt, length-take, take-append-le, take_all, Frame, canon, SinkFault, ◌⇒◌, call_of, Supply, Store, WritesAll, line}
+use proofs.Names.{lines, longest_line, IsStrictWithin, HasNoNewline, GathersAll, GathersLines, ReadsOnce, StopsWith, Decides, end_of_text, HoldsNewline}
+use proofs.Names.{first_line, LinePlace, UndumpError, Answer}
+use proofs.Names.errors
+use Rattle.std.proofs.lemmas.List.{length-take-le}
+use proofs.LineLengths.{lines_bounded}
+use proofs.TextFronts.{AllStrict, all_strict, are_strict, none_take, holds_none, first_line as first_parts, line_longer, IsAtNone, is_longest}
+use proofs.Deciding.{first_or}
+use proofs.Gathering.{kept_rest}
+use proofs.Undumps.{Going, ends_at_end, ends_at_lines, goes_on, begins, unflushed}
+use proofs.Newlines.{each_back, clean_both}
 
 -- ---- how long a line is
 
@@ -86,20 +74,20 @@ with_left left (Ok place) = Ok left
 with_left left (Err error) = Err error
 
 -- what was gathered of the first bytes of such a line and of a read is what is gathered of the whole line and the read
-gathers_low : {m : ℕ} {held piece : List ℕ} (pending : List ℕ) (l l' : Store) (r : Result ℕ UndumpError) (fs : List Frame) (rest : List ℕ) → HasNoNewline held
+gathers_low : {m : ℕ} {held piece : List ℕ} (pending : List ℕ) (l l' : Store) (r : Result ℕ UndumpError) {fs : List Frame} {rest : List ℕ} → HasNoNewline held
     → NoneGathered m held piece fs rest → GathersAll m (clipped m held ++ piece) fs rest l l' [] pending r
     → GathersAll m (held ++ piece) [] (held ++ piece) l l' [] pending (with_left (length (held ++ piece)) r)
 unfolding lines
-gathers_low {m = m} {held = held} {piece = piece} pending l l' (Ok place) fs rest clean h g =
+gathers_low {m = m} {held = held} {piece = piece} pending l l' (Ok place) clean h g =
     (refl, clean_both held piece clean (each_back (λ byte. byte ≢ 10) _ piece (rw h.rest_is at g.1)), rw h.none at g.2)
-gathers_low {m = m} {held = held} {piece = piece} pending l l' (Err errors.BadText) fs rest clean h g = (
-  is_longest m _ [] (held ++ piece) tt refl h.never,
+gathers_low {m = m} {held = held} {piece = piece} pending l l' (Err errors.BadText) clean h g = (
+  is_longest tt refl h.never,
   holds_later held piece _ (none_take (longest_line m + 1) held clean) (rw h.rest_is at g.1),
   rw h.none at g.2,
 )
-gathers_low pending l l' (Err errors.WriteFault) fs rest clean h g = rw h.none at g
-gathers_low pending l l' (Err errors.NoMemory) fs rest clean h g = rw h.none at g
-gathers_low pending l l' (Err error) fs rest clean h g = absurd g
+gathers_low pending l l' (Err errors.WriteFault) clean h g = rw h.none at g
+gathers_low pending l l' (Err errors.NoMemory) clean h g = rw h.none at g
+gathers_low pending l l' (Err error) clean h g = absurd g
 
 gathers_same : (m : ℕ) (text pending : List ℕ) (l l' : Store) (r : Result ℕ UndumpError) (fs : List Frame) (rest : List ℕ)
     → GathersAll m text fs rest l l' [] pending r → GathersAll m text fs rest l l' [] pending (with_left (length rest) r)
@@ -146,7 +134,7 @@ unclip {m = m} {held = held} {piece = piece} {pending = pending} {at = at} {now 
               rest = held ++ piece;
               parts = refl;
               passes = rw none.none at h.passes;
-              gathers = gathers_low pending l l' r h.frames h.rest clean none h.gathers;
+              gathers = gathers_low pending l l' r clean none h.gathers;
             };
             rest_is = refl;
             kept =
@@ -172,15 +160,7 @@ few_kept {m = m} h = omega (arith, ap length h.kept_is, length-take (longest_lin
 pub holds_first : (m budget : ℕ) (a : Supply) (k : Store) (kept : List ℕ) (at : LinePlace)
     → kept ≡ [] → at ≡ first_line → Holding m budget budget a a k k kept at
 holds_first m budget a k kept at none first =
-    record { held = []; going = rw first (begins m budget a k); kept_is = none ∙ sym (take_all (longest_line m + 1) [] (omega arith)) }
-
--- a read after all of the line
-read_whole : {b c : Supply} {kept after : List ℕ} {n : ℕ} (held : List ℕ) (h : ReadsOnce b c kept after (Ok n)) → ReadsOnce b c held (held ++ h.piece) (Ok n)
-read_whole held h = record { piece = h.piece; few = h.few; are_bytes = h.are_bytes; takes = h.takes; reads = (refl, h.reads.1, h.reads.2) }
-
-text_read : {m budget left n : ℕ} {a b c : Supply} {k l : Store} {kept after : List ℕ} {at : LinePlace} (h : Holding m budget left a b k l kept at)
-    → (read : ReadsOnce b c kept after (Ok n)) → after ≡ clipped m h.held ++ read.piece
-text_read h read = cc (read.reads.0, h.kept_is)
+    record { held = []; going = rw first (begins a k); kept_is = none ∙ sym (take_all (longest_line m + 1) [] (omega arith)) }
 
 -- whether nothing is held is the same for the first bytes
 same_end : (n : ℕ) (held piece : List ℕ) → 0 < n → end_of_text (take n held ++ piece) ≡ end_of_text (held ++ piece)
@@ -188,39 +168,42 @@ same_end zero held piece h = absurd (omega arith)
 same_end (suc n) [] piece h = refl
 same_end (suc n) (x ∷ xs) piece h = refl
 
--- At the end of input the call ends well where nothing is held, and else with a line cut short.
-pub held_at_end : {m budget left n : ℕ} {a b c : Supply} {k l : Store} {kept after : List ℕ} {at : LinePlace} {r : Result (Unit {0}) UndumpError}
-    → Holding m budget left a b k l kept at → 0 < left → ReadsOnce b c kept after (Ok n)
-    → n ≡ 0 → r ≡ end_of_text after → Decides (call_of m budget (a ⇒ c) (k ⇒ l)) at r
-held_at_end {m = m} h some read none is =
-    ends_at_end h.going some (read_whole h.held read) none
-    (is ∙ ap end_of_text (text_read h read) ∙ same_end (longest_line m + 1) h.held read.piece (omega arith))
-
-module _ {m budget left n : ℕ} {a b c : Supply} {k l l' l'' : Store} {kept after pending : List ℕ} {at now : LinePlace}
+-- a read after what is held, with which all of the line is read
+module _ {m budget left n : ℕ} {a b c : Supply} {k l : Store} {kept after : List ℕ} {at : LinePlace}
     (h : Holding m budget left a b k l kept at) (some : 0 < left) (read : ReadsOnce b c kept after (Ok n)) where
-  -- Where a line is that of no frame, or memory runs out, the call ends with that error, after it wrote the lines before.
-  pub held_at_lines : {r : Result (Unit {0}) UndumpError} (error : UndumpError) → GathersLines m after at now l l' [] pending (Err error)
-      → StopsWith l' l'' pending error r → Decides (call_of m budget (a ⇒ c) (k ⇒ l'')) now r
-  held_at_lines error g stop =
-      ends_at_lines h.going some (read_whole h.held read) error (unclip (Err error) h.going.clean (rw (text_read h read) at g)).whole stop
+  whole : ReadsOnce b c h.held (h.held ++ read.piece) (Ok n)
+  whole = record { piece = read.piece; few = read.few; are_bytes = read.are_bytes; takes = read.takes; reads = (refl, read.reads.1, read.reads.2) }
 
-  -- Where the canonical bytes of lines cannot be written, the call ends with that error.
-  pub held_unflushed : {place : ℕ} {bad : SinkFault} → GathersLines m after at now l l' [] pending (Ok place)
-      → WritesAll l' l'' pending (Err bad) → Decides (call_of m budget (a ⇒ c) (k ⇒ l'')) now (Err errors.WriteFault)
-  held_unflushed {place = place} g f =
-      let all = unclip (Ok place) h.going.clean (rw (text_read h read) at g) in
-      unflushed h.going some (read_whole h.held read) all.whole all.whole.gathers.2 f
+  text_read : after ≡ clipped m h.held ++ read.piece
+  text_read = cc (read.reads.0, h.kept_is)
 
-  -- With one read more, the canonical bytes of its lines are written, and the first bytes of the line after them are held.
-  pub holds_on : {place : ℕ} {later : List ℕ} {done : Unit {0}} → 0 < n
-      → GathersLines m after at now l l' [] pending (Ok place) → WritesAll l' l'' pending (Ok done)
-      → later ≡ clipped m (drop (length after - place) after) → Holding m budget (left - 1) a c k l'' later now
-  holds_on {place = place} new g f is =
-      let all = unclip (Ok place) h.going.clean (rw (text_read h read) at g) in
-      record {
-        held = all.rest;
-        going = goes_on h.going some (read_whole h.held read) all.whole new all.whole.gathers.1 all.whole.gathers.2 f (sym all.rest_is);
-        kept_is =
-            is ∙ ap (λ xs. clipped m (drop (length xs - place) xs)) (text_read h read)
-            ∙ ap (clipped m) (kept_rest (rw (text_read h read) at g)) ∙ all.kept;
-      }
+  -- At the end of input the call ends well where nothing is held, and else with a line cut short.
+  pub held_at_end : {r : Answer} → n ≡ 0 → r ≡ end_of_text after → Decides (call_of m budget (a ⇒ c) (k ⇒ l)) at r
+  held_at_end none is =
+      ends_at_end h.going some whole none (is ∙ ap end_of_text text_read ∙ same_end (longest_line m + 1) h.held read.piece (omega arith))
+
+  module _ {l' l'' : Store} {pending : List ℕ} {now : LinePlace} where
+    -- Where a line is that of no frame, or memory runs out, the call ends with that error, after it wrote the lines before.
+    pub held_at_lines : {r : Answer} (error : UndumpError) → GathersLines m after at now l l' [] pending (Err error)
+        → StopsWith l' l'' pending error r → Decides (call_of m budget (a ⇒ c) (k ⇒ l'')) now r
+    held_at_lines error g stop = ends_at_lines h.going some whole error (unclip (Err error) h.going.clean (rw text_read at g)).whole stop
+
+    -- Where the canonical bytes of lines cannot be written, the call ends with that error.
+    pub held_unflushed : {place : ℕ} {bad : SinkFault} → GathersLines m after at now l l' [] pending (Ok place)
+        → WritesAll l' l'' pending (Err bad) → Decides (call_of m budget (a ⇒ c) (k ⇒ l'')) now (Err errors.WriteFault)
+    held_unflushed {place = place} g f =
+        let all = unclip (Ok place) h.going.clean (rw text_read at g) in unflushed h.going some whole all.whole all.whole.gathers.2 f
+
+    -- With one read more, the canonical bytes of its lines are written, and the first bytes of the line after them are held.
+    pub holds_on : {place : ℕ} {later : List ℕ} {done : Unit {0}} → 0 < n
+        → GathersLines m after at now l l' [] pending (Ok place) → WritesAll l' l'' pending (Ok done)
+        → later ≡ clipped m (drop (length after - place) after) → Holding m budget (left - 1) a c k l'' later now
+    holds_on {place = place} new g f is =
+        let all = unclip (Ok place) h.going.clean (rw text_read at g) in
+        record {
+          held = all.rest;
+          going = goes_on h.going some whole all.whole new all.whole.gathers.1 all.whole.gathers.2 f (sym all.rest_is);
+          kept_is =
+              is ∙ ap (λ xs. clipped m (drop (length xs - place) xs)) text_read
+              ∙ ap (clipped m) (kept_rest (rw text_read at g)) ∙ all.kept;
+        }

@@ -1,32 +1,18 @@
 -- No word of a line holds a newline.
-use Rattle.std.proofs.Common.{◌≡◌, ◌≢◌, ℕ, zero, suc, ℤ, pos, negsuc, ◌/◌, ◌%◌, Bool, true, false, cond, List, [], ◌∷◌, ◌++◌, Option, Some, None, refl, sym, ap}
-use Rattle.std.proofs.Common.{◌∙◌, arith, inl, inr}
-use Rattle.std.specs.Prelude.{codes, unwrap_or, ◌==◌}
-use Rattle.std.specs.List.{AllByRecursion, flat_map, list_all}
-use Rattle.std.specs.Fmt.{digit_glyph, digits_onto, digits, decimal, signed_decimal}
-use Rattle.std.proofs.lemmas.Bool.{cases_eq, eq-eqb, ne_eqb}
-use Rattle.std.proofs.lemmas.Bool.Decides.{nat_tests}
-use Rattle.std.specs.Map.{lookup}
-use Rattle.amqp_types.specs.Values.{FieldValue, FieldValues, FieldEntries, Entry, boolean_value, signed_value, unsigned_value, decimal_value, bytes_value}
-use Rattle.amqp_types.specs.Values.{array_value, table_value, void_value, long_string, byte_array, no_values, next_value, no_entries, next_entry}
-use Rattle.amqp_types.specs.Tags.{tag_of}
-use Rattle.amqp_types.specs.declared.tag.FieldTag.{FieldTag}
-use Rattle.amqp_types.specs.declared.tag.FieldTag.TheVariants as tag
-use Rattle.amqp_types.specs.Slots.{Item, number_item, text_item, bytes_item, entries_item, Form, number_form, flags_form, short_string_form, long_string_form}
-use Rattle.amqp_types.specs.Slots.{table_form, Slot, kept_slot, reserved_slot}
+use Rattle.amqp_lines.proofs
+use proofs.Names.{◌≡◌, ◌≢◌, ℕ, zero, suc, pos, negsuc, ◌/◌, ◌%◌, Bool, true, false, cond, List, [], ◌∷◌, ◌++◌, Option, Some, None, refl, inl, inr, codes}
+use proofs.Names.{unwrap_or, ◌==◌, AllByRecursion, flat_map, list_all, digit_glyph, digits_onto, digits, decimal, signed_decimal, cases_eq, eq-eqb, ne_eqb}
+use proofs.Names.{lookup, FieldValue, FieldValues, FieldEntries, Entry, boolean_value, signed_value, unsigned_value, decimal_value, bytes_value, array_value}
+use proofs.Names.{table_value, void_value, long_string, byte_array, no_values, next_value, no_entries, next_entry, tag_of, FieldTag, Item, number_item}
+use proofs.Names.{text_item, bytes_item, entries_item, Form, number_form, flags_form, short_string_form, long_string_form, table_form, Slot, kept_slot}
+use proofs.Names.{reserved_slot, slots_at, Property, properties, Method, ContentHeader, both_true, Frame, Proto, Meth, Head, Body, Beat, BadBeat, hex_digit}
+use proofs.Names.{hex_byte, hex, is_plain, escaped, quoted, sign, signs, parted, tag_text, truth_text, content_text, values_texts, entries_texts, table_text}
+use proofs.Names.{form_text, slots_text, property_names, property_name, option_text, set_text, spaced, method_words, header_words, words, line, HasNoNewline}
+use proofs.Names.{numbers}
+use proofs.Names.tag
+use Rattle.std.proofs.Common.{ℤ}
 use Rattle.amqp_types.specs.SlotBytes.{flags_of}
-use Rattle.amqp_types.specs.Rows.{slots_at}
-use Rattle.amqp_types.specs.Properties.{Property, properties}
-use Rattle.amqp_types.specs.Methods.{Method}
-use Rattle.amqp_types.specs.ContentHeaders.{ContentHeader}
-use Rattle.amqp_laws.proofs.SlotLaws.{both_true}
-use Rattle.amqp_wire.specs.Frames.{Frame, Proto, Meth, Head, Body, Beat, BadBeat}
-use Rattle.amqp_lines.specs.Words.{hex_digit, hex_byte, hex, is_plain, escaped, quoted, sign, signs, parted}
-use Rattle.amqp_lines.specs.Values.{tag_text, truth_text, content_text, values_texts, entries_texts, table_text}
-use Rattle.amqp_lines.specs.Slots.{form_text, slots_text, property_names, property_name, option_text, set_text}
-use Rattle.amqp_lines.specs.Lines.{spaced, method_words, header_words, words, line}
 use Rattle.amqp_lines.specs.Laws.{HasOneNewline}
-use Rattle.amqp_lines.specs.LineReading.{HasNoNewline}
 
 -- What holds of each of some things, and of each of others, holds of each of all.
 pub each_both : {A : Type 0} (P : A → Type 0) (xs ys : List A) → AllByRecursion P xs → AllByRecursion P ys → AllByRecursion P (xs ++ ys)
@@ -45,16 +31,12 @@ each_back P (x ∷ xs) ys h = each_back P xs ys h.1
 
 -- No byte of some bytes is a newline, and none of others after them.
 pub clean_both : (xs ys : List ℕ) → HasNoNewline xs → HasNoNewline ys → HasNoNewline (xs ++ ys)
-clean_both xs ys h k = each_both (λ byte. byte ≢ 10) xs ys h k
-
--- a byte that is another number
-other : (n : ℕ) → (n == 10) ≡ false → n ≢ 10
-other n h e = let same = rw (eq-eqb n 10 e) at h in absurd cc
+clean_both = each_both _
 
 -- ---- numbers
 
 glyph_is_other : (d : ℕ) → digit_glyph false d ≢ 10
-glyph_is_other d e = absurd (grind (arith, nat_tests))
+glyph_is_other d e = absurd (grind numbers)
 
 clean_onto : (k n : ℕ) (acc : List ℕ) → HasNoNewline acc → HasNoNewline (digits_onto k 10 false n acc)
 clean_onto zero n acc h = h
@@ -75,7 +57,7 @@ clean_signed (negsuc n) = (λ e. absurd cc, clean_decimal (suc n))
 
 hex_is_other : (n : ℕ) → hex_digit n ≢ 10
 unfolding hex_digit
-hex_is_other n e = absurd (grind (arith, nat_tests))
+hex_is_other n e = absurd (grind numbers)
 
 clean_hex_byte : (byte : ℕ) → HasNoNewline (hex_byte byte)
 unfolding hex_byte
@@ -91,7 +73,7 @@ clean_hex bytes = clean_each hex_byte clean_hex_byte bytes
 
 plain_is_other : (byte : ℕ) → is_plain byte ≡ true → byte ≢ 10
 unfolding is_plain
-plain_is_other byte h e = let same = ap is_plain (sym e) ∙ h in absurd cc
+plain_is_other byte h e = absurd (grind numbers)
 
 escaped_by : (byte : ℕ) (b : Bool) → is_plain byte ≡ b → HasNoNewline (cond b (byte ∷ []) (codes "\\" ++ hex_byte byte))
 escaped_by byte true h = (plain_is_other byte h, tt)
@@ -107,7 +89,7 @@ clean_quoted bytes = (λ e. absurd cc, clean_both _ _ (clean_each escaped clean_
 
 sign_is_other : (flag : Bool) → sign flag ≢ 10
 sign_is_other true e = absurd cc
-sign_is_other false e = absurd cc
+sign_is_other flag e = absurd cc
 
 clean_signs : (flags : List Bool) → HasNoNewline (signs flags)
 unfolding signs
@@ -131,7 +113,7 @@ clean_tag t = (λ e. absurd cc, (λ e. absurd cc, tt))
 
 clean_truth : (b : Bool) → HasNoNewline (truth_text b)
 clean_truth true = (λ e. absurd cc, tt)
-clean_truth false = (λ e. absurd cc, tt)
+clean_truth b = (λ e. absurd cc, tt)
 
 -- between brackets
 clean_between : (before after : ℕ) (texts : List (List ℕ)) → before ≢ 10 → after ≢ 10 → AreClean texts → HasNoNewline (before ∷ (parted texts ++ after ∷ []))
@@ -199,7 +181,7 @@ abbrev other_test : ℕ → Bool
 other_test byte = cond (byte == 10) false true
 
 other_by : (byte : ℕ) → other_test byte ≡ true → byte ≢ 10
-other_by byte h e = let same = ap other_test (sym e) ∙ h in absurd cc
+other_by byte h e = absurd (grind numbers)
 
 clean_by : (bytes : List ℕ) → list_all other_test bytes ≡ true → HasNoNewline bytes
 clean_by [] h = tt

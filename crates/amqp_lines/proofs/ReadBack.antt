@@ -1,31 +1,20 @@
 -- The text of values, arrays and tables is read back as their canonical bytes, whatever follows.
-use Rattle.amqp_lines.specs.Reading.{read_number, read_string, Reader, followed, is_hex, is_digit, read_truth, read_decimal, read_byte_array, listed, inside}
-use Rattle.amqp_lines.specs.Reading.{or_comma, framed, read_item, read_list, read_behind, read_tagged, read_lists, read_value}
-use Rattle.std.proofs.Common.{◌≡◌, ℕ, zero, suc, ◌<◌, List, [], ◌∷◌, ◌++◌, length, drop, map, Bool, true, false, refl, sym, ap, ◌∙◌, append_assoc, arith}
-use Rattle.std.specs.Prelude.{codes, ◌==◌}
-use Rattle.std.specs.Fmt.{decimal}
-use Rattle.std.proofs.lemmas.List.{length-append}
-use Rattle.amqp_types.specs.Levels.{strict}
-use Rattle.amqp_types.specs.Judging.{IsBytes}
-use Rattle.amqp_types.specs.Numbers.{bytes1, bytes4}
+use Rattle.amqp_lines.proofs
+use proofs.Names.{read_number, read_string, Reader, followed, is_hex, is_digit, read_byte_array, listed, inside, or_comma, framed, read_item, read_list}
+use proofs.Names.{read_tagged, read_lists, read_value, ◌≡◌, ℕ, zero, suc, ◌<◌, List, [], ◌∷◌, ◌++◌, length, drop, map, Bool, true, false, refl, sym, ap, ◌∙◌}
+use proofs.Names.{append_assoc, arith, codes, ◌==◌, decimal, strict, IsBytes, bytes1, bytes4, SpellsLongString, FieldValue, FieldValues, FieldEntries, Entry}
+use proofs.Names.{short_short_int, short_short_uint, long_string, byte_array, boolean_value, signed_value, unsigned_value, decimal_value, bytes_value}
+use proofs.Names.{array_value, table_value, void_value, no_values, next_value, no_entries, next_entry, items, pairs, entries_of, tag_of, tag_byte, FieldTag}
+use proofs.Names.{SpellsEach, SpellsEntry, SpellsArray, SpellsTable, SpellsBehind, SpellsTagged, SpellsValue, entries_of-pairs, pairs-entries_of, hex, quoted}
+use proofs.Names.{parted, tag_text, truth_text, content_text, values_texts, entries_texts, value_text, table_text, array_text, entry_text, signed_width}
+use proofs.Names.{unsigned_width, SpellsBoth, lengths}
+use proofs.Names.tag
+use Rattle.amqp_lines.specs.Reading.{read_truth, read_decimal, read_behind}
 use Rattle.amqp_types.specs.Booleans.{SpellsBoolean}
-use Rattle.amqp_types.specs.Strings.{SpellsLongString}
-use Rattle.amqp_types.specs.Values.{FieldValue, FieldValues, FieldEntries, Entry, short_short_int, short_short_uint, long_string, byte_array, boolean_value}
-use Rattle.amqp_types.specs.Values.{signed_value, unsigned_value, decimal_value, bytes_value, array_value, table_value, void_value, no_values, next_value}
-use Rattle.amqp_types.specs.Values.{no_entries, next_entry, items, pairs, entries_of}
-use Rattle.amqp_types.specs.Tags.{tag_of, tag_byte}
-use Rattle.amqp_types.specs.declared.tag.FieldTag.{FieldTag}
-use Rattle.amqp_types.specs.declared.tag.FieldTag.TheVariants as tag
-use Rattle.amqp_types.specs.ValueSpelling.{SpellsEach, SpellsEntry, SpellsDecimal, SpellsArray, SpellsTable, SpellsBehind, SpellsTagged, SpellsValue}
-use Rattle.amqp_laws.proofs.Conversions.{entries_of-pairs, pairs-entries_of}
-use Rattle.amqp_lines.specs.Words.{hex, quoted, parted}
-use Rattle.amqp_lines.specs.Values.{tag_text, truth_text, content_text, values_texts, entries_texts, value_text, table_text}
-use Rattle.amqp_lines.specs.Rendering.{array_text, entry_text}
-use Rattle.amqp_lines.proofs.ReadSteps.{no_comma}
-use Rattle.amqp_lines.proofs.ReadWords.{Ends, IsReadAs, Begins, begins_more, listed_end, listed_comma, listed_item, bytes_behind, bytes_front, long_content}
-use Rattle.amqp_lines.proofs.ReadWords.{number_back, signed_back, hex_back, long_string_back, short_string_back}
-use Rattle.amqp_types.specs.ValueBytes.{signed_width, unsigned_width}
-use Rattle.amqp_types.specs.Sequences.{SpellsBoth}
+use Rattle.amqp_types.specs.ValueSpelling.{SpellsDecimal}
+use proofs.ReadSteps.{no_comma}
+use proofs.ReadWords.{Ends, IsReadAs, Begins, begins_more, listed_end, listed_comma, listed_item, bytes_behind, bytes_front, long_content, number_back}
+use proofs.ReadWords.{signed_back, hex_back, long_string_back, short_string_back}
 
 -- ---- what fills an array or a table
 
@@ -34,26 +23,26 @@ module _ {A : Type 0} (item : Reader) (Spells : List ℕ → A → Type 0) (text
   item_back : (x : A) (fuel : ℕ) (bytes rest : List ℕ) → IsBytes bytes → Spells bytes x → Ends rest
       → listed (or_comma item) close (suc fuel) (text x ++ rest) ≡ followed (bytes, rest) (listed (or_comma item) close fuel)
   item_back x fuel bytes rest fits h e =
-      let one = begins_more close 44 (text x) rest (begins x) in
-      listed_item (or_comma item) close fuel (text x ++ rest) bytes rest one.no_close (no_comma item (text x ++ rest) one.no_comma ∙ read bytes rest x fits h e)
+      let one = begins_more rest (begins x) in
+      listed_item (or_comma item) close fuel (text x ++ rest) one.no_close (no_comma item (text x ++ rest) one.no_comma ∙ read bytes rest x fits h e)
 
   each_back : (xs : List A) (fuel : ℕ) (bytes rest : List ℕ) → IsBytes bytes → SpellsEach Spells bytes xs
       → length (parted (map text xs)) < fuel → listed (or_comma item) close fuel (parted (map text xs) ++ (close ∷ rest)) ≡ (bytes, rest)
   unfolding parted is_hex is_digit
-  each_back [] fuel bytes rest fits h few = rw h (listed_end (or_comma item) close fuel rest)
+  each_back [] fuel bytes rest fits h few = rw h (listed_end (or_comma item) close fuel)
   each_back (x ∷ xs) zero bytes rest fits h few = absurd (omega arith)
   each_back (x ∷ []) (suc fuel) bytes rest fits h few =
       let is : bytes ≡ h.0 ++ [] = rw h.4 at h.2 in
-      rw (is, item_back x fuel h.0 (close ∷ rest) (bytes_front h.0 [] bytes is fits) h.3 ends, listed_end (or_comma item) close fuel rest)
+      rw (is, item_back x fuel h.0 (close ∷ rest) (bytes_front h.0 [] is fits) h.3 ends, listed_end (or_comma item) close fuel)
   each_back (x ∷ y ∷ xs) (suc zero) bytes rest fits h few =
-      absurd (let some : 0 < length (text x) = (begins x).some in omega (arith, length-append (text x) (44 ∷ parted (text y ∷ map text xs))))
+      absurd (let some : 0 < length (text x) = (begins x).some in omega lengths)
   each_back (x ∷ y ∷ xs) (suc (suc fuel)) bytes rest fits h few =
       let some : 0 < length (text x) = (begins x).some in
       let inner = parted (text y ∷ map text xs) in
       let tail = inner ++ (close ∷ rest) in
-      let others = each_back (y ∷ xs) fuel h.1 rest (bytes_behind h.0 h.1 bytes h.2 fits) h.4 (omega (arith, length-append (text x) (44 ∷ inner))) in
-      let front = item_back x (suc fuel) h.0 (44 ∷ tail) (bytes_front h.0 h.1 bytes h.2 fits) h.3 refl in
-      rw (h.2, append_assoc (text x) (44 ∷ inner) (close ∷ rest), front, listed_comma item close fuel tail h.1 rest apart others)
+      let others = each_back (y ∷ xs) fuel h.1 rest (bytes_behind h.0 h.1 h.2 fits) h.4 (omega lengths) in
+      let front = item_back x (suc fuel) h.0 (44 ∷ tail) (bytes_front h.0 h.1 h.2 fits) h.3 refl in
+      rw (h.2, append_assoc (text x) (44 ∷ inner) (close ∷ rest), front, listed_comma item close fuel tail apart others)
 
   inside_back : (open_ : ℕ) (xs : List A) (bytes inner rest : List ℕ) → IsBytes bytes → SpellsLongString bytes inner → SpellsEach Spells inner xs
       → framed 4 (inside (or_comma item) close ((open_ ∷ (parted (map text xs) ++ (close ∷ []))) ++ rest)) ≡ (bytes, rest)
@@ -61,9 +50,9 @@ module _ {A : Type 0} (item : Reader) (Spells : List ℕ → A → Type 0) (text
   inside_back open_ xs bytes inner rest fits framed_so each =
       let words = parted (map text xs) in
       let fuel = length (open_ ∷ ((words ++ close ∷ []) ++ rest)) in
-      let few : length words < fuel = omega (arith, length-append (words ++ close ∷ []) rest, length-append words (close ∷ [])) in
+      let few : length words < fuel = omega lengths in
       rw framed_so.bytes_are (ap (framed 4) (ap (listed (or_comma item) close fuel) (append_assoc words (close ∷ []) rest)
-      ∙ each_back xs fuel inner rest (long_content bytes inner framed_so fits) each few))
+      ∙ each_back xs fuel inner rest (long_content framed_so fits) each few))
 
 -- two things and a character between them are read back, one after the other
 both_back : {A B C : Type 0} (One Two : Reader) {First : List ℕ → A → Type 0}
@@ -71,8 +60,8 @@ both_back : {A B C : Type 0} (One Two : Reader) {First : List ℕ → A → Type
     (c : ℕ) (one : IsReadAs One First a) (two : IsReadAs Two Second b) → is_hex c ≡ false → (bytes rest : List ℕ) (z : C) → IsBytes bytes
     → (s : SpellsBoth First Second join bytes z) → Ends rest → followed (One ((a s.one ++ (c ∷ b s.two)) ++ rest)) (λ t. Two (drop 1 t)) ≡ (bytes, rest)
 both_back One Two a b c one two apart bytes rest z fits s ends =
-    let first = one s.front (c ∷ (b s.two ++ rest)) s.one (bytes_front s.front s.behind bytes s.bytes_are fits) s.first_is apart in
-    let second = two s.behind rest s.two (bytes_behind s.front s.behind bytes s.bytes_are fits) s.second_is ends in
+    let first = one s.front (c ∷ (b s.two ++ rest)) s.one (bytes_front s.front s.behind s.bytes_are fits) s.first_is apart in
+    let second = two s.behind rest s.two (bytes_behind s.front s.behind s.bytes_are fits) s.second_is ends in
     rw (append_assoc (a s.one) (c ∷ b s.two) rest, first, second) (ap (λ bs. (bs, rest)) (sym s.bytes_are))
 
 entry_begins : (e : Entry) → Begins 125 44 (entry_text e)
@@ -106,7 +95,7 @@ truth_back bytes rest false fits h ends = ap (λ bs. (bs, rest)) (sym h)
 
 byte_array_back : IsReadAs read_byte_array SpellsLongString hex
 unfolding read_byte_array
-byte_array_back bytes rest content fits h ends = rw h.bytes_are (ap (framed 4) (hex_back content rest (long_content bytes content h fits) ends))
+byte_array_back bytes rest content fits h ends = rw h.bytes_are (ap (framed 4) (hex_back content rest (long_content h fits) ends))
 
 -- the tag letter does not close an array
 tag_begins : (t : FieldTag) (content : List ℕ) → Begins 93 44 (tag_text t ++ content)
@@ -173,7 +162,7 @@ module _ (room : ℕ) (lists : Bool → Reader) (Spells : List ℕ → FieldValu
   unfolding value_text
   tagged_back bytes rest v fits h ends =
       let t = tag_of v in
-      let behind = behind_back h.behind rest v (bytes_behind (h.byte ∷ []) h.behind bytes h.bytes_are fits) h.value_is ends in
+      let behind = behind_back h.behind rest v (bytes_behind (h.byte ∷ []) h.behind h.bytes_are fits) h.value_is ends in
       rw (append_assoc (tag_text t) (content_text v) rest, tag_step lists t (content_text v ++ rest), behind)
       (ap (λ b. (b ∷ h.behind, rest)) (sym h.tag_is) ∙ ap (λ bs. (bs, rest)) (sym h.bytes_are))
 

@@ -1,27 +1,15 @@
 -- The words of a frame are read back as that frame.
-use Rattle.std.proofs.Common.{◌≡◌, ℕ, ◌^◌, ◌<◌, List, [], ◌∷◌, ◌++◌, refl, sym, ap, ap₂, ◌∙◌, append_assoc, append-nil, arith}
-use Rattle.std.specs.Prelude.{codes, unwrap_or}
-use Rattle.std.specs.Fmt.{decimal}
-use Rattle.std.proofs.lemmas.Bool.{ne_eqb}
-use Rattle.amqp_types.specs.Levels.{strict}
-use Rattle.amqp_types.specs.Judging.{IsBytes}
-use Rattle.amqp_types.specs.Numbers.{bytes1}
-use Rattle.amqp_types.specs.Properties.{properties}
-use Rattle.amqp_types.specs.Methods.{Method}
-use Rattle.amqp_types.specs.MethodSpelling.{SpellsPayload}
-use Rattle.amqp_types.specs.ContentHeaders.{ContentHeader, header_slots, SpellsContentHeader}
-use Rattle.amqp_wire.specs.declared.frame_type.AMQPFrameType.{AMQPFrameType}
-use Rattle.amqp_wire.specs.declared.frame_type.AMQPFrameType.TheVariants as kinds
-use Rattle.amqp_wire.specs.Frames.{Raw, Frame, Proto, Meth, Head, Body, Beat, BadBeat, channel_id_of}
-use Rattle.amqp_lines.specs.Slots.{slots_text, form_text, set_text}
-use Rattle.amqp_lines.specs.Lines.{spaced, method_words, header_words, beat_words, words}
-use Rattle.amqp_lines.specs.Payloads.{IsPayload}
-use Rattle.amqp_wire.proofs.Outlined.{header_front}
-use Rattle.amqp_lines.specs.Reading.{read_fields, followed, is_hex, is_digit, read_digits, read_bits, read_number, read_hex, read_form, read_slot, read_slots}
-use Rattle.amqp_lines.specs.Reading.{read_properties, read_id, read_method, version_slots, read_payload, of_kind, read_words}
-use Rattle.amqp_lines.proofs.ReadWords.{Ends, bytes_behind, bytes_front, number_back, bits_back, hex_back}
-use Rattle.amqp_lines.proofs.ReadSlots.{slots_back, slots_end, set_end, properties_back}
-use Rattle.amqp_lines.proofs.CanonBytes.{one_byte}
+use Rattle.amqp_lines.proofs
+use proofs.Names.{◌≡◌, ℕ, ◌^◌, ◌<◌, List, [], ◌∷◌, ◌++◌, refl, sym, ap, ap₂, ◌∙◌, append_assoc, append-nil, arith, codes, unwrap_or, decimal, ne_eqb, strict}
+use proofs.Names.{IsBytes, bytes1, properties, Method, SpellsPayload, ContentHeader, header_slots, SpellsContentHeader, AMQPFrameType, Raw, Frame, Proto, Meth}
+use proofs.Names.{Head, Body, Beat, BadBeat, channel_id_of, slots_text, form_text, set_text, spaced, method_words, header_words, beat_words, words, IsPayload}
+use proofs.Names.{header_front, followed, is_hex, is_digit, read_digits, read_bits, read_number, read_hex, read_form, read_slot, read_slots, read_properties}
+use proofs.Names.{read_words}
+use proofs.Names.kinds
+use Rattle.amqp_lines.specs.Reading.{read_fields, read_id, read_method, version_slots, read_payload, of_kind}
+use proofs.ReadWords.{Ends, bytes_behind, bytes_front, number_back, bits_back, hex_back}
+use proofs.ReadSlots.{slots_back, slots_end, set_end, properties_back}
+use proofs.CanonBytes.{one_byte}
 
 after_one : (c n : ℕ) (rest : List ℕ) → n < 2 ^ 16 → Ends rest → read_id (c ∷ (decimal n ++ rest)) ≡ (n, rest)
 unfolding read_id
@@ -31,8 +19,8 @@ id_back : (n : ℕ) (rest : List ℕ) → n < 2 ^ 16 → Ends rest → read_id (
 unfolding spaced
 id_back n rest h e = after_one 32 n rest h e
 
-octet_back : (n : ℕ) (rest : List ℕ) → n < 2 ^ 8 → Ends rest → read_number 1 (decimal n ++ rest) ≡ (n ∷ [], rest)
-octet_back n rest h e =
+octet_back : (n : ℕ) {rest : List ℕ} → n < 2 ^ 8 → Ends rest → read_number 1 (decimal n ++ rest) ≡ (n ∷ [], rest)
+octet_back n {rest = rest} h e =
     let low = ap (λ k. k ∷ []) (omega arith) in
     number_back bytes1 _ rest n (λ i. one_byte n i h) (record { fits = h; bytes_are = low }) e
 
@@ -40,8 +28,8 @@ version_back : (a b c : ℕ) → a < 2 ^ 8 → b < 2 ^ 8 → c < 2 ^ 8
     → (read_slots version_slots (32 ∷ (decimal a ++ (46 ∷ (decimal b ++ (46 ∷ decimal c)))))).0 ≡ a ∷ b ∷ c ∷ []
 unfolding read_slots read_slot read_form is_hex is_digit
 version_back a b c ha hb hc =
-    let last : read_number 1 (decimal c) ≡ (c ∷ [], []) = cc (append-nil (decimal c), octet_back c [] hc tt) in
-    rw (octet_back a (46 ∷ (decimal b ++ (46 ∷ decimal c))) ha refl, octet_back b (46 ∷ decimal c) hb refl, last)
+    let last : read_number 1 (decimal c) ≡ (c ∷ [], []) = cc (append-nil (decimal c), octet_back c hc tt) in
+    rw (octet_back a ha refl, octet_back b hb refl, last)
 
 -- ---- a method
 
@@ -51,7 +39,7 @@ method_back payload m fits h =
     let text = slots_text h.slots m.items in
     let known = ap (λ o. slots_text (unwrap_or o []) m.items) h.known in
     let tail = h.id_bytes ++ h.slot_bytes in
-    let slot_fits = bytes_behind h.id_bytes h.slot_bytes tail refl (bytes_behind h.class_bytes tail payload h.bytes_are fits) in
+    let slot_fits = bytes_behind h.id_bytes h.slot_bytes refl (bytes_behind h.class_bytes tail h.bytes_are fits) in
     let ends : Ends text = rw append-nil at (slots_end h.slots m.items [] tt) in
     let slots =
     ap (λ o. read_fields o text) h.known ∙ ap (λ r. r.0)
@@ -74,8 +62,8 @@ header_back payload header fits h =
     ap (λ x. (followed (read_slots header_slots (header_words x)) read_properties).0) parts.header_is
     ∙ ap (λ t. (followed (read_slots header_slots t) read_properties).0) grouped
     ∙ rw (
-      slots_back header_slots h.front set h.one (bytes_front h.front h.behind payload h.bytes_are fits) h.first_is (set_end properties h.two),
-      properties_back h.behind h.two (bytes_behind h.front h.behind payload h.bytes_are fits) h.second_is,
+      slots_back header_slots h.front set h.one (bytes_front h.front h.behind h.bytes_are fits) h.first_is (set_end properties h.two),
+      properties_back h.behind h.two (bytes_behind h.front h.behind h.bytes_are fits) h.second_is,
     ) (sym h.bytes_are)
 
 -- ---- frames
@@ -103,9 +91,9 @@ abbrev frame_in : Frame → List ℕ → Raw
 frame_in f payload = record { kind = kind_of f; channel = channel_id_of f; payload = payload }
 
 -- the words after a channel
-after_channel : (kind : AMQPFrameType) (channel : ℕ) (text payload : List ℕ) → channel < 2 ^ 16 → Ends text → read_payload kind text ≡ payload
+after_channel : (kind : AMQPFrameType) (channel : ℕ) (text : List ℕ) {payload : List ℕ} → channel < 2 ^ 16 → Ends text → read_payload kind text ≡ payload
     → of_kind kind (read_id (spaced channel ++ text)) ≡ record { kind = kind; channel = channel; payload = payload }
-after_channel kind channel text payload fits ends h = rw (id_back channel text fits ends, h)
+after_channel kind channel text fits ends h = rw (id_back channel text fits ends, h)
 
 beat_back : read_words (codes "beat") ≡ frame_in Beat []
 unfolding read_words read_id read_bits read_digits read_payload
@@ -115,18 +103,18 @@ bad_beat_back : (channel : ℕ) → 0 < channel → channel < 2 ^ 16 → read_wo
 unfolding read_words read_payload
 bad_beat_back channel some fits =
     let rendered : beat_words channel ≡ spaced channel ++ [] = rw (ne_eqb channel 0 (λ e. absurd (omega arith))) (sym (append-nil _)) in
-    rw rendered (after_channel kinds.Heartbeat channel [] [] fits tt refl)
+    rw rendered (after_channel kinds.Heartbeat channel [] fits tt refl)
 
 -- What is read of the words of a frame is its type, its channel and its canonical payload.
-pub words_back : (f : Frame) (payload : List ℕ) → IsBytes payload → IsPayload payload f → IsNumbered f
+pub words_back : (f : Frame) {payload : List ℕ} → IsBytes payload → IsPayload payload f → IsNumbered f
     → read_words (words f) ≡ record { kind = kind_of f; channel = channel_id_of f; payload = payload }
 unfolding read_words words read_payload method_words header_words spaced is_hex is_digit
-words_back (Proto a b c) payload fits h n = ap (frame_in (Proto a b c)) (version_back a b c n.0 n.1 n.2 ∙ sym h)
-words_back (Meth channel m) payload fits h n = after_channel kinds.Method channel _ payload n refl (method_back payload m fits h)
-words_back (Head channel header) payload fits h n =
-    after_channel kinds.Header channel _ payload n refl (header_back payload header fits h)
-words_back (Body channel content) payload fits h n =
-    after_channel kinds.Body channel _ payload n refl
+words_back (Proto a b c) fits h n = ap (frame_in (Proto a b c)) (version_back a b c n.0 n.1 n.2 ∙ sym h)
+words_back (Meth channel m) {payload = payload} fits h n = after_channel kinds.Method channel _ n refl (method_back payload m fits h)
+words_back (Head channel header) {payload = payload} fits h n =
+    after_channel kinds.Header channel _ n refl (header_back payload header fits h)
+words_back (Body channel content) fits h n =
+    after_channel kinds.Body channel _ n refl
     (ap (λ r. r.0) (ap read_hex (sym (append-nil _)) ∙ hex_back content [] (rw h at fits) tt) ∙ sym h)
-words_back Beat payload fits h n = beat_back ∙ ap (frame_in Beat) (sym h)
-words_back (BadBeat channel) payload fits h n = cc (bad_beat_back channel n.0 n.1, h)
+words_back Beat fits h n = beat_back ∙ ap (frame_in Beat) (sym h)
+words_back (BadBeat channel) fits h n = cc (bad_beat_back channel n.0 n.1, h)

@@ -1,36 +1,21 @@
 -- The text of fields and properties is read back as their canonical bytes.
-use Rattle.amqp_lines.specs.Reading.{last_bytes, read_lists, read_string, read_number, is_hex, is_digit, read_signs, read_flags, read_form, read_slot}
-use Rattle.amqp_lines.specs.Reading.{read_slots, strip, with_option, read_set, read_properties, Reader}
-use Rattle.amqp_types.specs.Numbers.{byte_count, bytes2, number_bytes}
-use Rattle.std.proofs.Common.{◌≡◌, ℕ, ◌+◌, ◌%◌, ◌^◌, ◌<◌, List, [], ◌∷◌, ◌++◌, length, take, drop, Bool, true, false, cond, Option, Some, None, refl, sym, ap}
-use Rattle.std.proofs.Common.{ap₂, ◌∙◌, append_assoc, arith}
-use Rattle.std.specs.Prelude.{◌&&◌, ◌==◌, if◌then◌else◌}
-use Rattle.std.proofs.lemmas.Bool.{eq-eqb}
-use Rattle.std.proofs.lemmas.List.{take_at}
-use Rattle.amqp_types.specs.Levels.{strict}
-use Rattle.amqp_types.specs.Judging.{IsBytes}
-use Rattle.amqp_types.specs.Flags.{flag_at, flags_from}
-use Rattle.amqp_types.specs.Slots.{Item, Form, number_form, flags_form, short_string_form, long_string_form, table_form, Slot, kept_slot, reserved_slot}
-use Rattle.amqp_types.specs.SlotBytes.{form_bytes}
-use Rattle.amqp_types.specs.SlotSpelling.{SpellsForm, SpellsSlots, SpellsSlot}
-use Rattle.amqp_types.specs.Properties.{Property, properties, later_properties}
-use Rattle.amqp_types.specs.PropertyBytes.{mask_of, worth_of, set_bytes, properties_bytes}
-use Rattle.amqp_types.specs.PropertyJudging.{first_item}
-use Rattle.amqp_types.specs.PropertyLaws.{gives_one, give_one}
-use Rattle.amqp_types.specs.PropertySpelling.{SpellsOptional, SpellsSet, SpellsProperties}
-use Rattle.amqp_types.proofs.FlagBytes.{flags_from_length}
+use Rattle.amqp_lines.proofs
+use proofs.Names.{last_bytes, read_lists, read_string, read_number, is_hex, is_digit, read_signs, read_form, read_slot, read_slots, strip, with_option}
+use proofs.Names.{read_set, read_properties, Reader, byte_count, bytes2, number_bytes, ◌≡◌, ℕ, ◌+◌, ◌%◌, ◌^◌, ◌<◌, List, [], ◌∷◌, ◌++◌, length, take, drop}
+use proofs.Names.{Bool, true, false, cond, Option, Some, None, refl, sym, ap, ap₂, ◌∙◌, append_assoc, arith, ◌==◌, eq-eqb, take_at, strict, IsBytes, flag_at}
+use proofs.Names.{flags_from, Item, Form, number_form, flags_form, short_string_form, long_string_form, table_form, Slot, kept_slot, reserved_slot, form_bytes}
+use proofs.Names.{SpellsForm, SpellsSlots, SpellsSlot, Property, properties, later_properties, mask_of, set_bytes, properties_bytes, first_item, gives_one}
+use proofs.Names.{give_one, SpellsOptional, SpellsSet, SpellsProperties, flags_from_length, flags_of-map, forms_lawful, both_true, one_each, signs, form_text}
+use proofs.Names.{slots_text, property_name, option_text, set_text, SpellsMapped, slot_text}
+use Rattle.amqp_lines.specs.Reading.{read_flags}
+use Rattle.std.specs.Prelude.{◌&&◌, if◌then◌else◌}
+use Rattle.amqp_types.specs.PropertyBytes.{worth_of}
 use Rattle.amqp_types.proofs.FormLaws.{flags_byte_back}
-use Rattle.amqp_laws.proofs.SlotForms.{flags_of-map, forms_lawful}
-use Rattle.amqp_laws.proofs.SlotLaws.{both_true}
-use Rattle.amqp_laws.proofs.PropertyLaws.{properties_lawful, one_each}
-use Rattle.amqp_lines.specs.Words.{signs}
-use Rattle.amqp_lines.specs.Slots.{form_text, slots_text, property_name, option_text, set_text}
-use Rattle.amqp_lines.proofs.ReadWords.{Ends, IsReadAs, bytes_behind, bytes_front, number_back, long_string_back, short_string_back, signs_back}
-use Rattle.amqp_lines.proofs.ReadBack.{field_table_back}
-use Rattle.amqp_lines.proofs.RenderedSlots.{one_text, form_count, first_text}
+use Rattle.amqp_laws.proofs.PropertyLaws.{properties_lawful}
+use proofs.ReadWords.{Ends, IsReadAs, bytes_behind, bytes_front, number_back, long_string_back, short_string_back, signs_back}
+use proofs.ReadBack.{field_table_back}
+use proofs.RenderedSlots.{one_text, form_count, first_text}
 use Rattle.amqp_laws.proofs.Options.{counted_one}
-use Rattle.amqp_types.specs.Sequences.{SpellsMapped}
-use Rattle.amqp_lines.specs.Rendering.{slot_text}
 
 -- ---- one field
 
@@ -38,7 +23,7 @@ flags_read : (count byte : ℕ) (rest : List ℕ) → byte < 256 → byte < 2 ^ 
 flags_read count byte rest fits below =
     let back = flags_byte_back count byte below in
     ap (λ k. read_signs k (signs (flags_from count 0 byte) ++ rest)) (sym (flags_from_length count 0 byte))
-    ∙ signs_back (flags_from count 0 byte) rest (omega (arith, back)) ∙ ap (λ b. (b, rest)) back
+    ∙ signs_back (flags_from count 0 byte) (omega (arith, back)) ∙ ap (λ b. (b, rest)) back
 
 -- what is made of a thing is read back where the thing is
 mapped_back : {A : Type 0} {Spells : List ℕ → A → Type 0} {make : A → List Item} (read : Reader) (text : List Item → List ℕ)
@@ -79,17 +64,17 @@ unfolding read_slots slots_text
 slots_back [] bytes rest items fits h e = ap (λ bs. (bs, rest)) (sym h.0)
 slots_back (slot ∷ slots) bytes rest items fits h e =
     let tail = slots_text slots h.two in
-    let others = slots_back slots h.behind rest h.two (bytes_behind h.front h.behind bytes h.bytes_are fits) h.second_is e in
-    let first = slot_back slot h.front (tail ++ rest) h.one (bytes_front h.front h.behind bytes h.bytes_are fits) h.first_is (slots_end slots h.two rest e) in
+    let others = slots_back slots h.behind rest h.two (bytes_behind h.front h.behind h.bytes_are fits) h.second_is e in
+    let first = slot_back slot h.front (tail ++ rest) h.one (bytes_front h.front h.behind h.bytes_are fits) h.first_is (slots_end slots h.two rest e) in
     ap (λ xs. read_slots (slot ∷ slots) (slots_text (slot ∷ slots) xs ++ rest)) h.joined
     ∙ ap (λ xs. read_slots (slot ∷ slots) (xs ++ rest)) (first_text slot slots h.front h.one h.two h.first_is)
     ∙ rw (append_assoc (slot_text slot h.one) tail rest, first, others) (ap (λ bs. (bs, rest)) (sym h.bytes_are))
 
 -- ---- properties
 
-strip_front : (name rest : List ℕ) → strip name (name ++ rest) ≡ Some rest
-strip_front [] rest = refl
-strip_front (c ∷ cs) rest = rw (eq-eqb c c refl) (strip_front cs rest)
+strip_front : (name : List ℕ) {rest : List ℕ} → strip name (name ++ rest) ≡ Some rest
+strip_front [] = refl
+strip_front (c ∷ cs) {rest = rest} = rw (eq-eqb c c refl) (strip_front cs)
 
 -- at some place two names have different characters
 abbrev differ : List ℕ → List ℕ → Bool
@@ -147,7 +132,7 @@ set_end (p ∷ ps) (Some item ∷ options) = refl
 worth_some : (worth : ℕ) (items : List Item) → length items ≡ 1 → worth_of worth (first_item items) ≡ worth
 unfolding worth_of
 worth_some worth [] h = absurd (omega arith)
-worth_some worth (item ∷ items) h = refl
+worth_some worth items h = refl
 
 option_back : (present : Bool) (p : Property) (ps : List Property) (front behind : List ℕ) (option : Option Item) (options : List (Option Item)) (mask : ℕ)
     → gives_one p.form ≡ true → not_empty (property_name p.bit) ≡ true → apart_from (property_name p.bit) ps ≡ true
@@ -159,9 +144,9 @@ option_back true p ps front behind option options mask one some apart fits h oth
     let tail = set_text ps options in
     let words = form_text p.form h.thing in
     let count = form_count p.form front h.thing h.spelled in
-    let text = ap (option_text p) h.made ∙ one_text p.form h.thing p refl one count in
+    let text = ap (option_text p) h.made ∙ one_text h.thing p refl one count in
     let found =
-    ap (strip (property_name p.bit)) (append_assoc (property_name p.bit) (61 ∷ words) tail) ∙ strip_front (property_name p.bit) (61 ∷ (words ++ tail)) in
+    ap (strip (property_name p.bit)) (append_assoc (property_name p.bit) (61 ∷ words) tail) ∙ strip_front (property_name p.bit) in
     let worth : worth_of (2 ^ p.bit) option ≡ 2 ^ p.bit = cc (h.made, worth_some (2 ^ p.bit) h.thing (count ∙ counted_one p.form one)) in
     let sum : (2 ^ p.bit % 2 ^ 16 + mask % 2 ^ 16) % 2 ^ 16 ≡ (worth_of (2 ^ p.bit) option + mask) % 2 ^ 16 = omega (arith, worth) in
     ap (λ xs. read_set (p ∷ ps) (xs ++ tail)) text
@@ -181,11 +166,11 @@ set_back mask (p ∷ ps) one apart bytes options fits h =
     let b = both_true _ _ one in
     let name = both_true _ _ apart in
     let a = both_true _ _ name.1 in
-    let others = set_back mask ps b.1 a.1 h.behind h.two (bytes_behind h.front h.behind bytes h.bytes_are fits) h.second_is in
+    let others = set_back mask ps b.1 a.1 h.behind h.two (bytes_behind h.front h.behind h.bytes_are fits) h.second_is in
     cc (
       h.joined,
       option_back (flag_at mask p.bit) p ps h.front h.behind h.one h.two (mask_of ps h.two) b.0 name.0 a.0
-          (bytes_front h.front h.behind bytes h.bytes_are fits) h.first_is others,
+          (bytes_front h.front h.behind h.bytes_are fits) h.first_is others,
       h.bytes_are,
     )
 
@@ -195,7 +180,7 @@ each_apart = refl
 
 -- a mask of two bytes
 low_mask : (n : ℕ) → number_bytes bytes2 (n % 2 ^ 16) ≡ number_bytes bytes2 n
-low_mask n = ap₂ (λ a b. a ∷ b ∷ []) (omega arith) (omega arith)
+low_mask n = grind arith
 
 -- The words of properties are read back as their canonical bytes, to the end of the text.
 pub properties_back : (bytes : List ℕ) (options : List (Option Item)) → IsBytes bytes
@@ -207,5 +192,5 @@ properties_back bytes options fits h =
     sym (take_at (number_bytes bytes2 mask) (set_bytes properties options) 2 refl)
     ∙ ap (take 2) (sym (properties_lawful.strict_is_canonical bytes options h) ∙ h.bytes_are) ∙ take_at (number_bytes bytes2 h.mask) h.behind 2 refl in
     ap (λ set. (last_bytes 2 set.0 ++ set.1.0, set.1.1))
-    (set_back h.mask properties one_each each_apart h.behind options (bytes_behind (number_bytes bytes2 h.mask) h.behind bytes h.bytes_are fits) h.set)
+    (set_back h.mask properties one_each each_apart h.behind options (bytes_behind (number_bytes bytes2 h.mask) h.behind h.bytes_are fits) h.set)
     ∙ ap (λ bs. (bs ++ h.behind, [])) (low_mask mask ∙ front) ∙ ap (λ bs. (bs, [])) (sym h.bytes_are)

@@ -1,33 +1,33 @@
 -- What calls read, step by step.
-use Rattle.std.proofs.Common.{Bor, ◌≡◌, ℕ, zero, suc, ◌+◌, ◌-◌, ◌*◌, ◌%◌, ◌^◌, ◌<◌, ◌≤◌, List, [], ◌∷◌, ◌++◌, length, replicate, get_or, drop, map, Bool, true}
-use Rattle.std.proofs.Common.{false, Option, Some, None, Result, Ok, Err, refl, sym, ap, subst, ◌∙◌, append_assoc, append-nil, arith}
-use Rattle.std.proofs.lemmas.List.{length-append, length-replicate, take_at, drop_at}
-use Rattle.amqp_types.specs.Tags.{tag_at}
+use Rattle.amqp_lines.proofs
+use proofs.Names.{Bor, ◌≡◌, ℕ, zero, suc, ◌+◌, ◌-◌, ◌*◌, ◌%◌, ◌^◌, ◌<◌, ◌≤◌, List, [], ◌∷◌, ◌++◌, length, get_or, drop, map, Bool, true, false, Option, Some}
+use proofs.Names.{None, Result, Ok, Err, refl, sym, ap, subst, ◌∙◌, append_assoc, append-nil, arith, take_at, drop_at, tag_at, FieldTag, NoMemory, form_of}
+use proofs.Names.{property_of, slot_of, slots_of, property_name, Reader, followed, first_is, is_digit, read_digits, last_bytes, is_hex, nibble, read_hex}
+use proofs.Names.{ends_at, listed, inside, or_comma, read_escaped, framed, read_item, closing, read_tagged, read_lists, read_list, read_value, read_form}
+use proofs.Names.{read_slot, read_slots, strip, with_option, read_set, lengths}
+use proofs.Names.slots
+use Rattle.std.proofs.Common.{replicate}
+use Rattle.std.proofs.lemmas.List.{length-replicate}
 use Rattle.amqp_types.specs.Writing.{written}
-use Rattle.amqp_types.specs.declared.tag.FieldTag.{FieldTag}
-use Rattle.amqp_types.specs.declared.errors.NoMemory.{NoMemory}
 use Rattle.amqp_canonical.specs.declared.shapes.Form.{Form}
 use Rattle.amqp_canonical.specs.declared.shapes.Slot.{Slot}
-use Rattle.amqp_canonical.specs.declared.shapes.Slot.TheVariants as slots
 use Rattle.amqp_canonical.proofs.Constants.{constant_put}
-use Rattle.amqp_canonical.specs.Shapes.{form_of, property_of, slot_of, has_constant, slots_of}
-use Rattle.amqp_lines.specs.Slots.{property_name}
-use Rattle.amqp_lines.specs.Reading.{Reader, followed, first_is, is_digit, read_digits, last_bytes, is_hex, nibble, read_hex, ends_at, listed, inside, or_comma}
-use Rattle.amqp_lines.specs.Reading.{read_escaped, framed, read_item, closing, read_after, read_tagged, read_lists, read_list, read_value, read_form, read_slot}
-use Rattle.amqp_lines.specs.Reading.{read_slots, strip, with_option, read_set, Finds, Reads, ReadsSet}
+use Rattle.amqp_canonical.specs.Shapes.{has_constant}
+use Rattle.amqp_lines.specs.Reading.{read_after, Finds, Reads, ReadsSet}
 
 -- ---- either way
 
 -- ---- one thing after another
 
 -- What is read next, after so many characters, is appended to what was read.
-pub then_read : {K : Type 0} (view : K → List ℕ) (one : List ℕ × List ℕ) (next : Reader) (skip : ℕ) (old mid new rest text : List ℕ) (r : Result K NoMemory)
+pub then_read : {K : Type 0} (view : K → List ℕ) (one : List ℕ × List ℕ) (next : Reader) (skip : ℕ)
+    (old : List ℕ) {mid : List ℕ} (new : List ℕ) {rest text : List ℕ} (r : Result K NoMemory)
     → (rest ≡ one.1) × (mid ≡ old ++ one.0) → text ≡ drop skip rest
     → Reads view (next text) mid new r → Reads view (followed one (λ t. next (drop skip t))) old new r
-then_read view one next skip old mid new rest text (Ok end) h at k =
+then_read view one next skip old new (Ok end) h at k =
     let later = rw (at, h.0, h.1) at k in
     (later.0, later.1 ∙ append_assoc old one.0 (next _).0)
-then_read view one next skip old mid new rest text (Err error) h at k = tt
+then_read view one next skip old new (Err error) h at k = tt
 
 -- ---- loops that read on
 
@@ -37,16 +37,16 @@ pub record ReadsOn (whole left : List ℕ × List ℕ) (old now : List ℕ) : Ty
   pub rest : left.1 ≡ whole.1
 
 -- With one thing read and appended, what is read from the text after it gives the rest of the whole.
-pub goes_on : (whole left one : List ℕ × List ℕ) (next : Reader) (old now mid rest : List ℕ) → ReadsOn whole left old now
+pub goes_on : {whole left : List ℕ × List ℕ} (one : List ℕ × List ℕ) (next : Reader) {old now mid rest : List ℕ} → ReadsOn whole left old now
     → left ≡ followed one next → (rest ≡ one.1) × (mid ≡ now ++ one.0) → ReadsOn whole (next rest) old mid
-goes_on whole left one next old now mid rest h is step =
+goes_on one next {now = now} {rest = rest} h is step =
     let all = rw is at h in
     record { bytes = rw (step.1, step.0) (append_assoc now one.0 (next one.1).0 ∙ all.bytes); rest = rw step.0 all.rest }
 
 -- Where what is left reads no bytes more, the whole was read.
-pub stops : (whole left : List ℕ × List ℕ) (old now end rest : List ℕ) → ReadsOn whole left old now
+pub stops : {whole left : List ℕ × List ℕ} {old now end rest : List ℕ} → ReadsOn whole left old now
     → left ≡ ([], end) → rest ≡ end → (rest ≡ whole.1) × (now ≡ old ++ whole.0)
-stops whole left old now end rest h is at = let all = rw is at h in (at ∙ all.rest, cc (append-nil now, all.bytes))
+stops {now = now} h is at = let all = rw is at h in (at ∙ all.rest, cc (append-nil now, all.bytes))
 
 -- ---- numbers
 
@@ -126,11 +126,11 @@ listed_none item close zero text h = refl
 listed_none item close (suc left) text h = absurd (omega arith)
 
 -- Before the end of a list, one thing of it is read, and then the rest, with one less to read.
-pub listed_next : (item : Reader) (close left less : ℕ) (text : List ℕ) → 0 < left → less ≡ left - 1
+pub listed_next : (item : Reader) (close left : ℕ) {less : ℕ} (text : List ℕ) → 0 < left → less ≡ left - 1
     → ends_at close text ≡ false → listed item close left text ≡ followed (item text) (listed item close less)
 unfolding listed
-listed_next item close zero less text some is off = absurd (omega arith)
-listed_next item close (suc left) less text some is off = let same : less ≡ left = omega (arith, is) in rw (off, same)
+listed_next item close zero text some is off = absurd (omega arith)
+listed_next item close (suc left) {less = less} text some is off = let same : less ≡ left = omega (arith, is) in rw (off, same)
 
 -- Inside of brackets a list is read from after the opening one, at most as many things as the text is long.
 pub inside_begins : (item : Reader) (close left : ℕ) (text rest old : List ℕ) → left ≡ length text
@@ -146,7 +146,7 @@ unfolding written
 put_at before zeros content new bytes place at size h =
     let tail =
     ap (drop (place + length bytes)) (sym (append_assoc before zeros content))
-    ∙ drop_at _ content (place + length bytes) (omega (arith, length-append before zeros)) in
+    ∙ drop_at _ content (place + length bytes) (omega lengths) in
     cc (h, take_at before (zeros ++ content) place (sym at), tail)
 
 -- so many bytes of a number are as many
@@ -167,15 +167,7 @@ pub framed_read : (width place : ℕ) (read : List ℕ × List ℕ) (old a b new
     → (rest ≡ (framed width read).1) × (new ≡ old ++ (framed width read).0)
 framed_read width place read old a b new rest few at zeros h put =
     let size : length b - (place + width) ≡ length read.0 =
-    omega (
-      arith,
-      at,
-      ap length h.1,
-      length-append a read.0,
-      ap length zeros,
-      length-append old (replicate width 0),
-      length-replicate width zero,
-    ) in
+    omega (lengths, at, ap length h.1, ap length zeros, length-replicate width zero) in
     (h.0, kept_put width place _ old a b read.0 new few at zeros h.1 (rw size at put))
 
 -- Properties that are read into a buffer after room for their mask are read with their mask in front, once this is written there.
@@ -210,13 +202,13 @@ pub value_read : {K : Type 0} (view : K → List ℕ) (room : ℕ) (text old mid
     → Reads view (read_after (read_lists room) o next) mid new r → Reads view (read_value room text) old new r
 value_read view room text old mid new next o r some is pushed at h =
     rw (value_at room text some, is)
-    (then_read view (get_or text 0 0 ∷ [], drop 1 text) (read_after (read_lists room) o) 0 old mid new _ next r (refl, pushed) at h)
+    (then_read view (get_or text 0 0 ∷ [], drop 1 text) (read_after (read_lists room) o) 0 old new r (refl, pushed) at h)
 
 -- Where no room for nesting is left, no list is read.
-pub lists_none : (room : ℕ) (keyed : Bool) (text : List ℕ) → room ≡ 0 → read_lists room keyed text ≡ ([], text)
+pub lists_none : {room : ℕ} (keyed : Bool) {text : List ℕ} → room ≡ 0 → read_lists room keyed text ≡ ([], text)
 unfolding read_lists
-lists_none zero keyed text h = refl
-lists_none (suc room) keyed text h = absurd (omega arith)
+lists_none {room = zero} keyed h = refl
+lists_none {room = suc room} keyed h = absurd (omega arith)
 
 -- Where there is room for nesting, a list in brackets is read, with its length in four bytes in front.
 pub lists_some : (room : ℕ) (keyed : Bool) (text : List ℕ) → 0 < room
@@ -241,16 +233,16 @@ constant_read slot form constant rest old new is there h =
     subst P (sym is) (λ has. (refl, cc (h, constant_put (form_of form) constant.now has))) there
 
 -- A kept field is read as its form is, after the space in front of it.
-pub kept_is : (slot : Slot) (form : Form) (text next : List ℕ) → slot ≡ slots.Kept form
+pub kept_is : {slot : Slot} (form : Form) (text : List ℕ) {next : List ℕ} → slot ≡ slots.Kept form
     → next ≡ drop 1 text → read_slot (slot_of slot) text ≡ read_form (form_of form) next
 unfolding read_slot
-kept_is slot form text next is at = rw (is, at)
+kept_is form text is at = rw (is, at)
 
 -- No fields are read where there are no more.
-pub slots_none : (shapes : List Slot) (text : List ℕ) → length shapes < 1 → read_slots (slots_of shapes) text ≡ ([], text)
+pub slots_none : (shapes : List Slot) {text : List ℕ} → length shapes < 1 → read_slots (slots_of shapes) text ≡ ([], text)
 unfolding read_slots
-slots_none [] text h = refl
-slots_none (shape ∷ shapes) text h = absurd (omega arith)
+slots_none [] h = refl
+slots_none (shape ∷ shapes) h = absurd (omega arith)
 
 -- Where fields are left, the first one is read, and then the others.
 pub slots_some : (shapes : List Slot) (none : Slot) (text : List ℕ) → 1 ≤ length shapes
@@ -270,11 +262,11 @@ bit_next (suc n) below some h =
     omega (arith, two, is)
 
 -- No properties are read where there are no more.
-pub set_none : (shapes : List (ℕ × Form)) (text old : List ℕ) → length shapes < 1
+pub set_none : (shapes : List (ℕ × Form)) {text old : List ℕ} → length shapes < 1
     → (let all = read_set (map property_of shapes) text in (0 ≡ all.0) × (text ≡ all.1.1) × (old ≡ old ++ all.1.0))
 unfolding read_set
-set_none [] text old h = (refl, refl, sym (append-nil old))
-set_none (shape ∷ shapes) text old h = absurd (omega arith)
+set_none [] {old = old} h = (refl, refl, sym (append-nil old))
+set_none (shape ∷ shapes) h = absurd (omega arith)
 
 set_at : (shapes : List (ℕ × Form)) (none : ℕ × Form) (text next name : List ℕ)
     → (let shape = get_or shapes 0 none in

@@ -1,25 +1,21 @@
 -- The words of a line are read back as the bytes that they stand for: numbers, hex, strings and flags.
-use Rattle.std.proofs.Common.{◌≡◌, ◌⊎◌, ℕ, zero, suc, ◌+◌, ◌-◌, ◌*◌, ◌/◌, ◌%◌, ◌^◌, ◌<◌, ◌≤◌, List, [], ◌∷◌, ◌++◌, length, get_or, drop, take, Bool, true}
-use Rattle.std.proofs.Common.{false, cond, refl, ap, ap₂, subst, ◌∙◌, append_assoc, arith, ltb, inl, inr}
-use Rattle.std.specs.Prelude.{nat_lt, ◌==◌, pos, negsuc}
-use Rattle.std.specs.List.{flat_map}
-use Rattle.std.specs.Fmt.{decimal, signed_decimal}
-use Rattle.std.specs.Int.{Width, w8, cast_signed}
+use Rattle.amqp_lines.proofs
+use proofs.Names.{◌≡◌, ◌⊎◌, ℕ, zero, suc, ◌+◌, ◌-◌, ◌*◌, ◌/◌, ◌%◌, ◌^◌, ◌<◌, ◌≤◌, List, [], ◌∷◌, ◌++◌, length, get_or, drop, take, Bool, true, false, cond}
+use proofs.Names.{refl, ap, subst, ◌∙◌, append_assoc, arith, inl, inr, ◌==◌, pos, negsuc, flat_map, decimal, signed_decimal, cast_signed, eq-eqb, drop_at}
+use proofs.Names.{take_at, IsBytes, NumberWidth, bytes1, bytes2, bytes4, bytes8, width_of, byte_count, number_limit, number_bytes, SpellsNumber}
+use proofs.Names.{SpellsShortString, SpellsLongString, IsBytes-drop, hex_digit, hex_byte, hex, is_plain, escaped, quoted, sign, signs, Reader, followed}
+use proofs.Names.{first_is, is_digit, read_digits, read_bits, last_bytes, read_number, read_signs, is_hex, nibble, read_hex, ends_at, listed, inside, or_comma}
+use proofs.Names.{read_escaped, framed, read_string, numbers, lengths}
+use Rattle.std.proofs.Common.{ltb}
+use Rattle.std.specs.Int.{Width, w8}
 use mir.Val.{bits, hbits, sel}
-use Rattle.std.proofs.lemmas.Bool.{eq-eqb, ltb-false}
-use Rattle.std.proofs.lemmas.Bool.Decides.{nat_tests}
+use Rattle.std.proofs.lemmas.Bool.{ltb-false}
 use Rattle.std.proofs.lemmas.Fmt.{decimal_by_steps}
-use Rattle.std.proofs.lemmas.List.{length-append, drop_at, take_at}
-use Rattle.amqp_types.specs.Judging.{IsBytes}
-use Rattle.amqp_types.specs.Numbers.{NumberWidth, bytes1, bytes2, bytes4, bytes8, width_of, byte_count, number_limit, number_bytes, SpellsNumber}
 use Rattle.amqp_types.specs.Signed.{SpellsSigned}
-use Rattle.amqp_types.specs.Strings.{SpellsShortString, SpellsLongString}
 use Rattle.amqp_types.specs.Flags.{bit_of, flags_byte}
-use Rattle.amqp_types.proofs.Bytes.{IsBytes-drop, IsBytes-take}
+use Rattle.amqp_types.proofs.Bytes.{IsBytes-take}
 use Rattle.amqp_laws.proofs.Deciding.{or_left}
-use Rattle.amqp_lines.specs.Words.{hex_digit, hex_byte, hex, is_plain, escaped, quoted, sign, signs}
-use Rattle.amqp_lines.specs.Reading.{Reader, followed, first_is, is_digit, read_digits, below_zero, read_bits, last_bytes, read_number, read_signs, is_hex}
-use Rattle.amqp_lines.specs.Reading.{nibble, read_hex, ends_at, listed, inside, or_comma, read_escaped, framed, read_string}
+use Rattle.amqp_lines.specs.Reading.{below_zero}
 
 -- what does not go on with a digit
 abbrev pub Ends : List ℕ → Type 0
@@ -34,7 +30,7 @@ IsReadAs {A} read Spells text = (bytes rest : List ℕ) (x : A) → IsBytes byte
 
 digit_is : (d : ℕ) → d < 10 → is_digit (48 + d) ≡ true
 unfolding is_digit
-digit_is d h = grind (arith, nat_tests)
+digit_is d h = grind numbers
 
 next_digit : (m d n : ℕ) (rest : List ℕ) → d < 10 → n ≡ 10 * m + d → n < 2 ^ 64 → read_digits m ((48 + d) ∷ rest) ≡ read_digits n rest
 unfolding read_digits
@@ -66,7 +62,7 @@ no_sign = decimal_by_steps (λ n ds. (rest : List ℕ) → 48 ≤ get_or (ds ++ 
 bits_plain : (text : List ℕ) → 48 ≤ get_or text 0 0 → read_bits text ≡ read_digits 0 text
 unfolding read_bits
 bits_plain [] h = absurd (omega arith)
-bits_plain (c ∷ cs) h = let off : (c == 45) ≡ false = grind (arith, nat_tests) in rw off
+bits_plain (c ∷ cs) h = let off : (c == 45) ≡ false = grind numbers in rw off
 
 -- A number below 2^64 that is printed is read back as it was, where no digit follows.
 pub bits_back : (n : ℕ) (rest : List ℕ) → n < 2 ^ 64 → Ends rest → read_bits (decimal n ++ rest) ≡ (n, rest)
@@ -123,32 +119,30 @@ signed_bits width n rest h e = signed_at (width_of width) n rest h (omega arith)
 -- their last bytes are those of the number
 low_bytes : (width : NumberWidth) (m n : ℕ) → m + number_limit width ≡ 2 ^ 64 + n → number_bytes width m ≡ number_bytes width n
 low_bytes bytes1 m n h = ap (λ a. a ∷ []) (omega arith)
-low_bytes bytes2 m n h = ap₂ (λ a b. a ∷ b ∷ []) (omega arith) (omega arith)
-low_bytes bytes4 m n h =
-    ap₂ (λ (a : ℕ) (r : List ℕ). a ∷ r) (omega arith)
-    (ap₂ (λ (a : ℕ) (r : List ℕ). a ∷ r) (omega arith) (ap₂ (λ a b. a ∷ b ∷ []) (omega arith) (omega arith)))
+low_bytes bytes2 m n h = grind arith
+low_bytes bytes4 m n h = grind arith
 low_bytes bytes8 m n h = ap (number_bytes bytes8) (omega arith)
 
-wide_bytes : (width : NumberWidth) (m n : ℕ) → (m ≡ n) ⊎ (m + number_limit width ≡ 2 ^ 64 + n) → number_bytes width m ≡ number_bytes width n
-wide_bytes width m n (inl is) = ap (number_bytes width) is
-wide_bytes width m n (inr is) = low_bytes width m n is
+wide_bytes : (width : NumberWidth) {m n : ℕ} → (m ≡ n) ⊎ (m + number_limit width ≡ 2 ^ 64 + n) → number_bytes width m ≡ number_bytes width n
+wide_bytes width (inl is) = ap (number_bytes width) is
+wide_bytes width {m = m} {n = n} (inr is) = low_bytes width m n is
 
 -- A signed number that is printed is read back as its canonical bytes.
 pub signed_back : (width : NumberWidth) → IsReadAs (read_number (byte_count width)) (SpellsSigned width) signed_decimal
 signed_back width bytes rest n fit h e =
     let s = signed_bits width h.bits rest h.spelled.fits e in
-    rw (h.means, h.spelled.bytes_are, ← wide_bytes width s.wide h.bits s.same)
+    rw (h.means, h.spelled.bytes_are, ← wide_bytes width s.same)
     (number_read width (signed_decimal (cast_signed (width_of width) h.bits) ++ rest) rest s.wide s.read)
 
 -- ---- flags
 
 -- The signs of flags are read back as their byte.
-pub signs_back : (flags : List Bool) (rest : List ℕ) → flags_byte flags < 256 → read_signs (length flags) (signs flags ++ rest) ≡ (flags_byte flags, rest)
+pub signs_back : (flags : List Bool) {rest : List ℕ} → flags_byte flags < 256 → read_signs (length flags) (signs flags ++ rest) ≡ (flags_byte flags, rest)
 unfolding read_signs signs
-signs_back [] rest h = refl
-signs_back (flag ∷ flags) rest h =
+signs_back [] h = refl
+signs_back (flag ∷ flags) {rest = rest} h =
     let few : (bit_of flag + 2 * flags_byte flags) % 256 ≡ flags_byte (flag ∷ flags) = omega arith in
-    rw (signs_back flags rest (omega arith), sign_is flag, few)
+    rw (signs_back flags (omega arith), sign_is flag, few)
   where
     sign_is : (flag : Bool) → (sign flag == 43) ≡ flag
     sign_is true = refl
@@ -159,21 +153,9 @@ signs_back (flag ∷ flags) rest h =
 IsHexOf : ℕ → ℕ → Type 0
 IsHexOf c n = (is_hex c ≡ true) × (nibble c ≡ n)
 
-low_digit : (n : ℕ) → n < 10 → IsHexOf (48 + n) n
-unfolding IsHexOf is_hex is_digit nibble
-low_digit n h = (grind (arith, nat_tests), grind (arith, nat_tests))
-
-high_digit : (n : ℕ) → 10 ≤ n → n < 16 → IsHexOf (87 + n) n
-unfolding IsHexOf is_hex is_digit nibble
-high_digit n low h = (grind (arith, nat_tests), grind (arith, nat_tests))
-
 hex_back_digit : (n : ℕ) → n < 16 → IsHexOf (hex_digit n) n
-unfolding hex_digit
-hex_back_digit n h = by_case (nat_lt n 10) refl
-  where
-    by_case : (low : Bool) → nat_lt n 10 ≡ low → IsHexOf (cond low (48 + n) (87 + n)) n
-    by_case true e = low_digit n (grind (arith, nat_tests))
-    by_case false e = high_digit n (grind (arith, nat_tests)) h
+unfolding IsHexOf hex_digit is_hex is_digit nibble
+hex_back_digit n h = (grind numbers, grind numbers)
 
 -- what does not begin with a digit is left
 hex_end : (rest : List ℕ) → Ends rest → read_hex rest ≡ ([], rest)
@@ -193,22 +175,22 @@ hex_back (byte ∷ bytes) rest fits e =
 -- ---- things up to a closing character
 
 -- A list ends at its closing character, and the rest follows.
-pub listed_end : (item : Reader) (close fuel : ℕ) (rest : List ℕ) → listed item close fuel (close ∷ rest) ≡ ([], rest)
+pub listed_end : (item : Reader) (close fuel : ℕ) {rest : List ℕ} → listed item close fuel (close ∷ rest) ≡ ([], rest)
 unfolding listed
-listed_end item close zero rest = refl
-listed_end item close (suc fuel) rest = rw (eq-eqb close close refl)
+listed_end item close zero = refl
+listed_end item close (suc fuel) = rw (eq-eqb close close refl)
 
 -- Before the closing character one thing of a list is read, and then the rest.
-pub listed_item : (item : Reader) (close fuel : ℕ) (text bytes rest : List ℕ) → ends_at close text ≡ false
+pub listed_item : (item : Reader) (close fuel : ℕ) (text : List ℕ) {bytes rest : List ℕ} → ends_at close text ≡ false
     → item text ≡ (bytes, rest) → listed item close (suc fuel) text ≡ followed (bytes, rest) (listed item close fuel)
 unfolding listed
-listed_item item close fuel text bytes rest off is = rw (off, is)
+listed_item item close fuel text off is = rw (off, is)
 
 -- A comma in a list is passed, and the rest is read.
-pub listed_comma : (item : Reader) (close fuel : ℕ) (rest bytes end : List ℕ) → (44 == close) ≡ false
+pub listed_comma : (item : Reader) (close fuel : ℕ) (rest : List ℕ) {bytes end : List ℕ} → (44 == close) ≡ false
     → listed (or_comma item) close fuel rest ≡ (bytes, end) → listed (or_comma item) close (suc fuel) (44 ∷ rest) ≡ (bytes, end)
 unfolding or_comma
-listed_comma item close fuel rest bytes end apart h = rw (listed_item (or_comma item) close fuel (44 ∷ rest) [] rest apart refl, h)
+listed_comma item close fuel rest apart h = rw (listed_item (or_comma item) close fuel (44 ∷ rest) apart refl, h)
 
 -- the first character neither closes nor is a comma
 pub record Begins (close comma : ℕ) (text : List ℕ) : Type 0 where
@@ -217,9 +199,9 @@ pub record Begins (close comma : ℕ) (text : List ℕ) : Type 0 where
   pub no_comma : first_is comma text ≡ false
 
 -- A text that begins neither with the closing character nor with a comma does so with more after it too.
-pub begins_more : (close comma : ℕ) (text rest : List ℕ) → Begins close comma text → Begins close comma (text ++ rest)
-begins_more close comma [] rest h = absurd (let some = h.some in omega arith)
-begins_more close comma (c ∷ cs) rest h = record { some = omega arith; no_close = h.no_close; no_comma = h.no_comma }
+pub begins_more : {close comma : ℕ} {text : List ℕ} (rest : List ℕ) → Begins close comma text → Begins close comma (text ++ rest)
+begins_more {text = []} rest h = absurd (let some = h.some in omega arith)
+begins_more {text = c ∷ cs} rest h = record { some = omega arith; no_close = h.no_close; no_comma = h.no_comma }
 
 -- ---- strings
 
@@ -238,11 +220,8 @@ record IsEscape (text : List ℕ) (b : ℕ) : Type 0 where
 plain_escape : (b : ℕ) → is_plain b ≡ true → IsEscape (b ∷ []) b
 unfolding is_plain read_escaped
 plain_escape b h =
-    let off : (b == 92) ≡ false = grind (arith, nat_tests) in
-    record {
-      begins = record { some = omega arith; no_close = grind (arith, nat_tests); no_comma = grind (arith, nat_tests) };
-      read = λ rest. rw off;
-    }
+    let off : (b == 92) ≡ false = grind numbers in
+    record { begins = record { some = omega arith; no_close = grind numbers; no_comma = grind numbers }; read = λ rest. rw off }
 
 escape_back : (b : ℕ) → b < 256 → IsEscape (escaped b) b
 unfolding escaped hex_byte
@@ -257,16 +236,16 @@ text_count [] fits = omega arith
 text_count (b ∷ bs) fits =
     let one = escape_back b (fits 0) in
     let some = one.begins.some in
-    omega (arith, length-append (escaped b) (flat_map escaped bs), text_count bs (λ i. fits (suc i)))
+    omega (lengths, text_count bs (λ i. fits (suc i)))
 
 string_on : (content : List ℕ) (fuel : ℕ) (rest : List ℕ) → IsBytes content → length content ≤ fuel
     → listed read_escaped 34 fuel (flat_map escaped content ++ (34 ∷ rest)) ≡ (content, rest)
-string_on [] fuel rest fits few = listed_end read_escaped 34 fuel rest
+string_on [] fuel rest fits few = listed_end read_escaped 34 fuel
 string_on (b ∷ bs) zero rest fits few = absurd (omega arith)
 string_on (b ∷ bs) (suc fuel) rest fits few =
     let one = escape_back b (fits 0) in
     let tail = flat_map escaped bs ++ (34 ∷ rest) in
-    let read = listed_item read_escaped 34 fuel _ _ tail (begins_more 34 34 _ tail one.begins).no_close (one.read tail) in
+    let read = listed_item read_escaped 34 fuel _ (begins_more tail one.begins).no_close (one.read tail) in
     rw (append_assoc (escaped b) (flat_map escaped bs) (34 ∷ rest), read, string_on bs fuel rest (λ i. fits (suc i)) (omega arith))
 
 string_inside : (content rest : List ℕ) → IsBytes content → inside read_escaped 34 (quoted content ++ rest) ≡ (content, rest)
@@ -274,34 +253,34 @@ unfolding inside quoted
 string_inside content rest fits =
     let text = flat_map escaped content in
     let count : length content ≤ length (34 ∷ ((text ++ 34 ∷ []) ++ rest)) =
-    omega (arith, text_count content fits, length-append (text ++ 34 ∷ []) rest, length-append text (34 ∷ [])) in
+    omega (lengths, text_count content fits) in
     cc (append_assoc text (34 ∷ []) rest, string_on content (length (34 ∷ ((text ++ 34 ∷ []) ++ rest))) rest fits count)
 
 -- what stands after other bytes
-pub bytes_behind : (front behind bytes : List ℕ) → bytes ≡ front ++ behind → IsBytes bytes → IsBytes behind
-bytes_behind front behind bytes is fits =
+pub bytes_behind : (front behind : List ℕ) {bytes : List ℕ} → bytes ≡ front ++ behind → IsBytes bytes → IsBytes behind
+bytes_behind front behind {bytes = bytes} is fits =
     let P : List ℕ → Type 0 = λ bs. IsBytes bs in
     subst P (ap (drop _) is ∙ drop_at front behind _ refl) (IsBytes-drop _ bytes fits)
 
 -- The bytes in front of a byte list are a byte list.
-pub bytes_front : (front behind bytes : List ℕ) → bytes ≡ front ++ behind → IsBytes bytes → IsBytes front
-bytes_front front behind bytes is fits =
+pub bytes_front : (front behind : List ℕ) {bytes : List ℕ} → bytes ≡ front ++ behind → IsBytes bytes → IsBytes front
+bytes_front front behind {bytes = bytes} is fits =
     let P : List ℕ → Type 0 = λ bs. IsBytes bs in
     subst P (ap (take _) is ∙ take_at front behind _ refl) (IsBytes-take _ bytes fits)
 
 -- The bytes of a long string are a byte list.
-pub long_content : (bytes content : List ℕ) → SpellsLongString bytes content → IsBytes bytes → IsBytes content
-long_content bytes content h fits = bytes_behind (number_bytes bytes4 (length content)) content bytes h.bytes_are fits
+pub long_content : {bytes content : List ℕ} → SpellsLongString bytes content → IsBytes bytes → IsBytes content
+long_content {content = content} h fits = bytes_behind (number_bytes bytes4 (length content)) content h.bytes_are fits
 
 -- The quoted text of a long string is read back as its canonical bytes.
 pub long_string_back : IsReadAs (read_string 4) SpellsLongString quoted
 unfolding read_string
-long_string_back bytes rest content fits h e = rw h.bytes_are (ap (framed 4) (string_inside content rest (long_content bytes content h fits)))
+long_string_back bytes rest content fits h e = rw h.bytes_are (ap (framed 4) (string_inside content rest (long_content h fits)))
 
 -- The quoted text of a short string is read back as its canonical bytes.
 pub short_string_back : IsReadAs (read_string 1) SpellsShortString quoted
 unfolding read_string
 short_string_back bytes rest content fits h e =
     let few = h.fits in
-    rw h.bytes_are (ap (framed 1) (string_inside content rest (bytes_behind (length content ∷ []) content bytes h.bytes_are fits))
+    rw h.bytes_are (ap (framed 1) (string_inside content rest (bytes_behind (length content ∷ []) content h.bytes_are fits))
     ∙ ap (λ n. (n ∷ content, rest)) (omega arith))

@@ -1,34 +1,25 @@
 -- What calls write of the canonical bytes of values, step by step.
-use Rattle.std.proofs.Common.{◌≡◌, ℕ, zero, suc, ◌+◌, ◌-◌, ◌<◌, List, [], ◌∷◌, ◌++◌, length, get_or, drop, map, Some, None, Result, Ok, Err, refl, sym, ap, ◌∙◌}
-use Rattle.std.proofs.Common.{append_assoc, append-nil, arith, inl}
-use Rattle.std.specs.Prelude.{codes}
-use Rattle.std.specs.Fmt.{decimal, signed_decimal}
-use Rattle.std.proofs.lemmas.List.{length-append, take_at, drop_at}
-use Rattle.amqp_types.specs.Levels.{strict}
-use Rattle.amqp_types.specs.Judging.{Judged, Judge, IsExact, took, ◌>>=◌}
+use Rattle.amqp_lines.proofs
+use proofs.Names.{◌≡◌, ℕ, zero, suc, ◌+◌, ◌-◌, ◌<◌, List, [], ◌∷◌, ◌++◌, length, get_or, drop, map, Some, None, Result, Ok, Err, refl, sym, ap, ◌∙◌}
+use proofs.Names.{append_assoc, append-nil, arith, inl, codes, decimal, signed_decimal, take_at, drop_at, strict, Judged, took, bytes1, SpellsShortString}
+use proofs.Names.{SpellsLongString, FieldValue, Entry, short_short_int, short_short_uint, long_string, byte_array, boolean_value, signed_value, unsigned_value}
+use proofs.Names.{decimal_value, bytes_value, array_value, table_value, void_value, SpellsEach, SpellsEntry, SpellsArray, SpellsTable, SpellsBehind}
+use proofs.Names.{SpellsTagged, SpellsValue, tag_at, tag_of, FieldTag, NoMemory, number_exact, long_string_exact, value_took, entries_of-pairs}
+use proofs.Names.{pairs-entries_of, value_some, IsRead, hex, quoted, parted, tag_text, truth_text, content_text, value_text, table_text, WritesText, array_text}
+use proofs.Names.{entry_text, lengths}
+use Rattle.amqp_types.specs.Judging.{Judge, IsExact, ◌>>=◌}
 use Rattle.amqp_types.specs.Sequences.{judge_map}
-use Rattle.amqp_types.specs.Numbers.{bytes1}
-use Rattle.amqp_types.specs.Strings.{judge_long_string, SpellsShortString, SpellsLongString}
-use Rattle.amqp_types.specs.Values.{FieldValue, Entry, short_short_int, short_short_uint, long_string, byte_array, boolean_value, signed_value, unsigned_value}
-use Rattle.amqp_types.specs.Values.{decimal_value, bytes_value, array_value, table_value, void_value}
-use Rattle.amqp_types.specs.ValueSpelling.{SpellsEach, SpellsEntry, SpellsArray, SpellsTable, SpellsBehind, SpellsTagged, SpellsValue}
-use Rattle.amqp_types.specs.Tags.{tag_at, tag_of}
-use Rattle.amqp_types.specs.declared.tag.FieldTag.{FieldTag}
-use Rattle.amqp_types.specs.declared.errors.NoMemory.{NoMemory}
+use Rattle.amqp_types.specs.Strings.{judge_long_string}
 use Rattle.amqp_types.proofs.Booleans.{boolean_laws}
-use Rattle.amqp_types.proofs.Numbers.{number_exact}
-use Rattle.amqp_types.proofs.Texts.{signed_exact, long_string_exact}
+use Rattle.amqp_types.proofs.Texts.{signed_exact}
 use Rattle.amqp_types.proofs.Sequences.{map_taken}
-use Rattle.amqp_types.proofs.Took.{value_took, count_took}
-use Rattle.amqp_laws.proofs.Conversions.{entries_of-pairs, pairs-entries_of}
+use Rattle.amqp_types.proofs.Took.{count_took}
 use Rattle.amqp_laws.proofs.Filled.{HasBytes}
-use Rattle.amqp_laws.proofs.Exactly.{value_some, decimal_exact}
+use Rattle.amqp_laws.proofs.Exactly.{decimal_exact}
 use Rattle.amqp_laws.proofs.Tags.{tag_read}
-use Rattle.amqp_canonical.specs.Writes.{IsRead, key_in, after_key}
-use Rattle.amqp_lines.specs.Words.{hex, quoted, parted}
-use Rattle.amqp_lines.specs.Values.{tag_text, truth_text, content_text, value_text, table_text}
-use Rattle.amqp_lines.specs.Rendering.{Renders, WritesText, WritesEach, WritesAfter, array_text, comma_before, decimal_text, entry_text}
-use Rattle.amqp_lines.proofs.ReadBack.{values_are, entries_are}
+use Rattle.amqp_canonical.specs.Writes.{key_in, after_key}
+use Rattle.amqp_lines.specs.Rendering.{Renders, WritesEach, WritesAfter, comma_before, decimal_text}
+use proofs.ReadBack.{values_are, entries_are}
 
 -- where nothing was read, nothing needs to be rendered
 pub unrendered : {A : Type 0} (j : Judged A) (f : A × ℕ → Judged (List ℕ)) (old new : List ℕ) (r : Result ℕ NoMemory)
@@ -68,12 +59,8 @@ module _ (room : ℕ) (bytes rest old new : List ℕ) (n : ℕ) where
   after_tag (decimal_value scale k) h s = in_place decimal_text decimal_exact (scale, k) h s
   after_tag (bytes_value long_string content) h s = in_place quoted long_string_exact content h s
   after_tag (bytes_value byte_array content) h s = in_place hex long_string_exact content h s
-  after_tag (array_value vs) h s =
-      let w = h s.0 bytes rest _ refl s.1 in
-      (w.0, cc (w.1, values_are vs))
-  after_tag (table_value es) h s =
-      let w = h s.0 bytes rest _ refl s.1 in
-      (w.0, cc (w.1, entries_of-pairs es))
+  after_tag (array_value vs) h s = let w = h s.0 bytes rest _ refl s.1 in (w.0, cc (w.1, values_are vs))
+  after_tag (table_value es) h s = let w = h s.0 bytes rest _ refl s.1 in (w.0, cc (w.1, entries_of-pairs es))
   after_tag void_value h s = (cc (h.0, s), h.1)
 
 -- ---- a tag and its value
@@ -84,11 +71,11 @@ none_nested bytes (array_value vs) h = absurd (omega (arith, h.0))
 none_nested bytes (table_value es) h = absurd (omega (arith, h.0))
 none_nested bytes v h = h
 
-tagged : (room : ℕ) (bytes : List ℕ) (v : FieldValue) → SpellsValue strict room bytes v
+tagged : (room : ℕ) {bytes : List ℕ} (v : FieldValue) → SpellsValue strict room bytes v
     → SpellsTagged strict (SpellsBehind strict room (SpellsValue strict (room - 1))) bytes v
 unfolding SpellsValue
-tagged zero bytes v h = record { byte = h.byte; behind = h.behind; bytes_are = h.bytes_are; tag_is = h.tag_is; value_is = none_nested h.behind v h.value_is }
-tagged (suc room) bytes v h = let same : suc room - 1 ≡ room = omega arith in rw same h
+tagged zero v h = record { byte = h.byte; behind = h.behind; bytes_are = h.bytes_are; tag_is = h.tag_is; value_is = none_nested h.behind v h.value_is }
+tagged (suc room) v h = let same : suc room - 1 ≡ room = omega arith in rw same h
 
 -- the tag that is read of the bytes of a value in front
 record IsTagged (room : ℕ) (i rest : List ℕ) (bytes : List ℕ) (v : FieldValue) : Type 0 where
@@ -98,9 +85,9 @@ record IsTagged (room : ℕ) (i rest : List ℕ) (bytes : List ℕ) (v : FieldVa
   tag_is : tag_at (get_or i 0 0) ≡ Some (tag_of v)
   value_is : SpellsBehind strict room (SpellsValue strict (room - 1)) behind v
 
-tag_in : (room : ℕ) (i bytes rest : List ℕ) (v : FieldValue) → i ≡ bytes ++ rest → SpellsValue strict room bytes v → IsTagged room i rest bytes v
-tag_in room i bytes rest v is h =
-    let t = tagged room bytes v h in
+tag_in : {room : ℕ} {i bytes rest : List ℕ} (v : FieldValue) → i ≡ bytes ++ rest → SpellsValue strict room bytes v → IsTagged room i rest bytes v
+tag_in {room = room} {rest = rest} v is h =
+    let t = tagged room v h in
     let at = is ∙ ap (λ bs. bs ++ rest) t.bytes_are in
     record {
       behind = t.behind;
@@ -112,18 +99,18 @@ tag_in room i bytes rest v is h =
 
 -- Where no byte is left, nothing is said of what is written for a value.
 pub value_none : (room n : ℕ) (i old new : List ℕ) → length i < 1 → WritesText (SpellsValue strict room) value_text i old new (Ok n)
-value_none room n i old new none = λ bytes rest v is h. absurd (omega (arith, none, value_some strict room bytes v h, ap length is, length-append bytes rest))
+value_none room n i old new none = λ bytes rest v is h. absurd (omega (lengths, none, value_some strict room bytes v h, ap length is))
 
 -- Where the first byte is no tag, nothing is said of what is written for a value.
 pub value_unknown : (room n : ℕ) (i old new : List ℕ) → tag_at (get_or i 0 0) ≡ None → WritesText (SpellsValue strict room) value_text i old new (Ok n)
-value_unknown room n i old new none = λ bytes rest v is h. absurd (let e = sym none ∙ (tag_in room i bytes rest v is h).tag_is in cc)
+value_unknown room n i old new none = λ bytes rest v is h. absurd (let e = sym none ∙ (tag_in v is h).tag_is in cc)
 
 -- The text of a tag and then that of what stands after it are the text of a value, which takes one byte more.
 pub value_rendered : (room used : ℕ) (i : List ℕ) (t : FieldTag) (old mid new : List ℕ) → tag_at (get_or i 0 0) ≡ Some t → mid ≡ old ++ tag_text t
     → WritesAfter room t (drop 1 i) mid new (Ok used) → WritesText (SpellsValue strict room) value_text i old new (Ok (1 + used))
 unfolding value_text
 value_rendered room used i t old mid new is e w = λ bytes rest v at h.
-    let g = tag_in room i bytes rest v at h in
+    let g = tag_in v at h in
     let same : t ≡ tag_of v = let x = sym is ∙ g.tag_is in cc in
     let one = after_tag room g.behind rest mid new used v (rw (same, g.rest_is) at w) g.value_is in
     (omega (arith, one.0, g.count), rw (one.1, e, same) (append_assoc old _ _))
@@ -176,8 +163,8 @@ table_unwritten room n i old new none = λ bytes rest es is h. absurd (no_conten
 
 -- ---- a short string, and a key and its value
 
-key_is : (i bytes rest text : List ℕ) → i ≡ bytes ++ rest → SpellsShortString bytes text → (key_in i ≡ text) × (after_key i ≡ rest)
-key_is i bytes rest text is h =
+key_is : {i bytes rest text : List ℕ} → i ≡ bytes ++ rest → SpellsShortString bytes text → (key_in i ≡ text) × (after_key i ≡ rest)
+key_is {i = i} {rest = rest} {text = text} is h =
     let at : i ≡ length text ∷ (text ++ rest) = cc (is, h.bytes_are) in
     (ap key_in at ∙ take_at text rest _ refl, ap after_key at ∙ drop_at text rest _ refl)
 
@@ -185,7 +172,7 @@ key_is i bytes rest text is h =
 pub short_written : (i text old new : List ℕ) → text ≡ key_in i → new ≡ old ++ quoted text
     → WritesText SpellsShortString quoted i old new (Ok (1 + length text))
 short_written i text old new is e = λ bytes rest x at h.
-    let same = is ∙ (key_is i bytes rest x at h).0 in
+    let same = is ∙ (key_is at h).0 in
     (omega (arith, ap length same, ap length h.bytes_are), rw (e, same))
 
 -- The quoted key, an equals sign and the text of the value are the text of an entry, which takes both.
@@ -194,10 +181,10 @@ pub entry_written : (room : ℕ) (i key after : List ℕ) (used : ℕ) (old a b 
     → WritesText (SpellsEntry (SpellsValue strict room)) entry_text i old new (Ok (1 + length key + used))
 unfolding entry_text
 entry_written room i key after used old a b new is behind first second value = λ bytes rest e at h.
-    let k = key_is i h.front _ h.one (cc (at, h.bytes_are, append_assoc h.front h.behind rest)) h.first_is in
+    let k = key_is (cc (at, h.bytes_are, append_assoc h.front h.behind rest)) h.first_is in
     let same = is ∙ k.0 in
     let w = value h.behind rest h.two (behind ∙ k.1) h.second_is in (
-      omega (arith, w.0, ap length same, ap length h.bytes_are, length-append h.front h.behind, ap length h.first_is.bytes_are),
+      omega (lengths, w.0, ap length same, ap length h.bytes_are, ap length h.first_is.bytes_are),
       rw (w.1, second, first, same) (simp append_assoc) ∙ ap (λ x. old ++ entry_text x) (sym h.joined),
     )
 
@@ -219,7 +206,7 @@ module _ {A : Type 0} (Spells : List ℕ → A → Type 0) (text : A → List �
   unfolding parted
   comma_parts [] y [] h = sym (append-nil _)
   comma_parts (byte ∷ rest) y [] h = absurd cc
-  comma_parts [] y (z ∷ zs) h = absurd (omega (arith, some h.0 z h.3, ap length h.2, length-append h.0 h.1))
+  comma_parts [] y (z ∷ zs) h = absurd (omega (lengths, some h.0 z h.3, ap length h.2))
   comma_parts (byte ∷ rest) y (z ∷ zs) h = refl
 
   -- With the text of one thing more, and a comma where more comes, what is written goes on with the others.
@@ -256,4 +243,4 @@ module _ {A : Type 0} (Spells : List ℕ → A → Type 0) (text : A → List �
     where
       on : (xs ys : List A) → SpellsEach Spells rest ys → now ++ parted (map text ys) ≡ old ++ parted (map text xs) → now ≡ old ++ parted (map text xs)
       on xs [] h joins = sym (append-nil now) ∙ joins
-      on xs (y ∷ ys) h joins = absurd (omega (arith, none, some h.0 y h.3, ap length h.2, length-append h.0 h.1))
+      on xs (y ∷ ys) h joins = absurd (omega (lengths, none, some h.0 y h.3, ap length h.2))

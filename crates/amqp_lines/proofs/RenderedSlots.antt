@@ -1,42 +1,23 @@
 -- What calls write of the canonical bytes of fields and properties, one after another.
-use Rattle.std.proofs.Common.{Bor, ◌≡◌, ℕ, ◌<◌, ◌≤◌, true, false, List, [], ◌∷◌, ◌++◌, length, get_or, drop, map, Result, Ok, Err, refl, sym, ap, ap₂, ◌∙◌}
-use Rattle.std.proofs.Common.{append_assoc, append-nil, arith}
-use Rattle.std.specs.Prelude.{codes}
-use Rattle.std.specs.Fmt.{decimal}
-use Rattle.std.proofs.lemmas.List.{length-append, take_at, drop_at}
-use Rattle.amqp_types.specs.Levels.{plain, strict}
-use Rattle.amqp_types.specs.Judging.{took}
-use Rattle.amqp_types.specs.Flags.{flag_at, SpellsFlags}
-use Rattle.amqp_types.specs.Numbers.{bytes2, number_bytes, judge_number}
-use Rattle.amqp_types.specs.Sequences.{SpellsMapped, SpellsBoth}
-use Rattle.amqp_types.specs.Slots.{Item, number_item, text_item, bytes_item, entries_item, Form as Meant, number_form, flags_form, short_string_form}
-use Rattle.amqp_types.specs.Slots.{long_string_form, table_form, Slot as Field, kept_slot, reserved_slot}
+use Rattle.amqp_lines.proofs
+use proofs.Names.{Bor, ◌≡◌, ℕ, ◌<◌, ◌≤◌, true, false, List, [], ◌∷◌, ◌++◌, length, get_or, drop, map, Result, Ok, Err, refl, sym, ap, ap₂, ◌∙◌, append_assoc}
+use proofs.Names.{append-nil, arith, codes, decimal, take_at, drop_at, plain, strict, took, flag_at, SpellsFlags, bytes2, number_bytes, judge_number}
+use proofs.Names.{SpellsMapped, SpellsBoth, Item, number_item, text_item, bytes_item, entries_item, number_form, flags_form, short_string_form}
+use proofs.Names.{long_string_form, table_form, kept_slot, reserved_slot, SpellsForm, SpellsSlot, SpellsSlots, Property, properties, first_item, gives_one}
+use proofs.Names.{give_one, SpellsOptional, SpellsSet, SpellsProperties, NoMemory, number_exact, long_string_exact, value_took, flags_of-map, forms_lawful}
+use proofs.Names.{form_gives, both_true, one_each, form_of, property_of, slot_of, slots_of, IsRead, quoted, signs, table_text, form_text, slots_text}
+use proofs.Names.{property_name, option_text, set_text, Says, WritesText, slot_text, lengths}
+use proofs.Names.slots
+use Rattle.amqp_types.specs.Slots.{Form as Meant, Slot as Field}
 use Rattle.amqp_types.specs.SlotBytes.{item_count}
 use Rattle.amqp_types.specs.SlotJudging.{judge_form}
-use Rattle.amqp_types.specs.SlotSpelling.{SpellsForm, SpellsSlot, SpellsSlots}
-use Rattle.amqp_types.specs.Properties.{Property, properties}
-use Rattle.amqp_types.specs.PropertyJudging.{first_item}
-use Rattle.amqp_types.specs.PropertyLaws.{gives_one, give_one}
-use Rattle.amqp_types.specs.PropertySpelling.{SpellsOptional, SpellsSet, SpellsProperties}
 use Rattle.amqp_types.specs.Tidiness.{used_by}
-use Rattle.amqp_types.specs.declared.errors.NoMemory.{NoMemory}
 use Rattle.amqp_types.proofs.FormLaws.{flags_exact}
-use Rattle.amqp_types.proofs.Numbers.{number_exact}
-use Rattle.amqp_types.proofs.Texts.{long_string_exact}
-use Rattle.amqp_types.proofs.Took.{value_took}
-use Rattle.amqp_laws.proofs.SlotForms.{flags_of-map, forms_lawful, form_gives}
-use Rattle.amqp_laws.proofs.SlotLaws.{both_true, form_is_plain}
-use Rattle.amqp_laws.proofs.PropertyLaws.{one_each}
+use Rattle.amqp_laws.proofs.SlotLaws.{form_is_plain}
 use Rattle.amqp_canonical.specs.declared.shapes.Form.{Form}
 use Rattle.amqp_canonical.specs.declared.shapes.Slot.{Slot}
-use Rattle.amqp_canonical.specs.declared.shapes.Slot.TheVariants as slots
-use Rattle.amqp_canonical.specs.Shapes.{form_of, property_of, slot_of, slots_of}
-use Rattle.amqp_canonical.specs.Writes.{IsRead}
-use Rattle.amqp_lines.specs.Words.{quoted, signs}
-use Rattle.amqp_lines.specs.Values.{table_text}
-use Rattle.amqp_lines.specs.Slots.{form_text, slots_text, property_name, option_text, set_text}
-use Rattle.amqp_lines.specs.Rendering.{Says, SpellsOnes, WritesText, WritesForm, slot_text}
-use Rattle.amqp_lines.proofs.Rendered.{exactly}
+use Rattle.amqp_lines.specs.Rendering.{SpellsOnes, WritesForm}
+use proofs.Rendered.{exactly}
 
 -- ---- one field
 
@@ -69,10 +50,10 @@ form_written long_string_form i old new r h =
 form_written table_form i old new r h = mapped _ (λ es. entries_item es ∷ []) table_text _ (λ es. refl) i old new r h
 
 -- A reserved field is written as no word, and takes what its form takes.
-pub reserved_written : (slot : Slot) (form : Form) (constant : Bor (List ℕ)) (i old : List ℕ) (n : ℕ)
+pub reserved_written : {slot : Slot} (form : Form) (constant : Bor (List ℕ)) (i old : List ℕ) (n : ℕ)
     → slot ≡ slots.Reserved form constant → (IsRead (judge_form (form_of form) i) → n ≡ used_by (judge_form (form_of form) i))
     → WritesText (SpellsSlot strict (slot_of slot)) (slot_text (slot_of slot)) i old old (Ok n)
-reserved_written slot form constant i old n is h =
+reserved_written form constant i old n is h =
     rw is (λ bytes rest items at s.
     let read = (forms_lawful _).exact.taken bytes rest s.dropped (form_is_plain strict _ bytes s.dropped s.spelled) in
     ((rw (at, read) at h) tt, sym (append-nil old)))
@@ -129,13 +110,13 @@ slots_said (shape ∷ shapes) other i next old mid new used r some w e h =
 -- ---- properties
 
 -- the first of the items of a form that gives one
-pub one_text : (form : Meant) (items : List Item) (p : Property) → p.form ≡ form → gives_one form ≡ true → length items ≡ item_count form
+pub one_text : {form : Meant} (items : List Item) (p : Property) → p.form ≡ form → gives_one form ≡ true → length items ≡ item_count form
     → option_text p (first_item items) ≡ codes " " ++ (property_name p.bit ++ (codes "=" ++ form_text p.form items))
 unfolding option_text
-one_text (flags_form count) items p is one h = absurd cc
-one_text (number_form width) (item ∷ []) p is one h = refl
-one_text form (item ∷ []) p is one h = refl
-one_text form items p is one h = absurd (omega arith)
+one_text {form = flags_form count} items p is one h = absurd cc
+one_text {form = number_form width} (item ∷ []) p is one h = refl
+one_text (item ∷ []) p is one h = refl
+one_text items p is one h = absurd (omega arith)
 
 -- Where no properties are left, nothing is written for them.
 pub no_options : (mask : ℕ) (shapes : List (ℕ × Form)) (i old : List ℕ) → length shapes < 1
@@ -178,18 +159,19 @@ option_said mask (shape ∷ shapes) other i next old a b new used r some on name
     let p = property_of shape in
     option_then mask p (map property_of shapes) i next old b new used r (λ one. rw on (λ bytes rest option is s.
     let said = form_written p.form i a b _ w bytes rest s.thing is s.spelled in
-    let text = ap (option_text p) s.made ∙ one_text p.form s.thing p refl one (form_count p.form bytes s.thing s.spelled) in
+    let text = ap (option_text p) s.made ∙ one_text s.thing p refl one (form_count p.form bytes s.thing s.spelled) in
     (said.0, rw (said.1, name, text) (simp append_assoc)))) e h
 
 -- Fewer than two bytes are no properties, so that nothing is said of what is written for them.
 pub no_properties : (bytes old : List ℕ) → length bytes < 2 → Says (SpellsProperties strict) (set_text properties) bytes old old (Ok tt)
-no_properties bytes old few = λ front rest options is s. absurd (omega (arith, few, ap length is, length-append front rest, ap length s.bytes_are))
+no_properties bytes old few = λ front rest options is s. absurd (omega (lengths, few, ap length is, ap length s.bytes_are))
 
 -- The text of the properties that the mask says are set is the text of the properties.
-pub properties_said : (bytes next old new : List ℕ) (mask : ℕ) (r : Result (Unit {0}) NoMemory) → judge_number bytes2 bytes ≡ took mask 2 → next ≡ drop 2 bytes
+pub properties_said : (bytes : List ℕ) {next : List ℕ} (old new : List ℕ) {mask : ℕ} (r : Result (Unit {0}) NoMemory)
+    → judge_number bytes2 bytes ≡ took mask 2 → next ≡ drop 2 bytes
     → Says (SpellsOnes mask properties) (set_text properties) next old new r → Says (SpellsProperties strict) (set_text properties) bytes old new r
-properties_said bytes next old new mask (Err error) read e h = tt
-properties_said bytes next old new mask (Ok done) read e h = λ front rest options is s.
+properties_said bytes old new (Err error) read e h = tt
+properties_said bytes old new {mask = mask} (Ok done) read e h = λ front rest options is s.
     let at = is ∙ ap (λ bs. bs ++ rest) s.bytes_are ∙ append_assoc (number_bytes bytes2 s.mask) s.behind rest in
     let taken = (number_exact bytes2).taken (number_bytes bytes2 s.mask) (s.behind ++ rest) s.mask (record { fits = s.fits; bytes_are = refl }) in
     let same = value_took s.mask mask 2 2 (cc (taken, at, read)) in

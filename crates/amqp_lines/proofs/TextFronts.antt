@@ -1,23 +1,12 @@
 -- The longest sequence of frames whose text stands in front of some bytes.
-use Rattle.std.proofs.Common.{◌≡◌, ◌≢◌, ℕ, zero, suc, ◌+◌, ◌<◌, ◌≤◌, List, [], ◌∷◌, ◌++◌, length, get_or, take, drop, Some, None, refl, sym, ap, subst, ◌∙◌}
-use Rattle.std.proofs.Common.{inl, inr, append_assoc, append-nil, arith}
-use Rattle.std.specs.List.{AllByRecursion, flat_map}
-use Rattle.std.proofs.lemmas.Bool.{cases_lt}
-use Rattle.std.proofs.lemmas.List.{length-append, take-append-drop, take-append-le, take_all, take_at}
-use Rattle.std.proofs.Math.Seq.{take-add}
-use Rattle.amqp_types.specs.Levels.{strict}
-use Rattle.amqp_wire.specs.Frames.{Frame}
-use Rattle.amqp_wire.specs.Spelling.{Spells, SpellsFrames}
-use Rattle.amqp_wire.specs.Canonical.{canon, canon_frames}
-use Rattle.amqp_wire.proofs.Strictness.{one_strict}
-use Rattle.amqp_stream.proofs.Adding.{IsBytes-append, IsBytes-nil}
-use Rattle.amqp_lines.specs.Lines.{line, lines}
-use Rattle.amqp_lines.specs.LineReading.{HasNoNewline, IsFirstLine}
-use Rattle.amqp_lines.specs.OneLine.{IsStrictWithin, IsNoLine}
-use Rattle.amqp_lines.specs.Undumping.{AreStrict, HoldsNewline, IsLongestText}
-use Rattle.amqp_lines.proofs.Newlines.{one_newline, clean_both}
-use Rattle.amqp_lines.proofs.ReadWords.{bytes_behind, bytes_front}
-use Rattle.amqp_lines.proofs.LinesApart.{newline_once}
+use Rattle.amqp_lines.proofs
+use proofs.Names.{◌≡◌, ℕ, zero, suc, ◌+◌, ◌<◌, ◌≤◌, List, [], ◌∷◌, ◌++◌, length, take, drop, Some, None, refl, sym, ap, ◌∙◌, inl, inr, append_assoc, append-nil}
+use proofs.Names.{arith, AllByRecursion, flat_map, cases_lt, take-append-drop, take-append-le, take_at, strict, Frame, Spells, SpellsFrames, canon}
+use proofs.Names.{canon_frames, one_strict, IsBytes-append, IsBytes-nil, line, lines, HasNoNewline, IsFirstLine, IsStrictWithin, IsNoLine, AreStrict}
+use proofs.Names.{HoldsNewline, IsLongestText, lengths}
+use proofs.Newlines.{one_newline}
+use proofs.ReadWords.{bytes_behind, bytes_front}
+use proofs.LinesApart.{newline_once}
 
 -- ---- strict sequences, frame by frame
 
@@ -26,8 +15,8 @@ abbrev pub AllStrict : ℕ → List Frame → Type 0
 AllStrict m = AllByRecursion (IsStrictWithin m)
 
 -- A strict encoding of a frame is its canonical bytes.
-pub first_is_canon : (first : List ℕ) (f : Frame) → Spells strict first f → first ≡ canon f
-first_is_canon first f h =
+pub first_is_canon : {first : List ℕ} (f : Frame) → Spells strict first f → first ≡ canon f
+first_is_canon {first = first} f h =
     let sequence : SpellsFrames strict None first (f ∷ []) = (first, [], sym (append-nil first), h, tt, refl) in
     (one_strict strict None first (f ∷ []) sequence).only first sequence ∙ append-nil _
 
@@ -36,18 +25,18 @@ pub all_strict : (m : ℕ) (frames : List Frame) → AreStrict m frames → AllS
 all_strict m [] h = tt
 all_strict m (f ∷ fs) h =
     let sequence = h.0 in
-    let same = first_is_canon sequence.0 f sequence.3 in
+    let same = first_is_canon f sequence.3 in
     let others = (one_strict strict (Some m) sequence.1 fs sequence.5).only sequence.1 sequence.5 in (
       record {
         is_strict = record {
-          are_bytes = bytes_front (canon f) (canon_frames fs) (canon_frames (f ∷ fs)) refl h.1;
+          are_bytes = bytes_front (canon f) (canon_frames fs) refl h.1;
           encodes = rw same at sequence.3;
         };
         within = rw same at sequence.4;
       },
       all_strict m fs (
         rw others at sequence.5,
-        bytes_behind (canon f) (canon_frames fs) (canon_frames (f ∷ fs)) refl h.1,
+        bytes_behind (canon f) (canon_frames fs) refl h.1,
       ),
     )
 
@@ -62,7 +51,7 @@ are_strict m (f ∷ fs) h =
 
 -- bytes without a newline are not parted by one
 pub none_holds : (bytes front back : List ℕ) → HasNoNewline bytes → bytes ≡ front ++ 10 ∷ back → ⊥
-none_holds [] front back h e = omega (arith, ap length e, length-append front (10 ∷ back))
+none_holds [] front back h e = omega (lengths, ap length e)
 none_holds (c ∷ cs) [] back h e = h.0 cc
 none_holds (c ∷ cs) (d ∷ ds) back h e = none_holds cs ds back h.1 cc
 
@@ -76,28 +65,6 @@ none_take zero [] h = tt
 none_take zero (x ∷ xs) h = tt
 none_take (suc n) [] h = tt
 none_take (suc n) (x ∷ xs) h = (h.0, none_take n xs h.1)
-
--- the byte at a place
-byte_at : (place : ℕ) (text : List ℕ) → place < length text → take 1 (drop place text) ≡ get_or text place 0 ∷ []
-byte_at zero [] h = absurd (omega arith)
-byte_at zero (x ∷ xs) h = refl
-byte_at (suc place) [] h = absurd (omega arith)
-byte_at (suc place) (x ∷ xs) h = byte_at place xs (omega arith)
-
-up_to : (place : ℕ) (text : List ℕ) (b : ℕ) → place < length text → get_or text place 0 ≡ b → take (place + 1) text ≡ take place text ++ b ∷ []
-up_to place text b h is = cc (take-add place 1 text, byte_at place text h, is)
-
-pub first_found : (place : ℕ) (text : List ℕ) (b : ℕ) → place < length text
-    → HasNoNewline (take place text) → get_or text place 0 ≡ b → b ≡ 10 → IsFirstLine text (place + 1)
-first_found place text b h none is same =
-    record { front = take place text; parts = up_to place text 10 h (is ∙ same); none_before = none; some = omega arith; within = omega (arith, h) }
-
-pub none_next : (place : ℕ) (text : List ℕ) (b : ℕ) → place < length text → HasNoNewline (take place text)
-    → get_or text place 0 ≡ b → b ≢ 10 → HasNoNewline (take (place + 1) text)
-none_next place text b h none is other = subst HasNoNewline (sym (up_to place text b h is)) (clean_both _ _ none (other, tt))
-
-pub none_all : (place : ℕ) (text : List ℕ) → length text ≤ place → HasNoNewline (take place text) → HasNoNewline text
-none_all place text h none = subst HasNoNewline (take_all place text h) none
 
 -- what begins with a line
 pub line_front : (f : Frame) (x : List ℕ) → line f ++ x ≡ (one_newline f).front ++ (10 ∷ x)
@@ -155,9 +122,9 @@ no_longer m (f ∷ fs) (g ∷ gs) rest x none good e =
     omega (arith, no_longer m fs gs rest x none good.1 others.1)
 
 -- Lines that are followed by no line are the longest text in front of some bytes.
-pub is_longest : (m : ℕ) (bytes : List ℕ) (frames : List Frame) (rest : List ℕ) → AllStrict m frames
+pub is_longest : {m : ℕ} {bytes : List ℕ} {frames : List Frame} {rest : List ℕ} → AllStrict m frames
     → bytes ≡ lines frames ++ rest → IsAtNone m rest → IsLongestText m bytes frames rest
-is_longest m bytes frames rest good parts none = record {
+is_longest {m = m} {frames = frames} {rest = rest} good parts none = record {
   are_strict = are_strict m frames good;
   parts = parts;
   longest = λ other strict prefix. no_longer m frames other rest prefix.0 none (all_strict m other strict) (prefix.1 ∙ parts);

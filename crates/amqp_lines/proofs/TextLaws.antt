@@ -1,33 +1,21 @@
 -- Laws of texts: the longest is one, what was dumped is read back, and strict bytes and texts correspond.
-use Rattle.std.proofs.Common.{◌≡◌, ◌≢◌, ◌↔◌, ℕ, false, List, [], ◌∷◌, ◌++◌, length, Some, None, Ok, refl, sym, ap, subst, ◌∙◌, append_assoc, append-nil, arith}
-use Rattle.std.proofs.Common.{Result, Err}
-use Rattle.std.specs.List.{AllByRecursion}
-use Rattle.std.proofs.lemmas.List.{take_all}
-use Rattle.std.proofs.lemmas.Bool.{ne_eqb}
-use Rattle.amqp_types.specs.Levels.{plain, strict}
-use Rattle.amqp_types.specs.Judging.{IsBytes}
-use Rattle.amqp_wire.specs.Frames.{Frame, BadBeat}
-use Rattle.amqp_wire.specs.Fronts.{front, place}
-use Rattle.amqp_wire.specs.Spelling.{Spells, SpellsFrames}
-use Rattle.amqp_wire.specs.Canonical.{canon, canon_frames, is_deep, is_long, size_of, read_back}
+use Rattle.amqp_lines.proofs
+use proofs.Names.{◌≡◌, ◌≢◌, ◌↔◌, ℕ, false, List, [], ◌∷◌, ◌++◌, length, Some, None, Ok, refl, sym, ap, subst, ◌∙◌, append_assoc, append-nil, arith, Err}
+use proofs.Names.{AllByRecursion, take_all, ne_eqb, plain, strict, IsBytes, Frame, BadBeat, front, Spells, SpellsFrames, canon, canon_frames, verdict-spells}
+use proofs.Names.{one_strict, Supply, Store, Gains, Call, IsStrict, line, lines, AreStrict, IsLongestText, UndumpsExactly, Answer}
+use proofs.Names.errors
+use Rattle.amqp_wire.specs.Fronts.{place}
+use Rattle.amqp_wire.specs.Canonical.{is_deep, is_long, size_of, read_back}
 use Rattle.amqp_wire.specs.Laws.{IsFrameHeld}
-use Rattle.amqp_wire.proofs.Encoded.{verdict-spells}
 use Rattle.amqp_wire.proofs.ReadingBack.{reads_back}
 use Rattle.amqp_wire.proofs.Sequences.{front-is_sequence, one_sequence}
-use Rattle.amqp_wire.proofs.Strictness.{one_strict, sequence_shortest}
-use Rattle.amqp_stream.specs.Ends.{Supply, Store, Gains}
-use Rattle.amqp_stream.specs.Calls.{Call}
+use Rattle.amqp_wire.proofs.Strictness.{sequence_shortest}
 use Rattle.amqp_lines.specs.Dumping.{dumped}
-use Rattle.amqp_lines.specs.Laws.{IsStrict}
-use Rattle.amqp_lines.specs.Lines.{line, lines}
-use Rattle.amqp_lines.specs.Undumping.{AreStrict, IsLongestText, UndumpsExactly}
 use Rattle.amqp_lines.specs.UndumpLaws.{IsSameText, Undoes, AreBytesAndText, IsUsual}
-use Rattle.amqp_lines.specs.declared.errors.UndumpError.{UndumpError}
-use Rattle.amqp_lines.specs.declared.errors.UndumpError.TheVariants as errors
-use Rattle.amqp_lines.proofs.CanonBytes.{canonical_bytes}
-use Rattle.amqp_lines.proofs.ReadWords.{bytes_front}
-use Rattle.amqp_lines.proofs.LinesApart.{same_frame, split, same_sequence}
-use Rattle.amqp_lines.proofs.TextFronts.{AllStrict, all_strict, at_clean, holds_none, is_longest}
+use proofs.CanonBytes.{canonical_bytes}
+use proofs.ReadWords.{bytes_front}
+use proofs.LinesApart.{same_frame, split, same_sequence}
+use proofs.TextFronts.{AllStrict, all_strict, at_clean, holds_none, is_longest}
 
 -- ---- the longest text is one
 
@@ -58,30 +46,30 @@ pub dumped_back : (m : ℕ) (bytes : List ℕ) → IsBytes bytes → IsLongestTe
 dumped_back m bytes fits =
     let frames = front plain (Some m) bytes in
     let cut = front-is_sequence plain (Some m) bytes fits in
-    let used = bytes_front cut.used (place plain (Some m) bytes) bytes cut.parts fits in
+    let used = bytes_front cut.used (place plain (Some m) bytes) cut.parts fits in
     let good : AreStrict m frames =
     ((one_strict plain (Some m) cut.used frames cut.sequence).canonical, canonical_bytes (Some m) cut.used frames used cut.sequence) in
-    is_longest m (lines frames) frames [] (all_strict m frames good) (sym (append-nil (lines frames))) (at_clean m [] tt)
+    is_longest (all_strict m frames good) (sym (append-nil (lines frames))) (at_clean m [] tt)
 
 -- what stands after the text, and is none of it
-undoes : (call : Call Supply Store) (bytes : List ℕ) (r : Result (Unit {0}) UndumpError) (u : UndumpsExactly call (dumped call.limit bytes) r)
+undoes : (call : Call Supply Store) {bytes : List ℕ} (r : Answer) (u : UndumpsExactly call (dumped call.limit bytes) r)
     → u.frames ≡ front plain (Some call.limit) bytes → u.rest ≡ [] → Undoes call.limit bytes call.sink r
-undoes call bytes (Ok done) u frames none = record {
+undoes call (Ok done) u frames none = record {
   never_bad = λ e. absurd cc;
   never_short = λ e. absurd cc;
   written = λ e. subst (λ xs. Gains call.sink.old call.sink.new xs) (u.answer.1 ∙ ap canon_frames frames) u.gains;
 }
-undoes call bytes (Err errors.BadText) u frames none = absurd (holds_none u.rest (rw none tt) u.answer.0)
-undoes call bytes (Err errors.CutShort) u frames none = absurd (u.answer.0 none)
-undoes call bytes (Err error) u frames none = record { never_bad = λ e. absurd cc; never_short = λ e. absurd cc; written = λ e. absurd cc }
+undoes call (Err errors.BadText) u frames none = absurd (holds_none u.rest (rw none tt) u.answer.0)
+undoes call (Err errors.CutShort) u frames none = absurd (u.answer.0 none)
+undoes call (Err error) u frames none = record { never_bad = λ e. absurd cc; never_short = λ e. absurd cc; written = λ e. absurd cc }
 
 -- Reading back what was dumped finds no bad line, and writes the canonical bytes of the frames at the front of the bytes.
-pub undump_undoes : (call : Call Supply Store) (bytes : List ℕ) (r : Result (Unit {0}) UndumpError)
+pub undump_undoes : (call : Call Supply Store) (bytes : List ℕ) (r : Answer)
     → IsBytes bytes → UndumpsExactly call (dumped call.limit bytes) r → Undoes call.limit bytes call.sink r
 undump_undoes call bytes r fits u =
     let m = call.limit in
     let same = one_longest m (dumped m bytes) u.frames (front plain _ bytes) u.rest [] u.text (dumped_back m bytes fits) in
-    undoes call bytes r u same.frames same.rests
+    undoes call r u same.frames same.rests
 
 -- ---- strict bytes and texts
 
@@ -89,12 +77,12 @@ each_strict : (m : ℕ) (fs : List Frame) → AllStrict m fs → AllByRecursion 
 each_strict m [] h = tt
 each_strict m (f ∷ fs) h = (h.0.is_strict, each_strict m fs h.1)
 
-only_strict : (m : ℕ) (bytes text : List ℕ) (h : AreBytesAndText m bytes text) → bytes ≡ canon_frames h.frames
-only_strict m bytes text h = (one_strict strict (Some m) bytes h.frames h.is_sequence).only bytes h.is_sequence
+only_strict : {m : ℕ} {bytes text : List ℕ} (h : AreBytesAndText m bytes text) → bytes ≡ canon_frames h.frames
+only_strict {m = m} {bytes = bytes} h = (one_strict strict (Some m) bytes h.frames h.is_sequence).only bytes h.is_sequence
 
-are_strict_frames : (m : ℕ) (bytes text : List ℕ) (h : AreBytesAndText m bytes text) → AllByRecursion IsStrict h.frames
-are_strict_frames m bytes text h =
-    let is = only_strict m bytes text h in
+are_strict_frames : {m : ℕ} {bytes text : List ℕ} (h : AreBytesAndText m bytes text) → AllByRecursion IsStrict h.frames
+are_strict_frames {m = m} h =
+    let is = only_strict h in
     each_strict m h.frames (all_strict m h.frames (rw is at h.is_sequence, rw is at h.are_bytes))
 
 -- Bytes that encode a sequence of frames strictly have one text only.
@@ -104,8 +92,8 @@ one_text m bytes t u h k = cc (h.is_text, one_sequence strict (Some m) bytes h.f
 -- One text is that of one sequence of canonical bytes only.
 pub one_text_bytes : (m : ℕ) (b c text : List ℕ) → AreBytesAndText m b text → AreBytesAndText m c text → b ≡ c
 one_text_bytes m b c text h k =
-    let same = same_sequence h.frames k.frames (are_strict_frames m b text h) (are_strict_frames m c text k) (sym h.is_text ∙ k.is_text) in
-    cc (only_strict m b text h, same, only_strict m c text k)
+    let same = same_sequence h.frames k.frames (are_strict_frames h) (are_strict_frames k) (sym h.is_text ∙ k.is_text) in
+    cc (only_strict h, same, only_strict k)
 
 -- ---- which frames are encoded strictly
 

@@ -1,45 +1,36 @@
 -- What was taken and written of a stream of lines, from read to read.
-use Rattle.std.proofs.Common.{◌≡◌, ◌≢◌, ℕ, ◌+◌, ◌-◌, ◌<◌, ◌≤◌, List, [], ◌∷◌, ◌++◌, length, take, Result, Ok, Err, refl, sym, ap, ◌∙◌, append_assoc, append-nil}
-use Rattle.std.proofs.Common.{arith}
-use Rattle.std.specs.List.{flat_map}
-use Rattle.std.proofs.lemmas.List.{length-append, length-take, take-append-le}
-use Rattle.amqp_types.specs.Judging.{IsBytes}
-use Rattle.amqp_wire.specs.Frames.{Frame}
-use Rattle.amqp_wire.specs.Canonical.{canon_frames}
-use Rattle.amqp_stream.specs.declared.sink.SinkFault.{SinkFault}
-use Rattle.amqp_stream.specs.Changes.{◌⇒◌}
-use Rattle.amqp_stream.specs.Calls.{call_of, Call}
-use Rattle.amqp_stream.specs.Ends.{Supply, Store, Takes, Gains, IsEmpty}
-use Rattle.amqp_stream.specs.Writing.{WritesAll, Gathered, GatherFails}
-use Rattle.amqp_stream.proofs.Adding.{IsBytes-append, IsBytes-nil, Takes-then, Takes-none, Gains-then, Gains-none, Rises-later}
-use Rattle.amqp_lines.specs.Lines.{line, lines}
-use Rattle.amqp_lines.specs.LineReading.{HasNoNewline, GathersLines, ReadsOnce, StopsWith, Decides, stopped, end_of_text}
-use Rattle.amqp_lines.specs.Undumping.{read_size, HoldsNewline, HasCauseUndumped}
-use Rattle.amqp_lines.specs.UndumpReports.{AreDecided, HasWrittenDecided, PassesLines, first_line}
-use Rattle.amqp_lines.specs.declared.report.LinePlace.{LinePlace}
-use Rattle.amqp_lines.specs.declared.errors.UndumpError.{UndumpError}
-use Rattle.amqp_lines.specs.declared.errors.UndumpError.TheVariants as errors
-use Rattle.amqp_lines.proofs.Newlines.{each_both}
-use Rattle.amqp_lines.proofs.TextFronts.{AllStrict, all_strict, are_strict, none_take, holds_none, at_clean, is_longest, line_longer}
-use Rattle.amqp_lines.proofs.Gathering.{lines_both, canon_both, longest_after, passes_none, passes_both}
-use Rattle.amqp_lines.specs.OneLine.{IsStrictWithin}
+use Rattle.amqp_lines.proofs
+use proofs.Names.{◌≡◌, ◌≢◌, ℕ, ◌+◌, ◌-◌, ◌<◌, ◌≤◌, List, [], ◌∷◌, ◌++◌, length, take, Result, Ok, Err, refl, sym, ap, ◌∙◌, append_assoc, append-nil, arith}
+use proofs.Names.{flat_map, length-take, take-append-le, IsBytes, Frame, canon_frames, SinkFault, ◌⇒◌, call_of, Call, Supply, Store, Gains, IsEmpty, WritesAll}
+use proofs.Names.{Gathered, GatherFails, IsBytes-append, IsBytes-nil, Gains-then, Gains-none, Rises-later, line, lines, HasNoNewline, GathersLines, ReadsOnce}
+use proofs.Names.{StopsWith, Decides, end_of_text, HoldsNewline, HasCauseUndumped, PassesLines, first_line, LinePlace, UndumpError, IsStrictWithin, lengths}
+use proofs.Names.{Answer}
+use proofs.Names.errors
+use Rattle.amqp_stream.specs.Ends.{Takes}
+use Rattle.amqp_stream.proofs.Adding.{Takes-then, Takes-none}
+use Rattle.amqp_lines.specs.LineReading.{stopped}
+use Rattle.amqp_lines.specs.Undumping.{read_size}
+use Rattle.amqp_lines.specs.UndumpReports.{AreDecided, HasWrittenDecided}
+use proofs.Newlines.{each_both}
+use proofs.TextFronts.{AllStrict, all_strict, are_strict, none_take, holds_none, at_clean, is_longest, line_longer}
+use proofs.Gathering.{lines_both, canon_both, longest_after, passes_none, passes_both}
 
 -- ---- the frames in front of those of a call
 
-written_after : (p all w : List ℕ) (r : Result (Unit {0}) UndumpError) → HasWrittenDecided all w r → HasWrittenDecided (p ++ all) (p ++ w) r
+written_after : (p all w : List ℕ) (r : Answer) → HasWrittenDecided all w r → HasWrittenDecided (p ++ all) (p ++ w) r
 written_after p all w (Err errors.WriteFault) h = (h.0, cc (append_assoc p w h.0, h.1))
 written_after p all w r h = ap (λ xs. p ++ xs) h
 
-decided_after : (m : ℕ) (fs : List Frame) (text : List ℕ) (gs : List Frame) (rest : List ℕ) (r : Result (Unit {0}) UndumpError)
+decided_after : (m : ℕ) (fs : List Frame) (text : List ℕ) (gs : List Frame) (rest : List ℕ) (r : Answer)
     → AllStrict m fs → AreDecided m text gs rest r → AreDecided m (lines fs ++ text) (fs ++ gs) rest r
 decided_after m fs text gs rest (Err errors.WriteFault) good h = h
 decided_after m fs text gs rest (Err errors.NoMemory) good h = h
-decided_after m fs text gs rest r good h = longest_after m fs text gs rest good h
+decided_after m fs text gs rest r good h = longest_after fs good h
 
 -- what was written whole is written in any case
-all_written : (all w : List ℕ) (r : Result (Unit {0}) UndumpError) → w ≡ all → HasWrittenDecided all w r
-all_written all w (Err errors.WriteFault) h = ([], append-nil w ∙ h)
-all_written all w r h = h
+all_written : {all w : List ℕ} (r : Answer) → w ≡ all → HasWrittenDecided all w r
+all_written {w = w} (Err errors.WriteFault) h = ([], append-nil w ∙ h)
+all_written r h = h
 
 -- ---- newlines in front of the last read
 
@@ -50,23 +41,12 @@ unfolding lines
 none_front m held piece [] rest clean few e h =
     let n = length rest - read_size in
     let same =
-    ap (take n) (sym e) ∙ take-append-le n held piece (omega (arith, few, ap length e, length-append held piece)) in
+    ap (take n) (sym e) ∙ take-append-le n held piece (omega (lengths, few, ap length e)) in
     holds_none _ (none_take n held clean) (rw same at h)
 none_front m held piece (f ∷ fs) rest clean few e h =
     let more = flat_map line fs ++ rest in
     let low = line_longer f held piece more clean (e ∙ append_assoc (line f) _ rest) in
-    omega (
-      arith,
-      low,
-      few,
-      ap length e,
-      length-append held piece,
-      length-append (line f ++ flat_map line fs) rest,
-      length-append (line f) (flat_map line fs),
-      ap length h.parts,
-      length-append h.front (10 ∷ h.back),
-      length-take (length rest - read_size) rest,
-    )
+    omega (lengths, low, few, ap length e, ap length h.parts, length-take (length rest - read_size) rest)
 
 -- ---- between two reads
 
@@ -83,9 +63,9 @@ pub record Going (m budget left : ℕ) (a b : Supply) (k l : Store) (held : List
   pub passes : PassesLines frames first_line at
 
 -- At the start nothing was taken, nothing was written, and nothing is held.
-pub begins : (m budget : ℕ) (a : Supply) (k : Store) → Going m budget budget a a k k [] first_line
+pub begins : {m budget : ℕ} (a : Supply) (k : Store) → Going m budget budget a a k k [] first_line
 unfolding lines
-begins m budget a k =
+begins {budget = budget} a k =
     let none : budget - budget ≡ 0 = omega arith in
     record {
       frames = [];
@@ -100,11 +80,11 @@ begins m budget a k =
     }
 
 -- nothing more has come, and what is held has no newline
-clean_decided : (m : ℕ) (held : List ℕ) (r : Result (Unit {0}) UndumpError) → HasNoNewline held → AreDecided m (held ++ []) [] held r
+clean_decided : (m : ℕ) (held : List ℕ) (r : Answer) → HasNoNewline held → AreDecided m (held ++ []) [] held r
 unfolding lines
 clean_decided m held (Err errors.WriteFault) none = none_front m held [] [] held none (omega arith) (append-nil held)
 clean_decided m held (Err errors.NoMemory) none = none_front m held [] [] held none (omega arith) (append-nil held)
-clean_decided m held r none = is_longest m _ [] held tt (append-nil held) (at_clean m held none)
+clean_decided m held r none = is_longest tt (append-nil held) (at_clean m held none)
 
 nil_piece : (piece : List ℕ) → length piece ≡ 0 → piece ≡ []
 nil_piece [] h = refl
@@ -119,7 +99,7 @@ end_cause call taken (byte ∷ bytes) clean empty = (((λ e. absurd cc), holds_n
 module _ {m budget left : ℕ} {a b : Supply} {k l : Store} {held : List ℕ} {at : LinePlace} (g : Going m budget left a b k l held at) where
   -- a call that ends after these bytes more, of which these frames were decided
   ended : (n : ℕ) (c : Supply) (l' : Store) (now : LinePlace)
-      (piece : List ℕ) (frames : List Frame) (rest written : List ℕ) (r : Result (Unit {0}) UndumpError)
+      (piece : List ℕ) (frames : List Frame) (rest written : List ℕ) (r : Answer)
       → IsBytes piece → length piece ≤ read_size → Takes b c piece n → n ≤ left
       → AllStrict m frames → held ++ piece ≡ lines frames ++ rest → AreDecided m (held ++ piece) frames rest r
       → PassesLines frames at now → Gains l l' written → HasWrittenDecided (canon_frames frames) written r
@@ -131,7 +111,7 @@ module _ {m budget left : ℕ} {a b : Supply} {k l : Store} {held : List ℕ} {a
         taken = (lines g.frames ++ held) ++ piece;
         are_bytes = IsBytes-append (lines g.frames ++ held) piece g.are_bytes fits;
         reads = budget - left + n;
-        takes = Takes-then a b c (lines g.frames ++ held) piece (budget - left) n g.takes takes;
+        takes = Takes-then _ _ _ _ _ _ _ g.takes takes;
         at_most = omega (arith, g.few, some);
         all_spent = all_spent;
         frames = g.frames ++ frames;
@@ -140,7 +120,7 @@ module _ {m budget left : ℕ} {a b : Supply} {k l : Store} {held : List ℕ} {a
         parts = rw (whole, parts, lines_both) (sym (append_assoc (lines g.frames) (lines frames) rest));
         decided = rw whole (decided_after m g.frames (held ++ piece) frames rest r g.good decided);
         written = canon_frames g.frames ++ written;
-        gains = Gains-then k l l' (canon_frames g.frames) written g.gains gains;
+        gains = Gains-then _ _ _ _ _ g.gains gains;
         writes = rw canon_both (written_after (canon_frames g.frames) (canon_frames frames) written r writes);
         cause = cause;
         behind = record {
@@ -150,7 +130,7 @@ module _ {m budget left : ℕ} {a b : Supply} {k l : Store} {held : List ℕ} {a
           few = few;
           frames = g.frames;
           rest = held;
-          text = is_longest m (lines g.frames ++ held) g.frames held g.good refl (at_clean m held g.clean);
+          text = is_longest g.good refl (at_clean m held g.clean);
           no_line = holds_none held g.clean;
           written_begins = (written, refl);
         };
@@ -158,19 +138,19 @@ module _ {m budget left : ℕ} {a b : Supply} {k l : Store} {held : List ℕ} {a
       }
 
   -- a call that ends after no bytes more
-  idle : (n : ℕ) (c : Supply) (r : Result (Unit {0}) UndumpError) → Takes b c [] n → n ≤ left
+  idle : (n : ℕ) (c : Supply) (r : Answer) → Takes b c [] n → n ≤ left
       → HasCauseUndumped (call_of m budget (a ⇒ c) (k ⇒ l)) ((lines g.frames ++ held) ++ []) held r
       → (r ≡ Err errors.TurnsSpent → budget - left + n ≡ budget) → Decides (call_of m budget (a ⇒ c) (k ⇒ l)) at r
   unfolding lines
   idle n c r takes some cause all_spent =
       ended n c l at [] [] held [] r IsBytes-nil (omega arith) takes some tt (append-nil held) (clean_decided m held r g.clean)
-      (passes_none at) (Gains-none l) (all_written [] [] r refl) cause all_spent
+      (passes_none at) (Gains-none l) (all_written r refl) cause all_spent
 
   -- Where the read budget is spent, the call ends with that error.
   pub ends_spent : left ≡ 0 → Decides (call_of m budget (a ⇒ b) (k ⇒ l)) at (Err errors.TurnsSpent)
   ends_spent zero =
       idle 0 b _ (Takes-none b) (omega arith)
-      (omega (arith, g.falls, zero, length-append (lines g.frames ++ held) []), holds_none held g.clean) (λ e. omega (arith, zero))
+      (omega (lengths, g.falls, zero), holds_none held g.clean) (λ e. omega (arith, zero))
 
   -- Where a read fails, or nothing can be held, the call ends with that error.
   pub ends_at_read : {c : Supply} {before after : List ℕ} (error : UndumpError) → 0 < left → ReadsOnce b c before after (Err error)
@@ -186,7 +166,7 @@ module _ {m budget left : ℕ} {a b : Supply} {k l : Store} {held : List ℕ} {a
   ends_at_read error some h = absurd h.reads
 
   -- At the end of input the call ends well where nothing is held, and else with a line cut short.
-  pub ends_at_end : {n : ℕ} {c : Supply} {after : List ℕ} {r : Result (Unit {0}) UndumpError} → 0 < left → ReadsOnce b c held after (Ok n)
+  pub ends_at_end : {n : ℕ} {c : Supply} {after : List ℕ} {r : Answer} → 0 < left → ReadsOnce b c held after (Ok n)
       → n ≡ 0 → r ≡ end_of_text after → Decides (call_of m budget (a ⇒ c) (k ⇒ l)) at r
   ends_at_end {c = c} {after = after} some h zero is =
       let none = nil_piece h.piece (h.reads.1 ∙ zero) in
@@ -216,17 +196,16 @@ module _ {m budget left n : ℕ} {a b c : Supply} {k l l' : Store} {held after p
         good = each_both (IsStrictWithin m) g.frames h.frames g.good (all_strict m h.frames h.are_strict);
         clean = rw is clean;
         are_bytes = rw (← same) (IsBytes-append all read.piece g.are_bytes read.are_bytes);
-        takes = rw (reads, ← same) (Takes-then a b c all read.piece (budget - left) 1 g.takes read.takes);
+        takes = rw (reads, ← same) (Takes-then _ _ _ _ _ _ _ g.takes read.takes);
         gains =
-            rw (canon_both, ← wrote) (Gains-then k l l'' (canon_frames g.frames) (w.written ++ f.piece) g.gains
-            (Gains-then l l' l'' w.written f.piece w.gains f.gains));
+            rw (canon_both, ← wrote) (Gains-then _ _ _ _ _ g.gains (Gains-then _ _ _ _ _ w.gains f.gains));
         few = omega (arith, g.few);
-        falls = omega (arith, g.falls, some, new, read.reads.1, ap length same, length-append all read.piece);
+        falls = omega (lengths, g.falls, some, new, read.reads.1, ap length same);
         passes = passes_both g.frames h.frames first_line at now g.passes h.passes;
       }
 
   -- a call that ends with this result, which the lines of the read decide
-  gathered_end : {l'' : Store} (r : Result (Unit {0}) UndumpError) (written : List ℕ)
+  gathered_end : {l'' : Store} (r : Answer) (written : List ℕ)
       → ((HoldsNewline (take (length h.rest - read_size) h.rest) → ⊥) → AreDecided m after h.frames h.rest r)
       → Gains l l'' written → HasWrittenDecided (canon_frames h.frames) written r
       → HasCauseUndumped (call_of m budget (a ⇒ c) (k ⇒ l'')) ((lines g.frames ++ held) ++ read.piece) h.rest r
@@ -243,7 +222,7 @@ module _ {m budget left n : ℕ} {a b c : Supply} {k l l' : Store} {held after p
   unflushed {l'' = l''} w f =
       let q = f.prefix.0 in
       let all = append_assoc w.written f.piece q ∙ ap (λ xs. w.written ++ xs) f.prefix.1 ∙ w.parts in
-      gathered_end _ _ (λ none. none) (Gains-then l l' l'' w.written f.piece w.gains f.gains) (q, all)
+      gathered_end _ _ (λ none. none) (Gains-then _ _ _ _ _ w.gains f.gains) (q, all)
       (Rises-later k.faults l'.faults l''.faults (omega (arith, g.gains.faults, w.gains.faults)) f.gains.faults f.err) (λ e. absurd cc)
 
   -- a call that ends with this error after what is pending is written
@@ -253,17 +232,17 @@ module _ {m budget left n : ℕ} {a b c : Supply} {k l l' : Store} {held after p
       → HasCauseUndumped (call_of m budget (a ⇒ c) (k ⇒ l'')) ((lines g.frames ++ held) ++ read.piece) h.rest (Err error)
       → error ≢ errors.TurnsSpent → Decides (call_of m budget (a ⇒ c) (k ⇒ l'')) now (Err error)
   flushed {l'' = l''} error decided w f cause other =
-      gathered_end (Err error) (w.written ++ f.piece) decided (Gains-then l l' l'' w.written f.piece w.gains f.gains)
-      (all_written (canon_frames h.frames) (w.written ++ f.piece) (Err error) (ap (λ xs. w.written ++ xs) f.ok ∙ w.parts)) cause
+      gathered_end (Err error) (w.written ++ f.piece) decided (Gains-then _ _ _ _ _ w.gains f.gains)
+      (all_written (Err error) (ap (λ xs. w.written ++ xs) f.ok ∙ w.parts)) cause
       (λ e. absurd (other (let x : error ≡ errors.TurnsSpent = cc in x)))
 
   -- a write failed, and nothing was pending after it
   failed : {l'' : Store} (written : Result (Unit {0}) SinkFault) → GatherFails l l' [] pending (canon_frames h.frames)
       → WritesAll l' l'' pending written → Decides (call_of m budget (a ⇒ c) (k ⇒ l'')) now (Err errors.WriteFault)
   failed {l'' = l''} written w f =
-      let none = nil_piece f.piece (omega (arith, length-append f.piece f.prefix.0, ap length (f.prefix.1 ∙ w.none))) in
+      let none = nil_piece f.piece (omega (lengths, ap length (f.prefix.1 ∙ w.none))) in
       let all = ap (λ xs. (w.piece ++ xs) ++ w.prefix.0) none ∙ ap (λ xs. xs ++ w.prefix.0) (append-nil w.piece) ∙ w.prefix.1 in
-      gathered_end _ _ (λ none. none) (Gains-then l l' l'' w.piece f.piece w.gains f.gains) (w.prefix.0, all)
+      gathered_end _ _ (λ none. none) (Gains-then _ _ _ _ _ w.gains f.gains) (w.prefix.0, all)
       (λ low. omega (arith, g.gains.faults, f.gains.faults, Rises-later k.faults l.faults l'.faults g.gains.faults w.gains.faults w.rises low)) (λ e. absurd cc)
 
 module _ {m budget left n : ℕ} {a b c : Supply} {k l l' l'' : Store} {held after pending : List ℕ} {at now : LinePlace}
@@ -281,10 +260,10 @@ module _ {m budget left n : ℕ} {a b c : Supply} {k l l' l'' : Store} {held aft
   stop_by error written h f = absurd h.gathers
 
   -- Where a line is that of no frame, or memory runs out, the call ends with that error, after it wrote the lines before.
-  pub ends_at_lines : {r : Result (Unit {0}) UndumpError} (error : UndumpError) → GathersLines m after at now l l' [] pending (Err error)
+  pub ends_at_lines : {r : Answer} (error : UndumpError) → GathersLines m after at now l l' [] pending (Err error)
       → StopsWith l' l'' pending error r → Decides (call_of m budget (a ⇒ c) (k ⇒ l'')) now r
   ends_at_lines error h stop = rw stop.answer (stop_by error stop.written h stop.writes)
 
 -- memory ran out before the first read
-pub never_began : (m budget : ℕ) (a : Supply) (k : Store) → Decides (call_of m budget (a ⇒ a) (k ⇒ k)) first_line (Err errors.NoMemory)
-never_began m budget a k = idle (begins m budget a k) 0 a _ (Takes-none a) (omega arith) tt (λ e. absurd cc)
+pub never_began : {m budget : ℕ} (a : Supply) (k : Store) → Decides (call_of m budget (a ⇒ a) (k ⇒ k)) first_line (Err errors.NoMemory)
+never_began a k = idle (begins a k) 0 a _ (Takes-none a) (omega arith) tt (λ e. absurd cc)

@@ -1,7 +1,7 @@
 -- Which words begin a form, and what goes on after them.
-use Rattle.std.proofs.Common.{◌≡◌, ◌⊎◌, ℕ, ◌<◌, ◌≤◌, Bool, true, false, List, [], ◌∷◌, ◌++◌, length, map, Option, Some, None, refl, sym, ap}
-use Rattle.std.proofs.Common.{subst, ◌∙◌, inl, inr, lit<, lit≤, arith, append-nil, append_assoc}
-use Rattle.std.specs.Prelude.{codes, if◌then◌else◌, IsSome, is_some}
+use Rattle.std.proofs.Common.{◌≡◌, ◌⊎◌, ℕ, ◌<◌, ◌≤◌, true, false, List, [], ◌∷◌, ◌++◌, length, map, Option, Some, None, refl, sym, ap, ◌∙◌, inl, inr, lit<}
+use Rattle.std.proofs.Common.{lit≤, arith, append-nil, append_assoc}
+use Rattle.std.specs.Prelude.{codes, IsSome}
 use Rattle.std.specs.List.{AllByRecursion}
 use Rattle.std.specs.Option.{option_map}
 use Rattle.std.specs.Fmt.{decimal}
@@ -20,7 +20,7 @@ use Rattle.amqp_program.specs.declared.outcome.Expected.TheVariants as expecteds
 use Rattle.amqp_program.specs.Reports.{max_payload}
 use Rattle.amqp_program.specs.Commands.{command_named, command_of, command_with, recut_by}
 use Rattle.amqp_program.specs.Arguments.{IsForm, by_command, by_selection, by_filtering, BeginsForm, IsCommandWord, Expects}
-use Rattle.amqp_program.proofs.Selections.{first_is, is_rule_word, named_select, named_filter}
+use Rattle.amqp_program.proofs.Selections.{first_is, is_rule_word}
 
 -- ---- small facts
 
@@ -29,61 +29,40 @@ pub some_is : {A : Type 0} (o : Option A) → IsSome o → (a : A) × (o ≡ Som
 some_is (Some a) h = (a, refl)
 some_is None h = absurd cc
 
-mapped : {A B : Type 0} (f : A → B) (o : Option A) (b : B) → option_map f o ≡ Some b → IsSome o
-mapped f (Some a) b e = refl
-mapped f None b e = absurd cc
-
 is_name : (word name : List ℕ) → bytes_eq word name ≡ true → word ≡ name
 is_name word name t = (bytes_eq-Decides word name).0 t
 
-is_false : (test : Bool) → (test ≡ true → ⊥) → test ≡ false
-is_false true h = absurd (h refl)
-is_false false h = refl
-
 -- a word that is tested to be a command is no name that is not
 other_name : (test : List ℕ → Option Command) (word name : List ℕ) {c : Command} → test name ≡ None → test word ≡ Some c → bytes_eq word name ≡ false
-other_name test word name none e = is_false (bytes_eq word name) (λ t. let both = sym e ∙ (ap test (is_name word name t) ∙ none) in absurd cc)
+other_name test word name none e = grind (arith, is_name)
 
 -- ---- forms
 
 -- a form that begins neither with `select` nor with `filter` asks for a command
 asks : (first : List ℕ) (more : List (List ℕ)) → bytes_eq first (codes "select") ≡ false → bytes_eq first (codes "filter") ≡ false
     → IsForm (first ∷ more) → (c : Command) × (command_of (first ∷ more) ≡ Some c)
-asks first more s f (by_command c e) = (c, e)
-asks first more s f (by_selection rules is) = let none = rw s at is.are in absurd cc
-asks first more s f (by_filtering rules is) = let none = rw f at is.are in absurd cc
+asks first more s f form = grind arith
 
 -- a command of two words begins with one of two
-numbered_by : (make cuts : Bool) (a b : Option Command) (c : Command) (word : List ℕ) → bytes_eq word (codes "make") ≡ make
-    → bytes_eq word (codes "recut") ≡ cuts → (if make then a else (if cuts then b else None)) ≡ Some c → (word ≡ codes "make") ⊎ (word ≡ codes "recut")
-numbered_by true cuts a b c word m k e = inl (is_name word (codes "make") m)
-numbered_by false true a b c word m k e = inr (is_name word (codes "recut") k)
-numbered_by false false a b c word m k e = absurd cc
-
 numbered_word : (word number : List ℕ) (c : Command) → command_with word number ≡ Some c → (word ≡ codes "make") ⊎ (word ≡ codes "recut")
-numbered_word word number c e = numbered_by (bytes_eq word (codes "make")) (bytes_eq word (codes "recut")) _ _ c word refl refl e
+numbered_word word number c e = grind (arith, is_name)
 
 -- ---- the first word
 
 command_begun : (word : List ℕ) (more : List (List ℕ)) (c : Command) → command_of (word ∷ more) ≡ Some c → IsCommandWord word
-command_begun word [] c e = inl (ap is_some e)
-command_begun word (number ∷ []) c e = elim (numbered_word word number c e) [ inl m ↦ inr (inl m) | inr k ↦ inr (inr (inl k)) ]
-command_begun word (number ∷ other ∷ more) c e = absurd cc
-
-first_word : (name word : List ℕ) (more words : List (List ℕ)) → word ∷ more ≡ name ∷ words → word ≡ name
-first_word name word more words e = cc
+command_begun word more c e = grind (arith, numbered_word)
 
 begun : (word : List ℕ) (more : List (List ℕ)) → IsForm (word ∷ more) → IsCommandWord word
 begun word more (by_command c e) = command_begun word more c e
-begun word more (by_selection rules is) = inr (inr (inr (inl (first_word (codes "select") word more is.words (first_is _ _ _ is.are)))))
-begun word more (by_filtering rules is) = inr (inr (inr (inr (first_word (codes "filter") word more is.words (first_is _ _ _ is.are)))))
+begun word more (by_selection rules is) = inr (inr (inr (inl (cc (first_is (codes "select") (word ∷ more) is.words is.are)))))
+begun word more (by_filtering rules is) = inr (inr (inr (inr (cc (first_is (codes "filter") (word ∷ more) is.words is.are)))))
 
 bare : Rule
 bare = record { keep = true; channel = None; kind = None; class_id = None; method_id = None }
 
 keep_spells : Spell (codes "keep" ∷ []) (bare ∷ [])
 unfolding bare
-keep_spells = record { count = (lit≤ tt, lit≤ tt); are_rules = (record { channel = tt; class_id = tt; method_id = tt }, tt); are = refl }
+keep_spells = grind arith
 
 -- a form begins with no words
 pub nothing_begins : BeginsForm []
@@ -112,8 +91,7 @@ expects_command word = (λ b. begun word b.more b.form, word_begins word)
 -- ---- numbers
 
 frames_begun : (word : List ℕ) (more : List (List ℕ)) → IsForm (codes "make" ∷ word ∷ more) → IsSome (number_named most_frames word)
-frames_begun word [] form = mapped commands.Make (number_named most_frames word) _ (asks (codes "make") (word ∷ []) refl refl form).1
-frames_begun word (other ∷ more) form = let none = (asks (codes "make") (word ∷ other ∷ more) refl refl form).1 in absurd cc
+frames_begun word more form = grind arith
 
 -- after `make` comes a number of frames, and nothing else
 pub expects_frames : Expects (codes "make" ∷ []) expecteds.Frames
@@ -124,8 +102,7 @@ expects_frames word = (
 )
 
 size_begun : (word : List ℕ) (more : List (List ℕ)) → IsForm (codes "recut" ∷ word ∷ more) → IsSome (recut_by (number_named max_payload word))
-size_begun word [] form = ap is_some (asks (codes "recut") (word ∷ []) refl refl form).1
-size_begun word (other ∷ more) form = let none = (asks (codes "recut") (word ∷ other ∷ more) refl refl form).1 in absurd cc
+size_begun word more form = grind arith
 
 -- after `recut` comes a size, and nothing else
 pub expects_size : Expects (codes "recut" ∷ []) expecteds.Size
@@ -137,10 +114,8 @@ expects_size word = (
 -- ---- complete commands
 
 none_after_one : (first word : List ℕ) (more : List (List ℕ)) {c d : Command} → command_named first ≡ Some c → command_of (first ∷ word ∷ more) ≡ Some d → ⊥
-none_after_one first word [] {d = d} e is = elim (numbered_word first word d is) [
-  | inl m ↦ (let none = sym e ∙ ap command_named m in absurd cc)
-  | inr k ↦ (let none = sym e ∙ ap command_named k in absurd cc)
-]
+none_after_one first word [] {d = d} e is =
+    elim (numbered_word first word d is) [ inl m ↦ cc (e, ap command_named m) | inr k ↦ cc (e, ap command_named k) ]
 none_after_one first word (other ∷ more) e is = absurd cc
 
 -- after a command of one word comes nothing
@@ -168,18 +143,11 @@ pub record IsBeforeRules (first : List ℕ) : Type 0 where
   pub form : (words : List (List ℕ)) (rules : List Rule) → Spell words rules → IsForm (first ∷ words)
   pub spells : (words : List (List ℕ)) → IsForm (first ∷ words) → (rules : List Rule) × Spell words rules
 
-spells_as : (words others : List (List ℕ)) (rules : List Rule) → Some words ≡ Some others → Spell others rules → (rules : List Rule) × Spell words rules
-spells_as words others rules e s = (rules, subst (λ (ws : List (List ℕ)). Spell ws rules) (let same : words ≡ others = cc in sym same) s)
-
 select_spells : (words : List (List ℕ)) → IsForm (codes "select" ∷ words) → (rules : List Rule) × Spell words rules
-select_spells words (by_command c e) = let none = sym e ∙ named_select words in absurd cc
-select_spells words (by_selection rules is) = spells_as words is.words rules is.are is.spell
-select_spells words (by_filtering rules is) = let none = is.are in absurd cc
+select_spells words form = grind arith
 
 filter_spells : (words : List (List ℕ)) → IsForm (codes "filter" ∷ words) → (rules : List Rule) × Spell words rules
-filter_spells words (by_command c e) = let none = sym e ∙ named_filter words in absurd cc
-filter_spells words (by_selection rules is) = let none = is.are in absurd cc
-filter_spells words (by_filtering rules is) = spells_as words is.words rules is.are is.spell
+filter_spells words form = grind arith
 
 -- after `select` come rules, and nothing else
 pub select_first : IsBeforeRules (codes "select")
@@ -202,7 +170,7 @@ are_spelled : (words : List (List ℕ)) → AllByRecursion IsRuleWord words → 
 are_spelled [] h = ([], tt, refl)
 are_spelled (word ∷ words) h =
     let more = are_spelled words h.1 in
-    (h.0.rule ∷ more.0, (h.0.is_rule, more.1), ap (λ (w : List ℕ). w ∷ words) h.0.is ∙ ap (λ (ws : List (List ℕ)). spelled h.0.rule ∷ ws) more.2)
+    (h.0.rule ∷ more.0, (h.0.is_rule, more.1), cc (h.0.is, more.2))
 
 one_more : (words : List (List ℕ)) (word : List ℕ) → AllByRecursion IsRuleWord words → IsRuleWord word → AllByRecursion IsRuleWord (words ++ word ∷ [])
 one_more [] word h rule = (rule, tt)
@@ -232,6 +200,6 @@ expects_rule first words is h few word = (
 pub expects_no_rule : (first : List ℕ) (words : List (List ℕ)) → IsBeforeRules first → length words ≡ 64 → Expects (first ∷ words) expecteds.Nothing
 expects_no_rule first words is all word = (
   (λ b. let found = is.spells ((words ++ word ∷ []) ++ b.more) b.form in
-      let most = found.1.count.1 in omega (arith, length-append (words ++ word ∷ []) b.more, length-append words (word ∷ []))),
+      omega (arith, found.1.count.1, length-append (words ++ word ∷ []) b.more, length-append words (word ∷ []))),
   (λ h. absurd h),
 )

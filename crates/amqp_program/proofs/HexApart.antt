@@ -1,12 +1,11 @@
 -- Lower-case hex is read back, so bytes with equal hex are equal, and so are the frames of two accepted texts with equal output.
-use Rattle.std.proofs.Common.{ℕ, List, [], ◌∷◌, ◌++◌, Some, sym, ap, subst, ◌∙◌}
+use Rattle.std.proofs.Common.{ℕ, List, [], ◌∷◌, ◌++◌, Some, sym, ap, ◌∙◌}
 use Rattle.std.proofs.lemmas.List.{append_cancel_right}
 use Rattle.std.specs.Io.BufRead.{strip_last}
 use Rattle.hex.specs.Hex.{decode_of, encode_lower}
 use Rattle.hex.proofs.HexLemmas.{decode_of-encode_lower, decode_of-ok, decode_of-same}
 use Rattle.amqp_types.specs.Judging.{IsBytes}
 use Rattle.amqp_types.specs.Levels.{Level}
-use Rattle.amqp_wire.specs.Frames.{Frame}
 use Rattle.amqp_wire.specs.Spelling.{SpellsFrames}
 use Rattle.amqp_wire.proofs.Sequences.{sequence_front}
 use Rattle.amqp_wire.proofs.Strictness.{same_frames, sequence_is_plain}
@@ -24,8 +23,7 @@ equal_hex a b fits also same = decode_of-same (encode_lower a) a b (decode_of-en
 encoded : {level : Level} {text written : List ℕ} {b : Supply} (x : AcceptsHex level text written b)
     → SpellsFrames level (Some max_payload) x.bytes (frames_accepted level text written b x)
 encoded {level = level} x =
-    subst (λ (frames : List Frame). SpellsFrames level (Some max_payload) x.bytes frames)
-    (sym (sequence_front level (Some max_payload) x.bytes x.sequence.0 x.sequence.1)) x.sequence.1
+    rw (sequence_front level (Some max_payload) x.bytes x.sequence.0 x.sequence.1) x.sequence.1
 
 are_bytes : {level : Level} {text written : List ℕ} {b : Supply} (x : AcceptsHex level text written b) → IsBytes (canon_of level max_payload x.bytes)
 are_bytes {level = level} {text = text} {written = written} {b = b} x =

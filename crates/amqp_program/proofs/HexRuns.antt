@@ -1,19 +1,17 @@
 -- How a run over a hex text ends, and where the first fault of the text is.
-use Rattle.std.proofs.Common.{◌≡◌, ◌≢◌, ◌⊎◌, ℕ, ◌≤◌, List, [], ◌∷◌, ◌++◌, length, None, Some, Result, Ok, Err, IfOk, IfErr, refl, sym, ap}
-use Rattle.std.proofs.Common.{subst, ◌∙◌, inl, inr, lit≤, arith}
+use Rattle.std.proofs.Common.{◌≡◌, ◌≢◌, ◌⊎◌, ℕ, ◌≤◌, List, [], ◌∷◌, ◌++◌, length, None, Some, Result, Ok, Err, IfOk, IfErr, refl, sym, ap, ◌∙◌, inl, inr}
+use Rattle.std.proofs.Common.{arith}
 use Rattle.std.proofs.lemmas.List.{length-append}
 use Rattle.std.specs.Char.{is_ascii_hexdigit}
 use Rattle.std.specs.Io.BufRead.{strip_last}
 use Rattle.std.specs.List.{prefix_len}
-use Rattle.std.specs.declared.string.ParseError.{Infallible}
 use Rattle.hex.specs.Hex.{decode_of, encode_lower}
 use Rattle.hex.specs.declared.error.FromHexError.{FromHexError}
 use Rattle.hex.proofs.HexLemmas.{decode_of-ok}
 use Rattle.amqp_types.specs.declared.errors.NoMemory.{NoMemory}
 use Rattle.amqp_types.specs.Levels.{Level}
-use Rattle.amqp_types.specs.Judging.{Fault, Judged, past, fault, took}
+use Rattle.amqp_types.specs.Judging.{Judged}
 use Rattle.amqp_wire.specs.Frames.{Frame}
-use Rattle.amqp_wire.specs.Canonical.{canon_frames}
 use Rattle.amqp_wire.specs.Fronts.{front, place}
 use Rattle.amqp_wire.proofs.Cuts.{IsStop}
 use Rattle.amqp_wire.proofs.Sequences.{sequence_of_all, splits_of}
@@ -24,28 +22,25 @@ use Rattle.amqp_stream.specs.Calls.{call_of}
 use Rattle.amqp_stream.specs.Canonicalizing.{canon_of, AnswersExactly}
 use Rattle.amqp_stream.specs.Causes.{NoFaults, answer_at, answer_to, judge_place}
 use Rattle.amqp_stream.specs.Changes.{◌⇒◌}
-use Rattle.amqp_stream.specs.Ends.{Supply, Store, Gains, prepended, Bytes}
-use Rattle.amqp_stream.specs.Errors.{cause_of, error_for, stream_error_status, status_of}
+use Rattle.amqp_stream.specs.Ends.{Supply, Store, Gains, prepended}
+use Rattle.amqp_stream.specs.Errors.{status_of}
 use Rattle.amqp_stream.specs.Reports.{IsReportAt, unreported}
 use Rattle.amqp_stream.specs.Scripts.{KeptBytes, faultless, store_of}
-use Rattle.amqp_stream.specs.Streaming.{UnlessStoppedBy, IsExactRun}
-use Rattle.amqp_stream.specs.Transcribing.{text_plan, text_ending}
 use Rattle.amqp_stream.specs.Writing.{WritesAll}
 use Rattle.amqp_stream.proofs.Adding.{Gains-none, taken_of}
 use Rattle.amqp_stream.proofs.Exactly.{split_of, all_taken}
-use Rattle.amqp_stream.proofs.Transcribing.{text_exactly, unless}
 use Rattle.amqp_program.specs.declared.outcome.Outcome.{Outcome}
 use Rattle.amqp_program.specs.declared.outcome.Place.TheVariants as places
 use Rattle.amqp_program.specs.declared.report.Report.{Report}
 use Rattle.amqp_program.specs.declared.text.InputError.{InputError}
 use Rattle.amqp_program.specs.declared.text.InputError.TheVariants as errors
-use Rattle.amqp_program.specs.HexPlaces.{IsReportIn, IsPlaceIn, IsDecodedPlace, IsHexPlace, decoded_place}
+use Rattle.amqp_program.specs.HexPlaces.{IsReportIn, IsPlaceIn, IsHexPlace, decoded_place}
 use Rattle.amqp_program.specs.Reporting.{ReportsHex}
 use Rattle.amqp_program.specs.Reports.{Printed, printed, printed_of, report, report_of, report_at, max_payload, IsAnswerWithin}
-use Rattle.amqp_program.specs.Runs.{IsWhole, HexEnds, no_memory, read_failed, too_long, write_failed, reported, AcceptsHex}
-use Rattle.amqp_program.specs.Runs.{IsValidHex, IsDoneOrNoMemory, RunsHex}
+use Rattle.amqp_program.specs.Runs.{IsWhole, HexEnds, no_memory, read_failed, too_long, write_failed, reported, AcceptsHex, IsValidHex, IsDoneOrNoMemory}
+use Rattle.amqp_program.specs.Runs.{RunsHex}
 use Rattle.amqp_program.specs.Texts.{longest, ReadsText}
-use Rattle.amqp_program.proofs.Statuses.{answer_status_zero, not_zero, report_at-status, report_status_not_two}
+use Rattle.amqp_program.proofs.Statuses.{answer_status_zero, report_at-status, report_status_not_two}
 
 -- ---- places
 
@@ -56,96 +51,46 @@ text_place status at = record { status = status; place = Some (places.Text at) }
 -- a stream over a slice
 pub in_slice : (level : Level) (m : ℕ) (bytes source source' : List ℕ) (answer : Result (Unit {0}) (RunReport StreamError)) → m ≡ max_payload → source ≡ bytes
     → IfErr answer (IsReportAt level m (faultless source ⇒ faultless source')) → IfErr answer (IsReportIn level bytes)
-in_slice level m bytes source source' (Ok done) limit e h = tt
-in_slice level m bytes source source' (Err report) limit e h = record {
-  source = faultless source;
-  rest = faultless source';
-  left_is = ap Some e;
-  is_report = subst (λ n. IsReportAt level n (faultless source ⇒ faultless source') report) limit h;
-}
+in_slice level m bytes source source' answer limit e h = grind arith
 
 -- the place of the result, by the report of the stream
 pub in_bytes : (level : Level) (bytes : List ℕ) (answer : Result (Unit {0}) (RunReport StreamError)) (outcome : Outcome)
     → outcome.place ≡ decoded_place answer → outcome.status ≡ status_of (unreported answer) → IfErr answer (IsReportIn level bytes)
     → IsPlaceIn level bytes outcome
-in_bytes level bytes (Ok done) outcome place status h = record { well = λ zero. place; faulty = λ some. absurd (omega arith) }
-in_bytes level bytes (Err report) outcome place status h = record {
-  well = λ zero. absurd (not_zero report.error (sym status ∙ zero));
-  faulty = λ some. record { report = report; status_is = status; place_is = place; is_report = h };
-}
-
-fault_status : (bad : Fault) → 10 ≤ stream_error_status (error_for bad)
-fault_status bad = grind arith
+in_bytes level bytes answer outcome place status h = grind arith
 
 -- decoded bytes have status 0 or one from 10 on
 answer_status : (bytes : List ℕ) (judged : Judged Frame) → (status_of (answer_at bytes judged) ≡ 0) ⊎ (10 ≤ status_of (answer_at bytes judged))
-answer_status [] judged = inl refl
-answer_status (b ∷ bytes) past = inr (lit≤ tt)
-answer_status (b ∷ bytes) (fault bad) = inr (fault_status bad)
-answer_status (b ∷ bytes) (took frame used) = inl refl
+answer_status bytes judged = grind arith
 
 module _ (level : Level) (text : List ℕ) (status : ℕ) where
   unplaced : status ≤ 5 → status ≢ 4 → IsHexPlace level text status None
-  unplaced low other = record {
-    no_place = λ h. refl;
-    read_failed = λ h. absurd (other h);
-    write_failed = λ h. refl;
-    too_long = λ h. absurd (omega arith);
-    not_hex = λ h. absurd (omega arith);
-    decoded = λ h. absurd (omega arith);
-  }
+  unplaced low other = grind arith
 
   in_text : (at : ℕ) → 4 ≤ status → status ≤ 7 → status ≢ 5 → (status ≡ 4 → at ≡ length text) → (status ≡ 6 → at ≡ longest)
       → (status ≡ 7 → at ≡ prefix_len is_ascii_hexdigit (strip_last 10 text)) → IsHexPlace level text status (Some (places.Text at))
-  in_text at low high other read long digits = record {
-    no_place = λ h. absurd (omega arith);
-    read_failed = λ h. ap (λ n. Some (places.Text n)) (read h);
-    write_failed = λ h. absurd (other h);
-    too_long = λ h. ap (λ n. Some (places.Text n)) (long h);
-    not_hex = λ h. ap (λ n. Some (places.Text n)) (digits h);
-    decoded = λ h. absurd (omega arith);
-  }
+  in_text at low high other read long digits = grind arith
 
 -- what is reported of a text that is hex has its place
 pub hex_placed : (level : Level) (text bytes : List ℕ) (result : Result Report NoMemory) → decode_of (strip_last 10 text) ≡ Ok bytes
     → IfOk result (λ r. printed_of r ≡ report_at level bytes) → IfOk result (λ r. IsPlaceIn level bytes r.outcome)
     → IfOk result (λ r. IsHexPlace level text r.outcome.status r.outcome.place)
-hex_placed level text bytes (Err error) e printed h = tt
-hex_placed level text bytes (Ok report) e printed h =
-    let status = report.outcome.status in
-    let same : status ≡ status_of (answer_to level max_payload bytes) = ap (λ (p : Printed). p.status) printed ∙ report_at-status level bytes in
-    elim (answer_status (place level (Some max_payload) bytes) (judge_place level max_payload bytes)) [
-      | inl zero ↦ (let none : status ≡ 0 = same ∙ zero in subst (IsHexPlace level text status) (sym (h.well none))
-          (unplaced level text status (omega arith) (λ four. absurd (omega arith))))
-      | inr some ↦ (let high : 10 ≤ status = omega (arith, some, same) in record {
-        no_place = λ below. absurd (omega arith);
-        read_failed = λ is. absurd (omega arith);
-        write_failed = λ is. absurd (omega arith);
-        too_long = λ is. absurd (omega arith);
-        not_hex = λ is. absurd (omega arith);
-        decoded = λ above. subst (λ (d : Result (List ℕ) FromHexError). IsDecodedPlace level d status report.outcome.place) (sym e) (h.faulty (omega arith));
-      })
-    ]
+hex_placed level text bytes result e printed h = grind (arith, report_at-status, answer_status, unplaced)
 
 -- what is reported of one that is not has its place in the text
 pub bad_hex_placed : (level : Level) (text digits : List ℕ) (n : ℕ) (outcome : Outcome) → outcome ≡ text_place 7 n
     → digits ≡ strip_last 10 text → n ≡ prefix_len is_ascii_hexdigit digits → IsHexPlace level text outcome.status outcome.place
-bad_hex_placed level text digits n outcome is e count = subst (λ (o : Outcome). IsHexPlace level text o.status o.place) (sym is)
-    (in_text level text 7 n (lit≤ tt) (lit≤ tt) (λ h. absurd (omega arith)) (λ h. absurd (omega arith)) (λ h. absurd (omega arith))
-    (λ h. count ∙ ap (λ (xs : List ℕ). prefix_len is_ascii_hexdigit xs) e))
+bad_hex_placed level text digits n outcome is e count = grind arith
 
 -- ---- what status 0 says
 
 nothing_left : (bytes : List ℕ) (j : Judged Frame) → IsStop j → answer_at bytes j ≡ Ok tt → bytes ≡ []
-nothing_left [] j stop e = refl
-nothing_left (b ∷ bytes) past stop e = absurd cc
-nothing_left (b ∷ bytes) (fault bad) stop e = absurd cc
-nothing_left (b ∷ bytes) (took f n) stop e = absurd stop
+nothing_left bytes j stop e = grind arith
 
 report_at-text : (level : Level) (bytes : List ℕ) → answer_to level max_payload bytes ≡ Ok tt
     → (report_at level bytes).text ≡ encode_lower (canon_of level max_payload bytes) ++ 10 ∷ []
 unfolding report_at
-report_at-text level bytes e = ap (λ r. (printed (encode_lower (canon_of level max_payload bytes) ++ 10 ∷ []) r).text) e
+report_at-text level bytes e = rw e refl
 
 accepted : (level : Level) (text written : List ℕ) (b : Supply) (d : Result (List ℕ) FromHexError) → decode_of (strip_last 10 text) ≡ d
     → IsWhole text b → (report_of level d).status ≡ 0 → written ≡ (report_of level d).text → AcceptsHex level text written b
@@ -170,17 +115,10 @@ module _ {level : Level} {text written : List ℕ} {a b : Supply} {k l : Store} 
   -- with a status of the ends or of memory, or as the report says
   early_or_reported : HexEnds level text written a b k l status
       → (3 ≤ status) ⊎ ((status ≡ (report level text).status) × IsWhole text b × (written ≡ (report level text).text))
-  early_or_reported (no_memory s w few) = inl (omega arith)
-  early_or_reported (read_failed s w few r) = inl (omega arith)
-  early_or_reported (too_long s w h) = inl (omega arith)
-  early_or_reported (write_failed s whole r p) = inl (omega arith)
-  early_or_reported (reported s whole w) = inr (s, whole, w)
+  early_or_reported ends = grind arith
 
   accepts : HexEnds level text written a b k l status → status ≡ 0 → AcceptsHex level text written b
-  accepts ends zero = elim (early_or_reported ends) [
-    | inl early ↦ absurd (omega (arith, early, zero))
-    | inr r ↦ accepted level text written b (decode_of (strip_last 10 text)) refl r.1 (sym r.0 ∙ zero) r.2
-  ]
+  accepts ends zero = grind (arith, early_or_reported, accepted)
 
   not_two : HexEnds level text written a b k l status → status ≢ 2
   not_two ends two = elim (early_or_reported ends) [
@@ -234,58 +172,45 @@ module _ (level : Level) (a b : Supply) (k : Store) where
   -- a read failed
   pub hex_read_fault : (after : ℕ) (outcome : Outcome) → outcome ≡ text_place 4 after → ReadsText a b (Err (errors.ReadFault after))
       → ReportsHex level a b k k outcome
-  hex_read_fault after outcome e r = subst (ReportsHex level a b k k) (sym e) (hex_reports level (text_place 4 after) r (Gains-none k)
-      (read_failed refl refl r.ends.1 r.ends.2)
-      (in_text level r.taken 4 after (lit≤ tt) (lit≤ tt) (λ h. absurd (omega arith)) (λ h. r.ends.0) (λ h. absurd (omega arith)) (λ h. absurd (omega arith))))
+  hex_read_fault after outcome e r =
+      rw e (hex_reports level (text_place 4 after) r (Gains-none k) (read_failed refl refl r.ends.1 r.ends.2)
+      (in_text level r.taken 4 after (omega arith) (omega arith) (omega arith) (λ h. r.ends.0) (λ h. absurd (omega arith)) (λ h. absurd (omega arith))))
 
   -- the text is too long
   pub hex_too_long : ReadsText a b (Err errors.TooLong) → ReportsHex level a b k k (text_place 6 longest)
   hex_too_long r =
       hex_reports level (text_place 6 longest) r (Gains-none k) (too_long refl refl r.ends)
-      (in_text level r.taken 6 longest (lit≤ tt) (lit≤ tt) (λ h. absurd (omega arith)) (λ h. absurd (omega arith)) (λ h. refl) (λ h. absurd (omega arith)))
+      (in_text level r.taken 6 longest (omega arith) (omega arith) (omega arith) (λ h. absurd (omega arith)) (λ h. refl) (λ h. absurd (omega arith)))
 
   -- memory ran out as the text was read
   pub hex_no_memory : ReadsText a b (Err errors.NoMemory) → ReportsHex level a b k k (unplaced_as 3)
   hex_no_memory r =
-      hex_reports level (unplaced_as 3) r (Gains-none k) (no_memory refl refl r.ends) (unplaced level r.taken 3 (lit≤ tt) (λ h. absurd (omega arith)))
+      hex_reports level (unplaced_as 3) r (Gains-none k) (no_memory refl refl r.ends) (unplaced level r.taken 3 (omega arith) (omega arith))
 
   -- memory ran out on the way to the report
   pub hex_no_report : (text : List ℕ) (outcome : Outcome) → outcome ≡ unplaced_as 3 → ReadsText a b (Ok text) → ReportsHex level a b k k outcome
-  hex_no_report text outcome e r = subst (ReportsHex level a b k k) (sym e) (hex_reports level (unplaced_as 3) r (Gains-none k)
-      (no_memory refl refl r.ends.1) (unplaced level r.taken 3 (lit≤ tt) (λ h. absurd (omega arith))))
+  hex_no_report text outcome e r = rw e (hex_reports level (unplaced_as 3) r (Gains-none k)
+      (no_memory refl refl r.ends.1) (unplaced level r.taken 3 (omega arith) (omega arith)))
 
 module _ (level : Level) (a b : Supply) (k l : Store) (text out : List ℕ) where
   -- the report was written whole
   pub hex_done : (outcome : Outcome) (u : Unit {0}) → ReadsText a b (Ok text) → printed_as out outcome.status ≡ report level text
       → IsHexPlace level text outcome.status outcome.place → WritesAll k l out (Ok u) → ReportsHex level a b k l outcome
   hex_done outcome u r e place w =
-      let all : printed_as out outcome.status ≡ report level r.taken = e ∙ ap (report level) r.ends.0 in
+      let all = rw r.ends.0 at e in
       hex_reports level outcome r w.gains
       (reported (ap (λ p. p.status) all) (record { few = r.ends.1; end = r.ends.2 }) (w.ok ∙ ap (λ p. p.text) all))
-      (subst (λ (xs : List ℕ). IsHexPlace level xs outcome.status outcome.place) r.ends.0 place)
+      (rw r.ends.0 at place)
 
   -- the report was not written whole
   pub hex_write_fault : (status : ℕ) (outcome : Outcome) (f : SinkFault) → outcome ≡ unplaced_as 5 → ReadsText a b (Ok text)
       → printed_as out status ≡ report level text → WritesAll k l out (Err f) → ReportsHex level a b k l outcome
-  hex_write_fault status outcome f is r e w =
-      let all : printed_as out status ≡ report level r.taken = e ∙ ap (report level) r.ends.0 in
-      subst (ReportsHex level a b k l) (sym is) (hex_reports level (unplaced_as 5) r w.gains
-      (write_failed refl (record { few = r.ends.1; end = r.ends.2 }) w.err (w.prefix.0, w.prefix.1 ∙ ap (λ p. p.text) all))
-      (unplaced level r.taken 5 (lit≤ tt) (λ h. absurd (omega arith))))
+  hex_write_fault status outcome f is r e w = grind arith
 
 -- ---- bytes in memory
-
-answer_within : (m : ℕ) (level : Level) (bytes written : List ℕ) (r : Result (Unit {0}) StreamError)
-    → UnlessStoppedBy {E = Infallible} (text_ending r) (IsExactRun {E = Infallible} (text_plan canon_frames level m) m bytes written (text_ending r))
-    → IsAnswerWithin m level bytes written r
-answer_within m level bytes written (Ok done) h = text_exactly canon_frames level m bytes written (Ok done) h
-answer_within m level bytes written (Err error) h = unless (cause_of error) (text_exactly canon_frames level m bytes written (Err error)) h
 
 -- what a sink that held nothing took is what was written
 pub answered : (level : Level) (m n budget : ℕ) (source source' : Supply) (bytes : List ℕ) (old new : KeptBytes)
     (r : Result (Unit {0}) StreamError) → m ≡ n → old ≡ record { bytes = []; faults = 0 }
     → AnswersExactly level (call_of m budget (source ⇒ source') (store_of old ⇒ store_of new)) bytes r → IsAnswerWithin n level bytes new.bytes r
-answered level m n budget source source' bytes old new r limit empty h =
-    let all : Bytes new.bytes ≡ Bytes (old.bytes ++ h.written) = h.gains.bytes in
-    let written : new.bytes ≡ h.written = (let same : new.bytes ≡ old.bytes ++ h.written = cc in same ∙ ap (λ s. s.bytes ++ h.written) empty) in
-    rw (sym limit, written) (answer_within m level bytes h.written r h.answer)
+answered level m n budget source source' bytes old new r limit empty h = grind arith

@@ -1,5 +1,5 @@
 -- How a run of `make` goes: what is made is valid input, and the sink that counts never fails.
-use Rattle.std.proofs.Common.{◌≡◌, ℕ, ◌+◌, ◌<◌, ◌≤◌, List, ◌++◌, length, ◌⊎◌, Result, Err, refl, sym, ap, subst, ◌∙◌, inl, inr, arith}
+use Rattle.std.proofs.Common.{◌≡◌, ℕ, ◌+◌, ◌<◌, ◌≤◌, List, ◌++◌, length, ◌⊎◌, Result, Err, refl, sym, ap, ◌∙◌, inl, inr, arith}
 use Rattle.std.proofs.lemmas.List.{length-append}
 use Rattle.amqp_types.specs.Levels.{plain}
 use Rattle.amqp_stream.specs.declared.errors.StreamError.{StreamError}
@@ -8,7 +8,7 @@ use Rattle.amqp_stream.specs.Changes.{◌⇒◌}
 use Rattle.amqp_stream.specs.Calls.{call_of}
 use Rattle.amqp_stream.specs.Ends.{last}
 use Rattle.amqp_stream.specs.Scripts.{faultless, Counted, count_of}
-use Rattle.amqp_stream.specs.Causes.{IsSequence, NeverBegan}
+use Rattle.amqp_stream.specs.Causes.{NeverBegan}
 use Rattle.amqp_stream.specs.Runs.{CanonicalRun}
 use Rattle.amqp_stream.specs.Made.{made, most_frames}
 use Rattle.amqp_stream.proofs.MadeFrames.{all_made}
@@ -27,8 +27,8 @@ few_counted : (budget : ℕ) (bytes rest : List ℕ) (k l : Counted) (r : Result
     → Ran budget bytes rest k l r → l.total ≤ k.total + length bytes
 few_counted budget bytes rest k l r (inl ran) =
     let c = ran.stream in
-    let all : bytes ≡ c.run.taken ++ rest = let same = c.run.takes.bytes in cc in
-    let total : l.total ≡ k.total + length c.run.written = let same = c.run.gains.bytes in cc in
+    let all : bytes ≡ c.run.taken ++ rest = cc (c.run.takes.bytes) in
+    let total : l.total ≡ k.total + length c.run.written = cc (c.run.gains.bytes) in
     omega (arith, ap length all, length-append c.run.taken rest, c.no_longer)
 few_counted budget bytes rest k l r (inr never) =
     omega (arith, ap (λ s. s.total) never.sink_stays)
@@ -38,13 +38,13 @@ pub only_no_memory : (n budget : ℕ) (bytes rest : List ℕ) (k l : Counted) (r
     → bytes ≡ made n → budget ≡ length (made n) + 1 → k ≡ record { total = 0; faults = 0 } → Ran budget bytes rest k l r
     → (l.total < last → l.faults ≡ 0) → r ≡ Err error → error ≡ errors.NoMemory
 only_no_memory n budget bytes rest k l r error few is enough start ran below failed =
-    let len : length bytes ≡ length (made n) = ap length is in
-    let zero : k.total ≡ 0 = ap (λ s. s.total) start in
-    let none : k.faults ≡ 0 = ap (λ s. s.faults) start in
+    let len = ap length is in
+    let zero : k.total ≡ 0 = rw start refl in
+    let none : k.faults ≡ 0 = rw start refl in
     let total : l.total < last = omega (arith, few_counted budget bytes rest k l r ran, made-short n few) in
     let sequence = all_made n in
-    complete_of (λ ok. let both = sym ok ∙ failed in absurd cc) (λ never. let both = sym never.no_memory ∙ failed in cc) ran bytes refl
-    (record { sequence = subst (IsSequence plain max_payload) (sym is) (sequence.frames, sequence.spelled); enough = omega arith }) (record {
+    complete_of (λ ok. absurd cc) (λ never. cc (never.no_memory)) ran bytes refl
+    (record { sequence = rw is (sequence.frames, sequence.spelled); enough = omega arith }) (record {
       source = refl;
       source_below = omega arith;
       sink = below total ∙ sym none;

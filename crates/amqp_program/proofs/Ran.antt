@@ -1,6 +1,5 @@
 -- Runs of the commands over a stream: what holds of a call that ran, or never began since memory ran out.
-use Rattle.std.proofs.Common.{◌≡◌, ◌⊎◌, ℕ, List, [], None, Some, Result, Ok, Err, IfErr, inl, inr, refl, sym, ap, subst, ◌∙◌}
-use Rattle.std.proofs.Common.{Bool}
+use Rattle.std.proofs.Common.{arith, ◌≡◌, ◌⊎◌, ℕ, List, [], None, Some, Result, Ok, Err, IfErr, inl, inr, refl, ap, subst, ◌∙◌, Bool}
 use mathlib.Core.Path.{fun_ext}
 use Rattle.std.specs.declared.string.ParseError.{Infallible}
 use Rattle.amqp_types.specs.Levels.{plain}
@@ -18,8 +17,8 @@ use Rattle.amqp_stream.specs.Ends.{Supply, Store, Gains}
 use Rattle.amqp_stream.specs.Errors.{status_of}
 use Rattle.amqp_stream.specs.Reports.{CanonicalReport, IsReportAt, NeverBeganReport, unreported}
 use Rattle.amqp_stream.specs.Runs.{Claims, Runs}
-use Rattle.amqp_stream.specs.Streaming.{Plan, HasCause, HasWritten, IsExactRun, StreamsExactly, UnlessStoppedBy, plan_of}
-use Rattle.amqp_stream.specs.Transcribing.{Transcribes, text_plan, text_ending}
+use Rattle.amqp_stream.specs.Streaming.{Plan, StreamsExactly, plan_of}
+use Rattle.amqp_stream.specs.Transcribing.{text_plan, text_ending}
 use Rattle.amqp_stream.proofs.Adding.{Gains-none}
 use Rattle.amqp_stream.proofs.Transcribing.{never_out_of_memory}
 use Rattle.amqp_select.specs.declared.rule.Rule.{Rule}
@@ -31,11 +30,10 @@ use Rattle.amqp_select.proofs.Covered.{decides_same, kept_same}
 use Rattle.amqp_in_turn.specs.declared.errors.TurnError.{TurnError}
 use Rattle.amqp_in_turn.specs.declared.errors.TurnError.TheVariants as turns
 use Rattle.amqp_in_turn.specs.Reports.{TurnReport, IsTurnReport}
-use Rattle.amqp_in_turn.specs.RunsInTurn.{GoesExactly, IsExactlyInTurn, IsOkOrNoMemory as IsTurnedOrNoMemory, UnlessStoppedInTurn}
+use Rattle.amqp_in_turn.specs.RunsInTurn.{GoesExactly, IsOkOrNoMemory as IsTurnedOrNoMemory}
 use Rattle.amqp_filter.specs.Filtering.{kept_bytes}
 use Rattle.amqp_filter.specs.Stepping.{is_method_type}
 use Rattle.amqp_lines.specs.declared.errors.UndumpError.{UndumpError}
-use Rattle.amqp_lines.specs.declared.errors.UndumpError.TheVariants as undumps
 use Rattle.amqp_lines.specs.declared.report.UndumpReport.{UndumpReport}
 use Rattle.amqp_lines.specs.Dumping.{dumping, DumpReport, IsDumpReport}
 use Rattle.amqp_lines.specs.Undumping.{UndumpRun, IsOkOrNoMemory as IsUndumpedOrNoMemory}
@@ -53,87 +51,70 @@ use Rattle.amqp_program.proofs.Statuses.{answer_status_three, answer_status_zero
 
 module _ {S K : Type 0} {supply : S → Supply} {store : K → Store} {call : Call S K} {claims : Claims} {Never : Type 0} where
   stream_of : {Still : Type 0} → (Never → Still) → Runs supply store call claims ⊎ Never → claims.Goes ⊎ Still
-  stream_of f (inl run) = inl run.stream
-  stream_of f (inr never) = inr (f never)
+  stream_of f ran = grind arith
 
   exact_of : (Never → (input : List ℕ) → claims.Exactly input) → Runs supply store call claims ⊎ Never
       → (input : List ℕ) → (supply call.source.old).left ≡ Some input → claims.Exactly input
-  exact_of f (inl run) input left = run.exact input left
-  exact_of f (inr never) input left = f never input
+  exact_of f ran input left = grind arith
 
   -- what is so of a run that was done, and of one that never began, is so where all was accepted
   pub complete_of : {Ended : Type 0} → (claims.IsDone → Ended) → (Never → Ended)
       → Runs supply store call claims ⊎ Never → (input : List ℕ) → (supply call.source.old).left ≡ Some input → claims.Accepts input
       → NoFaults (supply call.source.old ⇒ supply call.source.new) (store call.sink.old ⇒ store call.sink.new) → Ended
-  complete_of f g (inl run) input left accepted faultless = f (run.complete input left accepted faultless)
-  complete_of f g (inr never) input left accepted faultless = g never
+  complete_of f g ran input left accepted faultless = grind arith
 
 -- without where it ended
 unreported_ran : {P R N Q : Type 0} → (P × R) ⊎ (N × Q) → P ⊎ N
-unreported_ran (inl h) = inl h.0
-unreported_ran (inr h) = inr h.0
+unreported_ran ran = grind arith
 
 -- one of two is not so
-other_of : {P Q Not : Type 0} → (P → Not → ⊥) → P ⊎ Q → Not → Q
-other_of f (inl h) such = absurd (f h such)
-other_of f (inr h) such = h
+other_of : {P Q Not : Type 0} → P ⊎ Q → (P → Not → ⊥) → Not → Q
+other_of either f such = grind arith
 
 -- where it ended
 placed : {S K E P : Type 0} (IsReport : RunReport E → Type 0) {no_memory : E} {source source' : S} {sink sink' : K}
     (answer : Result (Unit {0}) (RunReport E))
     → (P × IfErr answer IsReport) ⊎ NeverBeganReport (source ⇒ source') (sink ⇒ sink') no_memory answer
     → IsPlaceBy (OrAtStart no_memory IsReport) (unreported answer) (place_of answer)
-placed IsReport (Ok done) ran = tt
-placed IsReport (Err report) (inl h) = inl h.1
-placed IsReport (Err report) (inr h) = inr ((let same = h.0.no_memory in cc), h.1)
+placed IsReport answer ran = grind arith
 
 module _ {S K E : Type 0} (supply : S → Supply) (store : K → Store) {source source' : S} {sink sink' : K} {error : E} {r : Result (Unit {0}) E}
     (never : NeverBegan (source ⇒ source') (sink ⇒ sink') error r) where
   never_at : NeverBegan (supply source ⇒ supply source') (store sink ⇒ store sink') error r
-  never_at = record { no_memory = never.no_memory; source_stays = ap supply never.source_stays; sink_stays = ap store never.sink_stays }
+  never_at = grind arith
 
   never_gains : Gains (store sink) (store sink') []
-  never_gains = subst (λ x. Gains (store sink) (store x) []) (sym never.sink_stays) (Gains-none (store sink))
+  never_gains = rw never.sink_stays (Gains-none (store sink))
 
 -- a stream that ended well or ran out of memory has the status 0 or 3
 stream_done : (r : Result (Unit {0}) StreamError) → IsOkOrNoMemory r → IsDoneOrNoMemory (status_of r)
-stream_done (Ok done) h = inl refl
-stream_done (Err errors.NoMemory) h = inr refl
-stream_done (Err error) h = absurd h
+stream_done r h = grind arith
 
 turn_done : (r : Result (Unit {0}) TurnError) → IsTurnedOrNoMemory r → IsDoneOrNoMemory (turn_status_of r)
-turn_done (Ok done) h = inl refl
-turn_done (Err (turns.Stream errors.NoMemory)) h = inr refl
-turn_done (Err (turns.Stream error)) h = absurd h
-turn_done (Err (turns.BadContent fault)) h = absurd h
-turn_done (Err turns.OpenContent) h = absurd h
+turn_done r h = grind arith
 
 undump_done : (r : Result (Unit {0}) UndumpError) → IsUndumpedOrNoMemory r → IsDoneOrNoMemory (undump_status_of r)
-undump_done (Ok done) h = inl refl
-undump_done (Err undumps.NoMemory) h = inr refl
-undump_done (Err error) h = absurd h
+undump_done r h = grind arith
 
 -- what status 0 of `raw` says
 accepted : (a b : Supply) (k l : Store) (answer : Result (Unit {0}) StreamError)
     → Canonicalizes plain (raw_call a b k l) answer ⊎ NeverBegan (a ⇒ b) (k ⇒ l) errors.NoMemory answer → answer ≡ Ok tt → AcceptsRaw a b k l
 accepted a b k l answer (inl c) e =
-    let plan : Plan Infallible = text_plan canon_frames plain max_payload in
-    let cause = subst (λ r. HasCause plan (raw_call a b k l) c.run.taken c.run.written (text_ending r)) e c.run.cause in
-    let writes = subst (λ r. HasWritten plan c.run.taken c.run.written (text_ending r)) e c.run.writes in
+    let cause = rw e at c.run.cause in
+    let writes = rw e at c.run.writes in
     record {
       taken = c.run.taken;
       reads = c.run.reads;
       takes = c.run.takes;
       end = cause.1;
       sequence = cause.0;
-      canonical = subst (λ (xs : List ℕ). Gains k l xs) writes.text_is c.run.gains;
+      canonical = rw writes.text_is at c.run.gains;
     }
-accepted a b k l answer (inr never) e = let other = sym never.no_memory ∙ e in absurd cc
+accepted a b k l answer (inr never) e = absurd (cc (never.no_memory))
 
 place_lines : (IsReport : UndumpReport → Type 0) (answer : Result (Unit {0}) UndumpReport)
     → IfErr answer IsReport → IsLineBy IsReport (unreported_lines answer) (line_of answer)
-place_lines IsReport (Ok done) h = tt
-place_lines IsReport (Err report) h = h
+place_lines IsReport answer h = grind arith
 
 -- ---- the commands
 
@@ -144,7 +125,7 @@ module _ {S K : Type 0} (supply : S → Supply) (store : K → Store) (source so
   never_exactly plan never bytes = record {
     written = [];
     gains = never_gains supply store never;
-    answer = subst (λ x. UnlessStoppedBy {E = Infallible} (text_ending x) (IsExactRun plan max_payload bytes [] (text_ending x))) (sym never.no_memory) tt;
+    answer = rw never.no_memory tt;
   }
 
   -- the same of a stream whose frames have to be in turn
@@ -154,7 +135,7 @@ module _ {S K : Type 0} (supply : S → Supply) (store : K → Store) (source so
   never_in_turn text never bytes = record {
     written = [];
     gains = never_gains supply store never;
-    answer = subst (λ x. UnlessStoppedInTurn x (IsExactlyInTurn text max_payload bytes [] x)) (sym never.no_memory) tt;
+    answer = rw never.no_memory tt;
   }
 
   -- a run of `raw` or `lent`, with where it ended
@@ -165,12 +146,8 @@ module _ {S K : Type 0} (supply : S → Supply) (store : K → Store) (source so
   raw_reports answer outcome e reported =
       let ran = unreported_ran reported in
       let stream = stream_of (never_at supply store) ran in
-      let memory =
-      other_of
-      (λ (goes : Canonicalizes plain (raw_call (supply source) (supply source') (store sink) (store sink')) (unreported answer)).
-      never_out_of_memory canon_frames goes.run)
-      stream in
-      subst (ReportsRaw (supply source) (supply source') (store sink) (store sink')) (sym e) (record {
+      let memory = other_of stream (λ goes. never_out_of_memory canon_frames goes.run) in
+      rw e (record {
         run = record {
           answer = unreported answer;
           status_is = refl;
@@ -190,7 +167,7 @@ module _ {S K : Type 0} (supply : S → Supply) (store : K → Store) (source so
       → ReportsDump (supply source) (supply source') (store sink) (store sink') outcome
   dump_reports answer outcome e reported =
       let ran = unreported_ran reported in
-      subst (ReportsDump (supply source) (supply source') (store sink) (store sink')) (sym e) (record {
+      rw e (record {
         run = record {
           answer = unreported answer;
           status_is = refl;
@@ -206,7 +183,7 @@ module _ {S K : Type 0} (supply : S → Supply) (store : K → Store) (source so
       → UndumpRun supply store (raw_call source source' sink sink') (unreported_lines answer)
       → IfErr answer (IsUndumpReport (raw_call (supply source) (supply source') (store sink) (store sink')))
       → ReportsUndump (supply source) (supply source') (store sink) (store sink') outcome
-  undump_reports answer outcome e run report = subst (ReportsUndump (supply source) (supply source') (store sink) (store sink')) (sym e) (record {
+  undump_reports answer outcome e run report = rw e (record {
     run = record {
       answer = unreported_lines answer;
       status_is = refl;
@@ -217,51 +194,45 @@ module _ {S K : Type 0} (supply : S → Supply) (store : K → Store) (source so
     place = place_lines (IsUndumpReport (raw_call (supply source) (supply source') (store sink) (store sink'))) answer report;
   })
 
--- a run of `select`, with where it ended
-pub select_reports : {S K : Type 0} (rules : List Rule) (supply : S → Supply) (store : K → Store)
-    (source source' : S) (sink sink' : K) (answer : Result (Unit {0}) (RunReport StreamError)) (outcome : Outcome) → outcome ≡ streamed answer
-    → SelectReport rules supply store (raw_call source source' sink sink') answer
-    ⊎ NeverBeganReport (source ⇒ source') (sink ⇒ sink') errors.NoMemory answer
-    → ReportsSelect rules (supply source) (supply source') (store sink) (store sink') outcome
-select_reports rules supply store source source' sink sink' answer outcome e reported =
-    let ran = unreported_ran reported in
-    let stream = stream_of (never_at supply store) ran in
-    subst (ReportsSelect rules (supply source) (supply source') (store sink) (store sink')) (sym e) (record {
-      run = record {
-        answer = unreported answer;
-        status_is = refl;
-        stream = stream;
-        no_memory = λ three.
-            other_of
-            (λ (goes : Transcribes (selection rules) plain (raw_call (supply source) (supply source') (store sink) (store sink')) (unreported answer)).
-            never_out_of_memory (selection rules) goes)
-            stream (answer_status_three (unreported answer) three);
-        exact = exact_of (never_exactly supply store source source' sink sink' (text_plan (selection rules) plain max_payload)) ran;
-        complete = complete_of (λ ok. inl (ap status_of ok)) (λ never. inr (ap status_of never.no_memory)) ran;
-      };
-      place = placed (IsReportAt plain max_payload (supply source ⇒ supply source')) answer reported;
-    })
+  -- a run of `select`, with where it ended
+  pub select_reports : (rules : List Rule) (answer : Result (Unit {0}) (RunReport StreamError)) (outcome : Outcome) → outcome ≡ streamed answer
+      → SelectReport rules supply store (raw_call source source' sink sink') answer
+      ⊎ NeverBeganReport (source ⇒ source') (sink ⇒ sink') errors.NoMemory answer
+      → ReportsSelect rules (supply source) (supply source') (store sink) (store sink') outcome
+  select_reports rules answer outcome e reported =
+      let ran = unreported_ran reported in
+      let stream = stream_of (never_at supply store) ran in
+      rw e (record {
+        run = record {
+          answer = unreported answer;
+          status_is = refl;
+          stream = stream;
+          no_memory = λ three. other_of stream (λ goes. never_out_of_memory (selection rules) goes) (answer_status_three (unreported answer) three);
+          exact = exact_of (never_exactly (text_plan (selection rules) plain max_payload)) ran;
+          complete = complete_of (λ ok. inl (ap status_of ok)) (λ never. inr (ap status_of never.no_memory)) ran;
+        };
+        place = placed (IsReportAt plain max_payload (supply source ⇒ supply source')) answer reported;
+      })
 
--- a run of `recut` or `filter`, with where it ended
-pub turn_reports : {S K : Type 0} (text : List Frame → List ℕ) (wants : AMQPFrameType → Bool) (supply : S → Supply)
-    (store : K → Store) (source source' : S) (sink sink' : K) (answer : Result (Unit {0}) (RunReport TurnError)) (outcome : Outcome)
-    → outcome ≡ turned answer
-    → TurnReport text wants supply store (raw_call source source' sink sink') answer
-    ⊎ NeverBeganReport (source ⇒ source') (sink ⇒ sink') (turns.Stream errors.NoMemory) answer
-    → ReportsInTurn text wants (supply source) (supply source') (store sink) (store sink') outcome
-turn_reports text wants supply store source source' sink sink' answer outcome e reported =
-    let ran = unreported_ran reported in
-    subst (ReportsInTurn text wants (supply source) (supply source') (store sink) (store sink')) (sym e) (record {
-      run = record {
-        answer = unreported answer;
-        status_is = refl;
-        stream = stream_of (never_at supply store) ran;
-        exact = exact_of (never_in_turn supply store source source' sink sink' text) ran;
-        complete = λ input left valid whole none.
-            complete_of (turn_done (unreported answer)) (λ never. inr (ap turn_status_of never.no_memory)) ran input left (valid, whole) none;
-      };
-      place = placed (IsTurnReport wants max_payload (supply source ⇒ supply source')) answer reported;
-    })
+  -- a run of `recut` or `filter`, with where it ended
+  pub turn_reports : (text : List Frame → List ℕ) (wants : AMQPFrameType → Bool) (answer : Result (Unit {0}) (RunReport TurnError)) (outcome : Outcome)
+      → outcome ≡ turned answer
+      → TurnReport text wants supply store (raw_call source source' sink sink') answer
+      ⊎ NeverBeganReport (source ⇒ source') (sink ⇒ sink') (turns.Stream errors.NoMemory) answer
+      → ReportsInTurn text wants (supply source) (supply source') (store sink) (store sink') outcome
+  turn_reports text wants answer outcome e reported =
+      let ran = unreported_ran reported in
+      rw e (record {
+        run = record {
+          answer = unreported answer;
+          status_is = refl;
+          stream = stream_of (never_at supply store) ran;
+          exact = exact_of (never_in_turn text) ran;
+          complete = λ input left valid whole none.
+              complete_of (turn_done (unreported answer)) (λ never. inr (ap turn_status_of never.no_memory)) ran input left (valid, whole) none;
+        };
+        place = placed (IsTurnReport wants max_payload (supply source ⇒ supply source')) answer reported;
+      })
 
 -- ---- rules that words stand for
 
@@ -284,12 +255,12 @@ module _ (rules : List Rule) (a : Supply) (k : Store) (outcome : Outcome) (e : o
   -- memory ran out before a run of `select` began
   pub select_without_memory : ReportsSelect rules a a k k outcome
   select_without_memory =
-      select_reports rules (λ b. b) (λ l. l) a a k k (Err (record { error = errors.NoMemory; place = 0; channel = None })) outcome e
+      select_reports (λ b. b) (λ l. l) a a k k rules (Err (record { error = errors.NoMemory; place = 0; channel = None })) outcome e
       (inr (record { no_memory = refl; source_stays = refl; sink_stays = refl }, record { place_is = refl; no_channel = refl }))
 
   -- the same of `filter`
   pub filter_without_memory : ReportsFilter rules a a k k outcome
   filter_without_memory =
-      turn_reports (kept_bytes (decides rules)) is_method_type (λ b. b) (λ l. l) a a k k
+      turn_reports (λ b. b) (λ l. l) a a k k (kept_bytes (decides rules)) is_method_type
       (Err (record { error = turns.Stream errors.NoMemory; place = 0; channel = None })) outcome e
       (inr (record { no_memory = refl; source_stays = refl; sink_stays = refl }, record { place_is = refl; no_channel = refl }))

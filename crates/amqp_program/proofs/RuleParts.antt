@@ -1,7 +1,6 @@
 -- Which words are no rules, and which part of one is at fault.
 use Rattle.std.proofs.Common.{◌≡◌, ◌≢◌, ◌⊎◌, ℕ, ◌+◌, ◌-◌, ◌<◌, ◌≤◌, List, [], ◌∷◌, ◌++◌, length, map, take, drop, get_or, ◌==◌, true, false, Some, Result, Ok}
-use Rattle.std.proofs.Common.{Err, refl, sym, ap, subst, ◌∙◌}
-use Rattle.std.proofs.Common.{inl, inr, lit<, arith, append_assoc}
+use Rattle.std.proofs.Common.{Err, refl, sym, ap, ◌∙◌, inl, inr, lit<, arith, append_assoc}
 use Rattle.std.specs.Prelude.{slice_index, min, String, string_bytes}
 use Rattle.std.specs.declared.alloc.Global.{Global}
 use Rattle.std.proofs.lemmas.Bool.{cases_lt}
@@ -29,38 +28,23 @@ pub record PartSoFar (word : List ℕ) (start stop : ℕ) : Type 0 where
   pub before : (start ≡ 0) ⊎ ((1 ≤ start) × (slice_index word (start - 1) ≡ 44) × IsRuleWord (take (start - 1) word))
   pub one_part : (k : ℕ) → start ≤ k → k < stop → slice_index word k ≢ 44
 
-less_one : (n : ℕ) → n ≡ (n + 1) - 1
-less_one n = omega arith
-
 module _ (word : List ℕ) where
   -- at the front of a word its first part begins
   pub part_begins : PartSoFar word 0 0
-  part_begins = record { begins = omega arith; before = inl refl; one_part = λ k low high. absurd (omega arith) }
+  part_begins = grind arith
 
   -- after a comma that ends a rule the next part begins
   pub next_part : (stop : ℕ) → slice_index word stop ≡ 44 → IsRuleWord (take stop word) → PartSoFar word (stop + 1) (stop + 1)
-  next_part stop comma rule = record {
-    begins = omega arith;
-    before = inr (omega arith, subst (λ n. slice_index word n ≡ 44) (less_one stop) comma, subst (λ n. IsRuleWord (take n word)) (less_one stop) rule);
-    one_part = λ k low high. absurd (omega arith);
-  }
+  next_part stop comma rule = grind arith
 
   module _ (start stop : ℕ) (h : PartSoFar word start stop) where
     -- a byte that is no comma belongs to the part before it
     pub part_goes_on : slice_index word stop ≢ 44 → PartSoFar word start (stop + 1)
-    part_goes_on other = record {
-      begins = omega (arith, h.begins);
-      before = h.before;
-      one_part = λ k low high. elim (cases_lt k stop) [
-        | inl below ↦ h.one_part k low below
-        | inr above ↦ (let e : k ≡ stop = omega arith in subst (λ n. slice_index word n ≢ 44) (sym e) other)
-      ];
-    }
+    part_goes_on other = grind arith
 
     -- a part that a comma ends, and with which the word is no rule, is at fault
     pub part_ends : stop < length word → slice_index word stop ≡ 44 → ¬ IsRuleWord (take stop word) → IsFirstBadPart word start
-    part_ends within comma none =
-        record { before = h.before; stop = stop; ends = inr (within, comma); begins = h.begins; one_part = h.one_part; no_rule = none }
+    part_ends within comma none = grind arith
 
     -- the last part of a word that is no rule is at fault where none before it is
     pub last_part : stop ≡ length word → ¬ IsRuleWord word → IsFirstBadPart word start
@@ -70,7 +54,7 @@ module _ (word : List ℕ) where
       ends = inl all;
       begins = h.begins;
       one_part = h.one_part;
-      no_rule = λ rule. none (subst IsRuleWord (take_all stop word (omega (arith, all))) rule);
+      no_rule = λ rule. none (rw (take_all stop word (omega arith)) at rule);
     }
 
 -- ---- words that stand for no rules
@@ -103,7 +87,7 @@ malformed_is words word d place h at = rw (at, sym h.place_is) (word_at h.before
 -- that word is none
 pub malformed_none : (words : List (String Global)) (word d : String Global) (place : ℕ) → IsFirstMalformed (texts_of words) place
     → word ≡ get_or words place d → ¬ IsRuleWord (string_bytes word)
-malformed_none words word d place h at rule = h.no_rule (subst IsRuleWord (malformed_is words word d place h at) rule)
+malformed_none words word d place h at rule = h.no_rule (rw (malformed_is words word d place h at) at rule)
 
 -- the first word that is no rule is at fault, with the part of it that is
 pub malformed_word : (words : List (String Global)) (most place part : ℕ) (word d : String Global)
@@ -118,7 +102,7 @@ malformed_word words most place part word d h at bad =
       index_is = omega (arith, h.place_is);
       rules_before = h.rules_before;
       expects = inl (omega (arith, h.count.1, ap length h.parts, length-append h.before (h.word ∷ h.rest)), refl);
-      refused = (h.no_rule, subst (λ (text : List ℕ). IsFirstBadPart text part) (malformed_is (take most words) word d place h at) bad);
+      refused = (h.no_rule, rw (malformed_is (take most words) word d place h at) at bad);
     }
 
 word_rules : (words : List (List ℕ)) (rules : List Rule) → AllByRecursion IsRule rules → words ≡ map spelled rules → AllByRecursion IsRuleWord words
@@ -127,8 +111,7 @@ word_rules (word ∷ words) [] h e = absurd cc
 word_rules (word ∷ words) (rule ∷ rules) h e = (record { rule = rule; is_rule = h.0; is = cc }, word_rules words rules h.1 cc)
 
 nothing_more : (rest : List (List ℕ)) → IsRefused expecteds.Nothing 0 rest
-nothing_more [] = refl
-nothing_more (word ∷ more) = ((λ h. h), refl)
+nothing_more rest = grind arith
 
 -- words of which the first 64 at most are rules, and that stand for none themselves, are more than 64
 module _ (words : List (List ℕ)) (most : ℕ) (e : most ≡ min (length words) 64) (none : (rules : List Rule) → ¬ Spell words rules) where
@@ -143,19 +126,15 @@ module _ (words : List (List ℕ)) (most : ℕ) (e : most ≡ min (length words)
       expects = inr (all, refl);
       refused = nothing_more (drop most words);
     })
-    | inr few ↦ absurd (none rules (subst (λ (ws : List (List ℕ)). Spell ws rules) (take_all most words (omega arith)) s))
+    | inr few ↦ absurd (none rules (rw (take_all most words (omega arith)) at s))
   ]
 
   miscounted : 0 < length words → (length (take most words) ≡ 0) ⊎ (64 < length (take most words)) → ⊥
-  miscounted some (inl none) = omega (arith, length-take most words)
-  miscounted some (inr more) = omega (arith, length-take most words)
+  miscounted some counted = grind (arith, length-take)
 
   otherwise : (r : Result (List Rule) RuleError) → 0 < length words → ((place : ℕ) → r ≢ Err (errors.Malformed place))
       → ParsesRules (take most words) r → RulesFault words (whole_fault (most + 1) expecteds.Nothing)
-  otherwise (Ok rules) some other h = full rules h
-  otherwise (Err errors.NoMemory) some other h = full h.0 h.1
-  otherwise (Err errors.Count) some other h = absurd (miscounted some h)
-  otherwise (Err (errors.Malformed place)) some other h = absurd (other place refl)
+  otherwise r some other h = grind (arith, full, miscounted)
 
 -- where none of the first 64 words is at fault, it is the one after them
 pub too_many : (words : List (String Global)) (most : ℕ) (r : Result (List Rule) RuleError) → most ≡ min (length words) 64
@@ -165,11 +144,11 @@ pub too_many : (words : List (String Global)) (most : ℕ) (r : Result (List Rul
 too_many [] most r e some none other h = absurd cc
 too_many (word ∷ words) most r e some none other h =
     otherwise (texts_of (word ∷ words)) most (e ∙ ap (λ n. min n 64) (sym (length-map (word ∷ words) (λ w. string_bytes w)))) none r (omega arith) other
-    (subst (λ (ws : List (List ℕ)). ParsesRules ws r) (sym (take-map (λ (w : String Global). string_bytes w) most (word ∷ words))) h)
+    (rw (take-map (λ (w : String Global). string_bytes w) most (word ∷ words)) h)
 
 -- words that are too few or too many stand for no rules
 pub miscounted_words : (words : List (List ℕ)) → ParsesRules words (Err errors.Count) → (rules : List Rule) → ¬ Spell words rules
-miscounted_words words h rules k = let few = k.count.0 in let most = k.count.1 in omega arith
+miscounted_words words h rules k = grind (arith, h, k.count)
 
 -- words of which one is no rule stand for no rules
 pub malformed_words : (words : List (List ℕ)) (place : ℕ) → ParsesRules words (Err (errors.Malformed place)) → (rules : List Rule) → ¬ Spell words rules

@@ -1,7 +1,7 @@
 -- The pieces that a body completes, by what was left over before it.
-use Rattle.std.proofs.Common.{◌≡◌, ℕ, ◌≤◌, ◌/◌, Bool, false, List, ◌++◌, length, drop, sym, ap, ◌∙◌}
+use Rattle.std.proofs.Common.{◌≡◌, ℕ, ◌≤◌, Bool, List, ◌++◌}
 use Rattle.std.proofs.Math.Seq.{drop-append_seam}
-use Rattle.amqp_turns.specs.Splits.{cut_count, whole_pieces, pieces_given, left_over}
+use Rattle.amqp_turns.specs.Splits.{whole_pieces, pieces_given, left_over}
 use Rattle.amqp_turns.proofs.Pieces.{given_after, length-chunks}
 use Rattle.amqp_recut.specs.Cuts.{pieces_brought}
 
@@ -9,7 +9,5 @@ use Rattle.amqp_recut.specs.Cuts.{pieces_brought}
 pub brought : (size : ℕ) (ends : Bool) (before content : List ℕ) → 1 ≤ size
     → pieces_brought size ends before content ≡ pieces_given size ends (left_over size before ++ content)
 brought size ends before content h =
-    let count : cut_count size false (length before) ≡ length (whole_pieces size before) = sym (length-chunks size (length before / size) before) in
-    ap (drop (cut_count size false (length before))) (sym (given_after size ends before content h))
-    ∙ ap (λ n. drop n (whole_pieces size before ++ pieces_given size ends (left_over size before ++ content))) count
-    ∙ drop-append_seam (whole_pieces size before) (pieces_given size ends (left_over size before ++ content))
+    rw (← given_after size ends before content h)
+    (rw length-chunks at (drop-append_seam (whole_pieces size before) (pieces_given size ends (left_over size before ++ content))))

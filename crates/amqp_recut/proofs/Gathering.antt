@@ -1,13 +1,13 @@
 -- What is gathered one after another, and the steps that are made of it.
+use Rattle.amqp_stream.specs as stream
 use Rattle.std.proofs.lemmas.Grind.{common_steps}
-use Rattle.std.proofs.Common.{arith}
-use Rattle.std.proofs.Common.{◌≡◌, ℕ, List, [], ◌++◌, sym, ap, subst, ◌∙◌, append_assoc, append-nil, Result, Ok, Err}
+use Rattle.std.proofs.Common.{arith, ◌≡◌, ℕ, List, [], ◌++◌, append_assoc, append-nil, Result, Ok, Err}
 use Rattle.amqp_wire.specs.Frames.{Raw, Body}
 use Rattle.amqp_wire.specs.Verdicts.{decode_payload}
-use Rattle.amqp_stream.specs.declared.sink.SinkFault.{SinkFault}
-use Rattle.amqp_stream.specs.Ends.{Store}
-use Rattle.amqp_stream.specs.Writing.{Gathered, GatherFails, Gathers, WritesAll}
-use Rattle.amqp_stream.specs.Streaming.{IsStep, Writes, WriteFails}
+use stream.declared.sink.SinkFault.{SinkFault}
+use stream.Ends.{Store}
+use stream.Writing.{Gathered, GatherFails, Gathers}
+use stream.Streaming.{IsStep, Writes, WriteFails}
 use Rattle.amqp_stream.proofs.Adding.{Gains-then, Gains-none, Rises-later}
 use Rattle.amqp_recut.specs.declared.recutter.Recutter.{Recutter}
 use Rattle.amqp_recut.specs.Stepping.{recutting, step_recutting, body_raw}
@@ -17,15 +17,11 @@ use Rattle.amqp_stream.proofs.Transcribing.{gathered_then}
 
 -- Where bytes were gathered, and gathering more after them fails, gathering all of them fails.
 pub gather_fails_later : {a b c : Store} {x y z p q : List ℕ} → Gathered a b x y p → GatherFails b c y z q → GatherFails a c x z (p ++ q)
-gather_fails_later {a = a} {b = b} {c = c} {x = x} {y = y} {p = p} {q = q} f g = record {
+gather_fails_later f g = record {
   piece = f.written ++ g.piece;
-  gains = Gains-then a b c f.written g.piece f.gains g.gains;
-  prefix = (
-    g.prefix.0,
-    append_assoc f.written g.piece g.prefix.0 ∙ ap (λ (bytes : List ℕ). f.written ++ bytes) g.prefix.1
-        ∙ sym (append_assoc f.written y q) ∙ ap (λ (bytes : List ℕ). bytes ++ q) f.parts ∙ append_assoc x p q,
-  );
-  rises = Rises-later a.faults b.faults c.faults f.gains.faults g.gains.faults g.rises;
+  gains = Gains-then _ _ _ _ _ f.gains g.gains;
+  prefix = (g.prefix.0, grind (arith, common_steps, append_assoc));
+  rises = Rises-later _ _ _ f.gains.faults g.gains.faults g.rises;
   none = g.none;
 }
 
@@ -37,25 +33,21 @@ gathers_then c z q (Err bad) f g = gather_fails_later f g
 
 -- the first bytes were not gathered, and so not all
 pub gathers_less : {a b : Store} {x y p : List ℕ} (q : List ℕ) → GatherFails a b x y p → GatherFails a b x y (p ++ q)
-gathers_less {x = x} {p = p} q f = record {
+gathers_less q f = record {
   piece = f.piece;
   gains = f.gains;
-  prefix = (f.prefix.0 ++ q, sym (append_assoc f.piece f.prefix.0 q) ∙ ap (λ (bytes : List ℕ). bytes ++ q) f.prefix.1 ∙ append_assoc x p q);
+  prefix = (f.prefix.0 ++ q, grind (arith, common_steps, append_assoc));
   rises = f.rises;
   none = f.none;
 }
 
 -- other words for the same bytes
 pub gathers_as : {p q : List ℕ} (a b : Store) (x y : List ℕ) (r : Result (Unit {0}) SinkFault) → p ≡ q → Gathers a b x y p r → Gathers a b x y q r
-gathers_as a b x y r e h = grind (arith, common_steps)
+gathers_as a b x y r e h = rw e at h
 
 -- Where the pending bytes are as they were, nothing was gathered.
 pub gathered_none : (a : Store) (x y : List ℕ) → y ≡ x → Gathered a a x y []
 gathered_none a x y e = grind (arith, common_steps, Gains-none, append-nil)
-
--- all that was pending was written
-pub all_written : (a b : Store) (x y : List ℕ) (r : Result (Unit {0}) SinkFault) → y ≡ [] → WritesAll a b x r → Gathers a b x y [] r
-all_written a b x y r e h = grind (arith, common_steps, append-nil)
 
 -- ---- a step
 
@@ -72,21 +64,15 @@ body_written a b x y e h = grind (arith, common_steps, body_step)
 -- Where gathering the bytes that a body is replaced by fails, writing for its frame fails.
 pub body_unwritten : {s t : Recutter} {channel : ℕ} {payload bytes : List ℕ} (a b : Store) (x y : List ℕ)
     → step_recutting s (Body channel payload) ≡ Ok (bytes, t) → GatherFails a b x y bytes → WriteFails recutting s (body_raw channel payload) a b x y
-body_unwritten {s = s} {t = t} {channel = channel} {payload = payload} {bytes = bytes} a b x y e h =
-    record { bytes = bytes; next = t; step = body_step s t channel payload bytes e; failed = h }
+body_unwritten a b x y e h = record { bytes = _; next = _; step = body_step _ _ _ _ _ e; failed = h }
 
 -- and then some of what is pending was written
 pub settled : {s t : Recutter} {raw : Raw} {a b : Store} {x y : List ℕ} (c : Store) (z : List ℕ)
     → Writes recutting s t raw a b x y → Gathered b c y z [] → Writes recutting s t raw a c x z
-settled {a = a} {x = x} c z h g =
-    record { bytes = h.bytes; step = h.step; gathered = subst (λ (bytes : List ℕ). Gathered a c x z bytes) (append-nil h.bytes) (gathered_then h.gathered g) }
+settled c z h g = record { bytes = h.bytes; step = h.step; gathered = rw append-nil at (gathered_then h.gathered g) }
 
 -- Where a frame was written, and what is done after it fails without more bytes, writing for the frame fails.
 pub unsettled : {s t : Recutter} {raw : Raw} {a b : Store} {x y : List ℕ} (c : Store) (z : List ℕ)
     → Writes recutting s t raw a b x y → GatherFails b c y z [] → WriteFails recutting s raw a c x z
-unsettled {t = t} {a = a} {x = x} c z h g = record {
-  bytes = h.bytes;
-  next = t;
-  step = h.step;
-  failed = subst (λ (bytes : List ℕ). GatherFails a c x z bytes) (append-nil h.bytes) (gather_fails_later h.gathered g);
-}
+unsettled c z h g =
+    record { bytes = h.bytes; next = _; step = h.step; failed = rw append-nil at (gather_fails_later h.gathered g) }

@@ -1,38 +1,36 @@
 -- Frames recut again: bodies that are cut stay, and the last of two sizes counts.
-use Rattle.std.proofs.lemmas.Grind.{common_steps}
-use Rattle.std.proofs.Common.{◌≡◌, ℕ, ◌+◌, ◌≤◌, Bool, true, false, eqb, leb, List, [], ◌∷◌, ◌++◌, length, refl, sym, ap}
-use Rattle.std.proofs.Common.{ap₂, subst, ◌∙◌, arith}
-use Rattle.std.specs.List.{flat_map}
-use Rattle.std.proofs.lemmas.Bool.{cases_eq, eqb-false}
-use Rattle.std.proofs.lemmas.List.{append_assoc}
+use Rattle.amqp_recut.proofs
+use Rattle.amqp_turns.specs as turns
+use Rattle.std.proofs.lemmas
+use lemmas.Grind.{common_steps}
+use Rattle.std.proofs.Common.{◌≡◌, ℕ, ◌+◌, ◌≤◌, Bool, eqb, leb, List, [], ◌∷◌, ◌++◌, length, refl, sym, ◌∙◌, arith}
+use lemmas.Bool.{cases_eq, eqb-false}
+use lemmas.List.{append_assoc}
 use Rattle.amqp_types.specs.Methods.{Method}
 use Rattle.amqp_types.specs.ContentHeaders.{ContentHeader}
-use Rattle.amqp_wire.specs.Frames.{Frame, Proto, Meth, Head, Body, Beat, BadBeat, channel_id_of}
+use Rattle.amqp_wire.specs.Frames.{Frame, Meth, Head, Body, channel_id_of}
 use Rattle.amqp_wire.specs.Outlines.{outline_of}
-use Rattle.amqp_turns.specs.Units.{is_content, is_opening_id, of_channel, Nothing, Opened, Headed, size_in, bytes_in, IsInTurn}
-use Rattle.amqp_turns.specs.Stands.{State, At, Lost}
-use Rattle.amqp_turns.specs.Steps.{step, run_state}
-use Rattle.amqp_turns.specs.Messages.{joined}
-use Rattle.amqp_turns.specs.Splits.{left_over}
+use turns.Units.{is_content, is_opening_id, of_channel, Nothing, Opened, Headed, size_in, bytes_in, IsInTurn}
+use turns.Stands.{State, At}
+use turns.Steps.{step, run_state}
+use turns.Messages.{joined}
+use turns.Splits.{left_over}
 use Rattle.amqp_turns.proofs.Pieces.{given-ended, one-whole}
 use Rattle.amqp_turns.proofs.Running.{turn_runs, stands_run}
-use Rattle.amqp_turns.specs.InTurn.{greatest, AreInTurn, NoneIsOpen, state_on}
+use turns.InTurn.{greatest, AreInTurn, NoneIsOpen, state_on}
 use Rattle.amqp_recut.specs.Cuts.{pieces_brought, frame_recut, recut_after, recut}
 use Rattle.amqp_recut.specs.Laws.{IsPiece, AreCut}
-use Rattle.amqp_recut.proofs.Cutting.{brought}
+use proofs.Cutting.{brought}
 use Rattle.amqp_turns.proofs.Turns.{state_on-own, state_on-other, state_on-outside}
-use Rattle.amqp_recut.proofs.LawsChannels.{IsCut}
-use Rattle.amqp_recut.proofs.LawsUnits.{unit_recut, begun_recut}
-use Rattle.amqp_recut.proofs.LawsOnce.{by_units, is_remade, bodies_are_cut}
+use proofs.LawsChannels.{IsCut}
+use proofs.LawsOnce.{by_units, is_remade, bodies_are_cut}
 
 -- ---- bodies that are cut
 
 -- all bytes of a message so far are in pieces of the whole size
 abbrev IsWhole : ℕ → State Frame → Type 0
 IsWhole size (At (Headed opening header bodies)) = left_over size (joined bodies) ≡ []
-IsWhole size (At Nothing) = Unit {0}
-IsWhole size (At (Opened opening)) = Unit {0}
-IsWhole size Lost = Unit {0}
+IsWhole size state = Unit {0}
 
 piece_stays : (size : ℕ) (opening header : Frame) (bodies : List Frame) (content : List ℕ) (ends : Bool)
     → 1 ≤ size → left_over size (joined bodies) ≡ [] → IsPiece size (At (Headed opening header bodies)) content
@@ -42,19 +40,12 @@ piece_stays size opening header bodies content ends some none piece e = grind (a
 frame_stays : (size : ℕ) (state : State Frame) (frame : Frame) → 1 ≤ size
     → IsWhole size state → IsCut size state frame → frame_recut size state frame ≡ frame ∷ []
 frame_stays size (At (Headed opening header bodies)) (Body channel content) some whole cut = grind (arith, common_steps, piece_stays)
-frame_stays size (At Nothing) (Body channel content) some whole cut = refl
-frame_stays size (At (Opened opening)) (Body channel content) some whole cut = refl
-frame_stays size Lost (Body channel content) some whole cut = refl
-frame_stays size state (Proto major minor revision) some whole cut = refl
-frame_stays size state (Meth channel m) some whole cut = refl
-frame_stays size state (Head channel header) some whole cut = refl
-frame_stays size state Beat some whole cut = refl
-frame_stays size state (BadBeat channel) some whole cut = refl
+frame_stays size state (Body channel content) some whole cut = refl
+frame_stays size state frame some whole cut = refl
 
 whole_method : (size channel : ℕ) (m : Method) (opens : Bool) → is_opening_id m.class m.id ≡ opens
     → IsWhole size (step outline_of greatest (At Nothing) (Meth channel m)).1
-whole_method size channel m true e = rw e tt
-whole_method size channel m false e = rw e tt
+whole_method size channel m opens e = grind (arith, common_steps)
 
 whole_header : (size : ℕ) (opening : Frame) (channel : ℕ) (header : ContentHeader) (basic fits none : Bool)
     → eqb header.class_id 60 ≡ basic → leb header.body_size greatest ≡ fits → eqb 0 header.body_size ≡ none
@@ -87,11 +78,7 @@ whole_later size earlier frame content e some whole cut = grind (arith, common_s
 cut_here : (size : ℕ) (earlier : List Frame) (frame : Frame) (frames : List Frame)
     → AreCut size (earlier ++ frame ∷ frames) → IsCut size (state_on earlier (channel_id_of frame)) frame
 cut_here size earlier (Body channel content) frames h = h earlier frames channel content refl
-cut_here size earlier (Proto major minor revision) frames h = tt
-cut_here size earlier (Meth channel m) frames h = tt
-cut_here size earlier (Head channel header) frames h = tt
-cut_here size earlier Beat frames h = tt
-cut_here size earlier (BadBeat channel) frames h = tt
+cut_here size earlier frame frames h = tt
 
 stay_after : (size : ℕ) (earlier frames : List Frame) → 1 ≤ size → AreWhole size earlier
     → AreCut size (earlier ++ frames) → recut_after size earlier frames ≡ frames
@@ -99,8 +86,8 @@ stay_after size earlier [] some whole h = refl
 stay_after size earlier (frame ∷ frames) some whole h =
     let cut = cut_here size earlier frame frames h in
     let next = whole_later size earlier frame (is_content (outline_of frame)) refl some whole cut in
-    let rest = stay_after size (earlier ++ frame ∷ []) frames some next (subst (AreCut size) (sym (append_assoc earlier (frame ∷ []) frames)) h) in
-    ap₂ (λ xs ys. xs ++ ys) (frame_stays size (state_on earlier (channel_id_of frame)) frame some (whole (channel_id_of frame)) cut) rest
+    let rest = stay_after size (earlier ++ frame ∷ []) frames some next (rw (← append_assoc earlier (frame ∷ []) frames) at h) in
+    rw (frame_stays size (state_on earlier (channel_id_of frame)) frame some (whole (channel_id_of frame)) cut, rest)
 
 -- Recutting leaves frames whose bodies are cut to the size.
 pub cut_bodies_stay : (size : ℕ) (frames : List Frame) → 1 ≤ size → AreCut size frames → recut size frames ≡ frames
@@ -113,10 +100,7 @@ pub twice_is_once : (size : ℕ) (frames : List Frame) → 1 ≤ size → AreInT
 twice_is_once size frames some turn = grind (arith, common_steps, bodies_are_cut, cut_bodies_stay)
 
 nothing_begun : (xs : List Frame) (h : IsInTurn outline_of greatest xs) → run_state outline_of greatest (At Nothing) xs ≡ At Nothing → h.begun ≡ Nothing
-nothing_begun xs h e =
-    let at : At h.begun ≡ At Nothing =
-    sym (turn_runs outline_of greatest h.units h.begun h.finished h.is_begun).state_is ∙ sym (ap (run_state outline_of greatest (At Nothing)) h.are) ∙ e in
-    cc
+nothing_begun xs h e = let at = (turn_runs outline_of greatest h.units h.begun h.finished h.is_begun).state_is in cc
 
 -- Where frames in turn, with no message open, are recut at two sizes one after the other, the last size counts on each channel.
 pub last_size_counts : (first last : ℕ) (frames : List Frame) → 1 ≤ first → 1 ≤ last → AreInTurn frames → NoneIsOpen frames
@@ -124,10 +108,13 @@ pub last_size_counts : (first last : ℕ) (frames : List Frame) → 1 ≤ first 
 last_size_counts first last frames some more turn none channel =
     let h = turn channel in
     let made = is_remade first channel frames some h in
-    let ended : h.begun ≡ Nothing =
-    nothing_begun (of_channel outline_of channel frames) h
+    let ended : h.begun ≡ Nothing = nothing_begun (of_channel outline_of channel frames) h
     (sym (stands_run outline_of greatest (of_channel outline_of channel frames) (At Nothing) (none channel))) in
-    by_units last channel (recut first frames) more made.turn
-    ∙ ap₂ (λ us b. flat_map (unit_recut last channel) us ++ begun_recut last channel b) made.units_are (made.begun_is ∙ made.begun.nothing ended ∙ sym ended)
-    ∙ ap (λ fs. fs ++ begun_recut last channel h.begun) (made.units.again last)
-    ∙ sym (by_units last channel frames more h)
+    rw (
+      by_units last channel (recut first frames) more made.turn,
+      by_units last channel frames more h,
+      made.units_are,
+      made.begun_is,
+      made.begun.nothing ended ∙ sym ended,
+      made.units.again last,
+    )

@@ -1,14 +1,15 @@
 -- The frames of a channel are recut by themselves, whatever comes on other channels.
-use Rattle.std.proofs.Common.{◌≡◌, ℕ, true, List, [], ◌∷◌, ◌++◌, map, refl, ap, subst, ◌∙◌}
+use Rattle.amqp_turns.specs as turns
+use Rattle.std.proofs.Common.{◌≡◌, ℕ, true, List, [], ◌∷◌, ◌++◌, map, refl}
 use Rattle.std.specs.List.{AllByRecursion}
 use Rattle.std.proofs.lemmas.List.Elements.{filter-append}
-use Rattle.amqp_wire.specs.Frames.{Frame, Proto, Meth, Head, Body, Beat, BadBeat}
+use Rattle.amqp_wire.specs.Frames.{Frame, Body}
 use Rattle.amqp_wire.specs.Outlines.{outline_of}
-use Rattle.amqp_turns.specs.Units.{Nothing, Opened, Headed, is_of_channel, of_channel}
-use Rattle.amqp_turns.specs.Stands.{State, At, Lost}
-use Rattle.amqp_turns.specs.Steps.{step, run_state}
+use turns.Units.{Nothing, Headed, is_of_channel, of_channel}
+use turns.Stands.{State, At}
+use turns.Steps.{step, run_state}
 use Rattle.amqp_turns.proofs.Apart.{of_own}
-use Rattle.amqp_turns.specs.InTurn.{greatest}
+use turns.InTurn.{greatest}
 use Rattle.amqp_in_turn.proofs.Alone.{GoesByChannel, channel_made, made_on}
 use Rattle.amqp_recut.specs.Cuts.{frame_recut, recut_after, recut}
 use Rattle.amqp_recut.specs.Laws.{IsPiece, AreCut}
@@ -27,14 +28,8 @@ pieces_alike channel other content (part ∷ parts) = (refl, pieces_alike channe
 alike : (size channel : ℕ) (state : State Frame) (frame : Frame)
     → AllByRecursion (λ x. is_of_channel outline_of channel x ≡ is_of_channel outline_of channel frame) (frame_recut size state frame)
 alike size channel (At (Headed opening header bodies)) (Body other content) = pieces_alike channel other content _
-alike size channel (At Nothing) (Body other content) = (refl, tt)
-alike size channel (At (Opened opening)) (Body other content) = (refl, tt)
-alike size channel Lost (Body other content) = (refl, tt)
-alike size channel state (Proto major minor revision) = (refl, tt)
-alike size channel state (Meth other m) = (refl, tt)
-alike size channel state (Head other header) = (refl, tt)
-alike size channel state Beat = (refl, tt)
-alike size channel state (BadBeat other) = (refl, tt)
+alike size channel state (Body other content) = (refl, tt)
+alike size channel state frame = (refl, tt)
 
 -- The frames of a channel among frames that are recut are the channel's frames recut by themselves.
 pub recut_on : (size channel : ℕ) (frames : List Frame)
@@ -49,11 +44,7 @@ recut_on size channel frames =
 -- a body is a piece of its message
 abbrev pub IsCut : ℕ → State Frame → Frame → Type 0
 IsCut size state (Body channel content) = IsPiece size state content
-IsCut size state (Proto major minor revision) = Unit {0}
-IsCut size state (Meth channel m) = Unit {0}
-IsCut size state (Head channel header) = Unit {0}
-IsCut size state Beat = Unit {0}
-IsCut size state (BadBeat channel) = Unit {0}
+IsCut size state frame = Unit {0}
 
 -- each body of one channel's frames is, after what has come on it
 abbrev pub AreCutAfter : ℕ → State Frame → List Frame → Type 0
@@ -76,9 +67,6 @@ pub are_cut : (size : ℕ) (frames : List Frame) → ((channel : ℕ) → AreCut
 are_cut size frames h front back channel content e =
     let body = Body channel content in
     let own_is : is_of_channel outline_of channel body ≡ true = of_own body refl in
-    let has : of_channel outline_of channel (body ∷ back) ≡ body ∷ of_channel outline_of channel back = rw own_is refl in
     let parts : of_channel outline_of channel frames ≡ of_channel outline_of channel front ++ body ∷ of_channel outline_of channel back =
-    ap (of_channel outline_of channel) e ∙ filter-append (is_of_channel outline_of channel) front (body ∷ back)
-    ∙ ap (λ fs. of_channel outline_of channel front ++ fs) has in
-    (cut_back size (At Nothing) (of_channel outline_of channel front)
-    (body ∷ of_channel outline_of channel back) (subst (AreCutAfter size (At Nothing)) parts (h channel))).0
+    rw (e, filter-append (is_of_channel outline_of channel) front (body ∷ back), own_is) in
+    (cut_back size (At Nothing) (of_channel outline_of channel front) (body ∷ of_channel outline_of channel back) (rw parts at (h channel))).0

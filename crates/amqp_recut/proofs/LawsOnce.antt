@@ -1,13 +1,12 @@
 -- Frames recut once: they are in turn, with the same messages, and their bodies are cut.
 use Rattle.std.proofs.lemmas.Grind.{common_steps}
-use Rattle.std.proofs.Common.{arith}
-use Rattle.std.proofs.Common.{◌≡◌, ℕ, ◌≤◌, List, ◌++◌, refl, sym, ap, ap₂, subst, ◌∙◌}
+use Rattle.std.proofs.Common.{arith, ◌≡◌, ℕ, ◌≤◌, List, ◌++◌, refl, sym, ap₂, subst, ◌∙◌}
 use Rattle.std.specs.List.{AllByRecursion, flat_map}
 use Rattle.amqp_wire.specs.Frames.{Frame}
 use Rattle.amqp_wire.specs.Outlines.{outline_of}
 use Rattle.amqp_turns.specs.Units.{of_channel, Nothing, begun_frames, finished_frames, IsInTurn}
-use Rattle.amqp_turns.specs.Stands.{State, At}
-use Rattle.amqp_turns.proofs.Messages.{IsOn, all_on, all_front, done_of, turn_done}
+use Rattle.amqp_turns.specs.Stands.{At}
+use Rattle.amqp_turns.proofs.Messages.{IsOn, all_on, all_front, turn_done}
 use Rattle.amqp_turns.specs.InTurn.{greatest, AreInTurn}
 use Rattle.amqp_recut.specs.Cuts.{recut}
 use Rattle.amqp_recut.specs.Laws.{messages_on, AreCut}
@@ -58,11 +57,8 @@ pub messages_stay : (size : ℕ) (frames : List Frame) → 1 ≤ size → AreInT
 messages_stay size frames some turn channel =
     let h = turn channel in
     let made = is_remade size channel frames some h in
-    let g = made.turn in
-    turn_done (of_channel outline_of channel (recut size frames)) g
-    ∙ ap done_of made.units_are
-    ∙ made.units.same
-    ∙ sym (turn_done (of_channel outline_of channel frames) h)
+    rw (turn_done (of_channel outline_of channel (recut size frames)) made.turn, turn_done (of_channel outline_of channel frames) h, made.units_are)
+    made.units.same
 
 -- The bodies of frames in turn are cut to the size when these are recut.
 pub bodies_are_cut : (size : ℕ) (frames : List Frame) → 1 ≤ size → AreInTurn frames → AreCut size (recut size frames)
@@ -73,5 +69,4 @@ bodies_are_cut size frames some turn = are_cut size (recut size frames) (λ chan
         let h = turn channel in
         let front = flat_map (unit_recut size channel) h.units in
         let back = begun_recut size channel h.begun in
-        subst (AreCutAfter size (At Nothing)) (sym (by_units size channel frames some h))
-        (cut_append size (At Nothing) front back made.units.cut (subst (λ (s : State Frame). AreCutAfter size s back) (sym made.units.ends) made.begun.cut))
+        rw (by_units size channel frames some h) (cut_append size (At Nothing) front back made.units.cut (rw made.units.ends made.begun.cut))

@@ -1,16 +1,10 @@
 -- Sequences of frames with equal canonical bytes encode the same frames.
-use Rattle.std.proofs.Common.{ℕ, List, Some, sym, subst}
-use Rattle.amqp_types.specs.Levels.{Level}
-use Rattle.amqp_wire.specs.Frames.{Frame}
-use Rattle.amqp_wire.specs.Fronts.{front}
-use Rattle.amqp_wire.specs.Spelling.{SpellsFrames}
-use Rattle.amqp_wire.proofs.Sequences.{sequence_front}
+use Rattle.amqp_stream.proofs.Names.{ℕ, List, Some, Level, front, SpellsFrames, sequence_front, IsSequence}
 use Rattle.amqp_wire.proofs.Strictness.{same_frames}
 use Rattle.amqp_stream.specs.Canonicalizing.{EqualOutputIsEqualFrames}
-use Rattle.amqp_stream.specs.Causes.{IsSequence}
 
 encoded : (level : Level) (m : ℕ) (bytes : List ℕ) → IsSequence level m bytes → SpellsFrames level (Some m) bytes (front level (Some m) bytes)
-encoded level m bytes is = subst (λ (frames : List Frame). SpellsFrames level (Some m) bytes frames) (sym (sequence_front level (Some m) bytes is.0 is.1)) is.1
+encoded level m bytes is = rw (sequence_front level (Some m) bytes is.0 is.1) is.1
 
 -- Streams with the same canonical output are the same frames.
 pub equal_output : EqualOutputIsEqualFrames

@@ -1,19 +1,10 @@
 -- What writers decide of frames, and what is put for those that they keep.
-use Rattle.std.proofs.Common.{◌≡◌, ℕ, List, [], ◌++◌, true, Result, Ok, IsTrue, sym, ap, ◌∙◌}
-use Rattle.amqp_types.specs.Judging.{Fault}
-use Rattle.amqp_wire.specs.declared.judging.FrameJudgement.{FrameJudgement}
-use Rattle.amqp_wire.specs.Frames.{Raw, Frame}
-use Rattle.amqp_wire.specs.Judgements.{IsJudged}
-use Rattle.amqp_wire.specs.Verdicts.{decode_raw, is_at}
-use Rattle.amqp_wire.specs.Canonical.{canon}
-use Rattle.amqp_stream.specs.declared.decision.Decision.{Decision}
-use Rattle.amqp_stream.specs.declared.decision.Decision.TheVariants as decisions
-use Rattle.amqp_stream.specs.Buffers.{Adds}
-use Rattle.amqp_stream.specs.Decisions.{IsKept, IsDecided, PutsDecided, TakesTo}
-use Rattle.amqp_stream.specs.Ends.{Store}
-use Rattle.amqp_stream.specs.Steps.{Manner}
-use Rattle.amqp_stream.specs.Streaming.{Writes}
-use Rattle.amqp_stream.proofs.Writes.{kept, pushed}
+use Rattle.amqp_stream.proofs
+use proofs.Names.{◌≡◌, ℕ, List, ◌++◌, true, Result, Ok, IsTrue, Fault, FrameJudgement, Raw, Frame, IsJudged, decode_raw, is_at, canon, Decision, Adds, IsKept}
+use proofs.Names.{Store, Manner, Writes}
+use Rattle.amqp_stream.specs.Decisions.{IsDecided, PutsDecided, TakesTo}
+use proofs.Writes.{kept, pushed}
+use proofs.Names.decisions
 
 -- a frame of which the canonical bytes are written
 pub kept_by : {S E : Type 0} {w : Manner S E} {s t : S} {raw : Raw} {judged : FrameJudgement} → (h : IsJudged raw judged)
@@ -23,7 +14,7 @@ kept_by h steps at compact =
 
 -- what was put for a frame is its canonical bytes
 pub adds_same : (before after : List ℕ) (read : Result Frame Fault) (f : Frame) → Adds before after read (Ok tt) → read ≡ Ok f → after ≡ before ++ canon f
-adds_same before after read f h is = let same : h.0 ≡ f = let both = sym h.1 ∙ is in cc in h.2 ∙ ap (λ g. before ++ canon g) same
+adds_same before after read f h is = cc (h.1, h.2)
 
 -- ---- what is put for a frame that was taken
 
@@ -40,9 +31,6 @@ takes_decided w s t raw decisions.Dropped h = tt
 -- what was put is what the step gives
 pub decided_writes : {S E : Type 0} {w : Manner S E} {s t : S} {raw : Raw} {before after : List ℕ} (store : Store) (decision : Decision)
     → TakesTo w s t raw decision → PutsDecided raw before after decision → Writes w s t raw store store before after
-decided_writes {raw = raw} {before = before} {after = after} store (decisions.Kept judged) h put = record {
-  bytes = canon h.is_judged.frame;
-  step = h.step;
-  gathered = pushed store before after (canon h.is_judged.frame) tt (adds_same before after (decode_raw raw) h.is_judged.frame put h.is_judged.is);
-}
-decided_writes {before = before} {after = after} store decisions.Dropped h put = record { bytes = []; step = h.step; gathered = kept store before after put }
+decided_writes {raw = raw} {before = before} {after = after} store (decisions.Kept judged) h put =
+    search (pushed store before after (canon h.is_judged.frame) tt (adds_same before after (decode_raw raw) h.is_judged.frame put h.is_judged.is))
+decided_writes {before = before} {after = after} store decisions.Dropped h put = search (kept store before after put)

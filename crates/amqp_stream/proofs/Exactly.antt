@@ -1,24 +1,18 @@
 -- What a run returns, by all the bytes that a source has.
-use Rattle.std.proofs.Common.{◌≡◌, ◌≢◌, ℕ, List, [], ◌∷◌, ◌++◌, length, Option, Some, None, Result, Ok, Err, refl, sym, ap, subst, ◌∙◌, inl, inr}
-use Rattle.std.proofs.Common.{arith, append_assoc, append-nil}
-use Rattle.std.proofs.lemmas.List.{length-append}
-use Rattle.amqp_types.specs.Levels.{Level}
-use Rattle.amqp_types.specs.Judging.{Fault, Judged, past, fault}
-use Rattle.amqp_wire.specs.Frames.{Frame}
-use Rattle.amqp_wire.specs.Fronts.{front, place}
+use Rattle.amqp_stream.proofs
+use Rattle.amqp_stream.specs
+use proofs.Names.{◌≡◌, ◌≢◌, ℕ, List, [], ◌++◌, length, Option, Some, None, Result, Ok, Err, refl, sym, ap, subst, ◌∙◌, inl, inr, arith, append_assoc}
+use proofs.Names.{append-nil, length-append, Level, Fault, past, fault, front, place, splits_of, StreamError, error_for, faulty, cut_short, budget_spent}
+use proofs.Names.{read_failed, write_failed, out_of_memory, cause_of, Call, Supply, Store, IsEmpty, prepended, judge_place, answer_to, IsSequence, Manner, text}
+use proofs.Names.{refused, Ending, finished, refused_by, stopped_by, text_of, refused_of, state_of, plan_of, Plan, Streams, answer_at_end, IsExactRun}
+use proofs.Names.{UnlessStoppedBy, StreamsExactly, IsWelcome, IsDoneOrWanting}
 use Rattle.amqp_wire.proofs.Cuts.{verdict-none}
-use Rattle.amqp_wire.proofs.Sequences.{splits_of, place_fault, front_fault, sequence_place}
-use Rattle.amqp_stream.specs.declared.errors.StreamError.{StreamError}
-use Rattle.amqp_stream.specs.declared.errors.StreamError.TheVariants as errors
-use Rattle.amqp_stream.specs.Errors.{error_for, faulty, cut_short, budget_spent, read_failed, write_failed, out_of_memory, cause_of}
-use Rattle.amqp_stream.specs.Calls.{Call}
-use Rattle.amqp_stream.specs.Ends.{Supply, Store, IsEmpty, prepended}
-use Rattle.amqp_stream.specs.Causes.{judge_place, answer_at, answer_to, IsSequence, IsValid, NoFaults}
-use Rattle.amqp_stream.specs.Steps.{Manner, text, refused}
-use Rattle.amqp_stream.specs.Streaming.{Ending, finished, refused_by, stopped_by, text_of, refused_of, state_of, plan_of, Plan, Streams}
-use Rattle.amqp_stream.specs.Streaming.{answer_at_end, answer_of, answer_by, IsExactRun, UnlessStoppedBy, StreamsExactly, IsWelcome, IsDoneOrWanting}
-use Rattle.amqp_stream.proofs.Adding.{taken_of}
-use Rattle.amqp_stream.proofs.Going.{settled}
+use Rattle.amqp_wire.proofs.Sequences.{place_fault, front_fault, sequence_place}
+use specs.Causes.{IsValid, NoFaults}
+use specs.Streaming.{answer_of, answer_by}
+use proofs.Adding.{taken_of}
+use proofs.Going.{settled}
+use proofs.Names.errors
 
 -- ---- the bytes taken, and those that are left
 
@@ -33,32 +27,19 @@ split_of bytes taken (Some rest) e = record { rest = rest; parts = cc }
 
 -- all were taken
 pub all_taken : (bytes taken : List ℕ) (left : Option (List ℕ)) → Some bytes ≡ prepended taken left → IsEmpty left → taken ≡ bytes
-all_taken bytes taken None e h = absurd (cc)
-all_taken bytes taken (Some rest) e h =
-    let same : bytes ≡ taken ++ rest = cc in
-    cc (append-nil taken)
+all_taken bytes taken left e h = grind (arith, append-nil)
 
 -- ---- the result by the place of all
 
-answer_at-some : (p : List ℕ) (j k : Judged Frame) (r : Result (Unit {0}) StreamError)
-    → (p ≡ [] → ⊥) → j ≡ k → ((x : ℕ) (xs : List ℕ) → answer_at (x ∷ xs) k ≡ r) → answer_at p j ≡ r
-answer_at-some [] j k r h e f = absurd (h refl)
-answer_at-some (x ∷ xs) j k r h e f = ap (answer_at (x ∷ xs)) e ∙ f x xs
-
 answer_more : (level : Level) (m : ℕ) (bytes : List ℕ) → place level (Some m) bytes ≢ []
     → judge_place level m bytes ≡ past → answer_to level m bytes ≡ Err errors.CutShort
-answer_more level m bytes h e = answer_at-some _ _ _ _ h e (λ x xs. refl)
-
-no_bad : (level : Level) (m : ℕ) (bytes : List ℕ) (bad : Fault) → judge_place level m bytes ≡ fault bad → place level (Some m) bytes ≢ []
-no_bad level m bytes bad h e =
-    absurd (cc (verdict-none level (Some m)))
+answer_more level m bytes h e = grind arith
 
 answer_bad : (level : Level) (m : ℕ) (bytes : List ℕ) (bad : Fault) → judge_place level m bytes ≡ fault bad → answer_to level m bytes ≡ Err (error_for bad)
-answer_bad level m bytes bad e =
-    answer_at-some _ _ _ _ (no_bad level m bytes bad e) e (λ x xs. refl)
+answer_bad level m bytes bad e = grind (arith, verdict-none level (Some m))
 
 pub answer_sequence : (level : Level) (m : ℕ) (bytes : List ℕ) → IsSequence level m bytes → answer_to level m bytes ≡ Ok tt
-answer_sequence level m bytes sequence = ap (λ p. answer_at p (judge_place level m bytes)) (sequence_place level (Some m) bytes sequence.0 sequence.1)
+answer_sequence level m bytes sequence = rw (sequence_place level (Some m) bytes sequence.0 sequence.1)
 
 -- each fault has an error that reports it
 cause-error_of : (bad : Fault) → cause_of (error_for bad) ≡ faulty bad
@@ -75,8 +56,7 @@ front-append level m bytes rest =
 -- ---- a run over all of the bytes
 
 answer_at_error : {E : Type 0} (end : Option E) (error : StreamError) → answer_at_end end (Err error) ≡ stopped_by (cause_of error)
-answer_at_error None error = refl
-answer_at_error (Some why) error = refl
+answer_at_error end error = grind arith
 
 module _ {S E : Type 0} (w : Manner S E) (s : S) (m : ℕ) (bytes : List ℕ) where
   -- the result by what is known of all
@@ -101,7 +81,7 @@ module _ {S E : Type 0} (w : Manner S E) (s : S) (call : Call Supply Store) (byt
       → IsExactRun plan call.limit bytes c.written e
   exact_all {e = e} c empty answer text_is =
       subst (λ (xs : List ℕ). IsExactRun plan call.limit xs c.written e)
-      (all_taken bytes c.taken call.source.new.left (taken_of left c.takes) empty) (record { answer = sym answer; text_is = text_is })
+      (all_taken bytes c.taken call.source.new.left (taken_of left c.takes) empty) (search (sym answer))
 
   -- the bytes taken are the front
   split : {e : Ending E} (c : Streams plan call e) → IsSplit bytes c.taken call.source.new.left
@@ -112,8 +92,8 @@ module _ {S E : Type 0} (w : Manner S E) (s : S) (call : Call Supply Store) (byt
       → IsExactRun plan call.limit bytes c.written (stopped_by (faulty bad))
   exact_bad bad c =
       let t = split c in
-      let at = ap (judge_place w.level call.limit) t.parts ∙ place_fault w.level (Some call.limit) c.taken t.rest bad c.cause in
-      let same = ap (front w.level (Some call.limit)) t.parts ∙ front_fault w.level (Some call.limit) c.taken t.rest bad c.cause in
+      let at = ap (judge_place w.level call.limit) t.parts ∙ place_fault _ _ _ t.rest bad c.cause in
+      let same = ap (front w.level (Some call.limit)) t.parts ∙ front_fault _ _ _ t.rest bad c.cause in
       record {
         answer =
             sym (known_error w s call.limit bytes (error_for bad) (ap (refused w s) same ∙ c.writes.none_refused) (answer_bad w.level call.limit bytes bad at)
@@ -136,21 +116,19 @@ module _ {S E : Type 0} (w : Manner S E) (s : S) (call : Call Supply Store) (byt
   exact_at : (e : Ending E) (c : Streams plan call e)
       → UnlessStoppedBy e (IsExactRun plan call.limit bytes c.written e)
   exact_at finished c =
-      exact_all c c.cause.1 (known w s call.limit c.taken c.writes.none_refused c.cause.2 (answer_sequence w.level call.limit c.taken c.cause.0))
-      c.writes.text_is
+      exact_all c c.cause.1 (known w s call.limit c.taken c.writes.none_refused c.cause.2 (answer_sequence _ _ _ c.cause.0)) c.writes.text_is
   exact_at (refused_by why) c = elim c.cause [
     | inl is ↦ exact_refused why c is
-    | inr h ↦ exact_all c h.empty (known w s call.limit c.taken h.none_refused h.ends (answer_sequence w.level call.limit c.taken h.sequence)) c.writes
+    | inr h ↦ exact_all c h.empty (known w s call.limit c.taken h.none_refused h.ends (answer_sequence _ _ _ h.sequence)) c.writes
   ]
   exact_at (stopped_by (faulty bad)) c = exact_bad bad c
   exact_at (stopped_by cut_short) c =
-      exact_all c c.cause.1 (known_error w s call.limit c.taken errors.CutShort c.writes.none_refused
-      (answer_more w.level call.limit c.taken c.cause.0.0 c.cause.0.1)) c.writes.text_is
+      exact_all c c.cause.1 (known_error _ _ _ _ errors.CutShort c.writes.none_refused (answer_more _ _ _ c.cause.0.0 c.cause.0.1)) c.writes.text_is
   exact_at (stopped_by cause) c = tt
 
   -- Over a source that reports its bytes, a run gives what all of them give.
   pub streams_exactly : {e : Ending E} → Streams plan call e → StreamsExactly plan call bytes e
-  streams_exactly {e = e} c = record { written = c.written; gains = c.gains; answer = exact_at e c }
+  streams_exactly {e = e} c = search (exact_at e c)
 
   -- Valid input that is not refused, with enough reads and no faults of the two ends, is read to its end, or memory runs out.
   pub completes : {e : Ending E} → Streams plan call e → IsValid w.level call.limit call.budget bytes

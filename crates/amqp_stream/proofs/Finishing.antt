@@ -1,32 +1,22 @@
 -- How a run of the engine ends.
-use Rattle.std.proofs.Common.{◌≡◌, ℕ, ◌+◌, ◌-◌, ◌≤◌, List, [], ◌∷◌, ◌++◌, length, Option, Some, None, Result, Ok, Err, IsTrue, refl, sym, ap, subst, ◌∙◌}
-use Rattle.std.proofs.Common.{arith, append_assoc, append-nil, drop, inl, inr}
-use Rattle.std.proofs.lemmas.List.{take_at, take-append-drop, length-append, nil_from_length}
-use Rattle.amqp_types.specs.Judging.{Fault, Judged, not_tidy, past, fault, took, IsBytes}
-use Rattle.amqp_types.proofs.Bytes.{IsBytes-take}
-use Rattle.amqp_wire.specs.Frames.{Raw, Frame}
-use Rattle.amqp_wire.specs.HeaderScan.{scan}
-use Rattle.amqp_wire.specs.Verdicts.{judge_frame, judge_scanned}
-use Rattle.amqp_wire.specs.Fronts.{place}
-use Rattle.amqp_wire.proofs.Cuts.{IsStop, front-stop, front-got, place-none, stop-none, verdict-more, verdict-bad, verdict-whole}
+use Rattle.amqp_stream.proofs
+use Rattle.amqp_stream.specs
+use proofs.Names.{◌≡◌, ℕ, ◌+◌, ◌-◌, ◌≤◌, List, [], ◌∷◌, ◌++◌, length, Option, Some, None, Result, Ok, Err, IsTrue, refl, sym, ap, subst, ◌∙◌, arith}
+use proofs.Names.{append_assoc, append-nil, drop, inl, inr, take_at, take-append-drop, length-append, nil_from_length, Fault, Judged, not_tidy, past, fault}
+use proofs.Names.{took, IsBytes, IsBytes-take, Raw, Frame, scan, judge_frame, place-none, verdict-whole, ReadError, StreamError, RunError, SinkFault}
+use proofs.Names.{stream_error, read_fault, Cause, faulty, cut_short, budget_spent, read_failed, write_failed, out_of_memory, cause_of, ◌⇒◌, Call, call_of}
+use proofs.Names.{Supply, Store, Gains, Rises, IsEmpty, IsPrefix, WritesAll, GatherFails, IsFaulty, judge_place, IsSequence, Manner, text, refused, state}
+use proofs.Names.{Ending, finished, refused_by, stopped_by, error_ending, ending_of, WritesBy, end_with, EndsWith, text_of, state_of, plan_of, IsShortBy}
+use proofs.Names.{HasCause, HasWritten, HasState, refused_of, with_ahead, Rests, RestsAfter, RestsBy, Resumes}
+use Rattle.amqp_wire.specs.Verdicts.{judge_scanned}
+use Rattle.amqp_wire.proofs.Cuts.{IsStop, front-stop, front-got, stop-none, verdict-more, verdict-bad}
 use Rattle.amqp_wire.proofs.Sequences.{sequence_of_all}
-use Rattle.amqp_stream.specs.declared.errors.ReadError.{ReadError}
-use Rattle.amqp_stream.specs.declared.errors.StreamError.{StreamError}
-use Rattle.amqp_stream.specs.declared.errors.RunError.{RunError}
-use Rattle.amqp_stream.specs.declared.errors.RunError.TheVariants as ends
-use Rattle.amqp_stream.specs.declared.sink.SinkFault.{SinkFault}
-use Rattle.amqp_stream.specs.Errors.{stream_error, read_fault, Cause, faulty, cut_short, budget_spent, read_failed, write_failed, out_of_memory, cause_of}
-use Rattle.amqp_stream.specs.Changes.{◌⇒◌}
-use Rattle.amqp_stream.specs.Calls.{Call, call_of}
-use Rattle.amqp_stream.specs.Ends.{Supply, Store, Gains, Rises, IsEmpty}
-use Rattle.amqp_stream.specs.Writing.{IsPrefix, WritesAll, GatherFails, IsFaulty, AsksTidy}
-use Rattle.amqp_stream.specs.Causes.{judge_place}
-use Rattle.amqp_stream.specs.Steps.{Manner, text_at, text, refused_at, refused, state_at, state}
-use Rattle.amqp_stream.specs.Streaming.{Ending, finished, refused_by, stopped_by, error_ending, ending_of, IsRefused, WriteFails, WritesBy, end_with, ended}
-use Rattle.amqp_stream.specs.Streaming.{EndsWith, text_of, state_of, plan_of, IsShortBy, HasCause, IsAllWritten, HasWritten, HasState, refused_of}
-use Rattle.amqp_stream.specs.Resuming.{with_ahead, Rests, RestsAfter, RestsAt, RestsBy, Resumes}
-use Rattle.amqp_stream.proofs.Adding.{Takes-ahead, Gains-then, Rises-later}
-use Rattle.amqp_stream.proofs.Going.{Start, Taken, Spans, Spans-then, Spans-one, Clear, Going, Clear-flushed, Going-kept}
+use specs.Writing.{AsksTidy}
+use specs.Streaming.{IsRefused, WriteFails, ended, IsAllWritten}
+use specs.Resuming.{RestsAt}
+use proofs.Adding.{Takes-ahead, Gains-then, Rises-later}
+use proofs.Going.{Start, Taken, Spans, Spans-then, Spans-one, Clear, Going, Clear-flushed, Going-kept}
+use proofs.Names.ends
 
 -- ---- what was used is a sequence of frames, and what is held writes nothing
 
@@ -40,19 +30,14 @@ none_stopped : {S E : Type 0} (w : Manner S E) (m : ℕ) (u : S) (held : List �
 unfolding text refused state
 none_stopped w m u held stop =
     let none = (front-stop w.level (Some m) held stop).0 in
-    record { text_none = ap (text w u) none; refused_is = ap (refused w u) none; state_stays = ap (state w u) none }
+    record { text_none = rw none; refused_is = rw none; state_stays = rw none }
 
 none_refused : {S E : Type 0} (w : Manner S E) (m : ℕ) (u : S) (held : List ℕ) (f : Frame) (n : ℕ) (why : E)
     → judge_frame w.level (Some m) held ≡ took f n → w.step u f ≡ Err why → WritesNone w m u held (Some why)
 unfolding text refused state
 none_refused w m u held f n why found refuses =
     let fronts = (front-got w.level (Some m) held f n found).sequence in
-    let rest = drop n held in
-    record {
-      text_none = ap (text w u) fronts ∙ ap (λ r. text_at r (λ t. text_of w t m rest)) refuses;
-      refused_is = ap (refused w u) fronts ∙ ap (λ r. refused_at r (λ t. refused_of w t m rest)) refuses;
-      state_stays = ap (state w u) fronts ∙ ap (λ r. state_at u r (λ t. state_of w t m rest)) refuses;
-    }
+    record { text_none = rw (fronts, refuses); refused_is = rw (fronts, refuses); state_stays = rw (fronts, refuses) }
 
 -- Of all that was taken, this was written.
 record Wrote {S E : Type 0} (w : Manner S E) (m : ℕ) (s u : S) (taken text : List ℕ) (why : Option E) : Type 0 where
@@ -75,17 +60,10 @@ front_bytes a b fits = subst IsBytes (take_at a b (length a) refl) (IsBytes-take
 -- What was used is frames that were written for, and the rest is held.
 rests_on : {S E : Type 0} {w : Manner S E} {m : ℕ} {s u : S} {used text held : List ℕ}
     → Spans w m s u used text → IsBytes (used ++ held) → Rests w s u m (used ++ held) text held
-rests_on {w = w} {m = m} {s = s} {u = u} {used = used} {text = text} {held = held} h fits =
-    let all = subst (λ (xs : List ℕ). Wrote w m s u xs text None) (append-nil used) (wrote h (none_stopped w m u [] (stop-none w.level (Some m)))) in
-    let none = ap (place w.level (Some m)) (sym (append-nil used)) ∙ h.after [] ∙ place-none w.level (Some m) in
-    record {
-      used = used;
-      parts = refl;
-      is_sequence = (_, sequence_of_all w.level (Some m) used (front_bytes used held fits) none);
-      none_refused = all.refused_is;
-      text_is = all.text_is;
-      state_is = all.state_is;
-    }
+rests_on {w = w} {m = m} {u = u} {used = used} {held = held} h fits =
+    let all = rw append-nil at (wrote h (none_stopped w m u [] (stop-none w.level (Some m)))) in
+    let none = (rw append-nil at (h.after [])) ∙ place-none w.level (Some m) in
+    let sequence : IsSequence w.level m used = (_, sequence_of_all _ _ used (front_bytes used held fits) none) in search
 
 -- The same, whatever was written for it.
 abbrev pub rests_after : {S E : Type 0} {w : Manner S E} {m : ℕ} {s u : S} {taken text held : List ℕ}
@@ -94,15 +72,8 @@ rests_after h = record { used = h.used; parts = h.parts; is_sequence = h.is_sequ
 
 short_by : {S E : Type 0} {w : Manner S E} {m n : ℕ} {s u : S} {taken text written rest : List ℕ} (more : List ℕ)
     → Rests w s u m taken text rest → text ++ more ≡ written → length rest ≤ n → IsShortBy (plan_of w s m) m taken written n
-short_by {rest = rest} more h same few = record {
-  sequence = h.used;
-  rest = rest;
-  parts = h.parts;
-  is_sequence = h.is_sequence;
-  none_refused = h.none_refused;
-  written_begins = (more, cc);
-  few = few;
-}
+short_by {w = w} {m = m} {s = s} {written = written} more h same few =
+    let begins : IsPrefix (text_of w s m h.used) written = (more, cc) in search
 
 -- the run as a call whose source and sink are these after it
 abbrev pub over : {S E : Type 0} → Start S E → Supply → Store → Call Supply Store
@@ -119,7 +90,7 @@ ended_at : {S E : Type 0} {r : Start S E} {left came : ℕ} {c : Supply} {l : St
     → HasWritten (plan_of r.w r.s r.m) taken written e → HasState r.w (r.s ⇒ t) r.m taken e
     → HasCause (plan_of r.w r.s r.m) (with_ahead r.held (over r c l)) taken written e → (e ≡ stopped_by (faulty not_tidy) → AsksTidy r.w.level)
     → RestsBy r.w r.s t r.m taken written held e → Ended r t came c l held e
-ended_at {r = r} {left = left} {c = c} {taken = taken} {written = written} t e h gains short spent writes state_is cause tidy_only rests = record {
+ended_at {r = r} {left = left} {taken = taken} {written = written} t e h gains short spent writes state_is cause tidy_only rests = record {
   run = record {
     taken = taken;
     are_bytes = h.are_bytes;
@@ -166,15 +137,10 @@ module _ {S E : Type 0} {r : Start S E} {u : S} {left came : ℕ} {c : Supply} {
   -- where no frame follows
   at_place : {j : Judged Frame} → judge_frame r.w.level (Some r.m) held ≡ j → IsStop j → AtPlace r.w r.m r.s u (h.used ++ held) held h.text j
   at_place e stop =
-      let is = subst IsStop (sym e) stop in
-      let all = wrote h.spans (none_stopped r.w r.m u held is) in
-      let places = h.spans.after held ∙ (front-stop r.w.level (Some r.m) held is).1 in
-      record {
-        all = record { text_is = all.text_is; none_refused = all.refused_is };
-        state_is = all.state_is;
-        verdict_is = ap (judge_frame r.w.level (Some r.m)) places ∙ e;
-        rests = record { rests = rests; place_is = sym places };
-      }
+      let is : IsStop (judge_frame r.w.level (Some r.m) held) = rw e stop in
+      let all = wrote h.spans (none_stopped _ _ _ _ is) in
+      let places = h.spans.after held ∙ (front-stop _ _ _ is).1 in
+      search (rests, sym places, ap (judge_frame r.w.level (Some r.m)) places ∙ e)
 
   short : IsShortBy (plan_of r.w r.s r.m) r.m (h.used ++ held) h.text (r.m + 8)
   short = short_by [] rests (append-nil h.text) h.room
@@ -190,13 +156,12 @@ module _ {S E : Type 0} {r : Start S E} {u : S} {left came : ℕ} {c : Supply} {
   finish_fault : (bad : Fault) (error : ReadError) → read_fault error ≡ Some bad → scan (Some r.m) held ≡ fault bad
       → Ended r u came c l held (stopped_by (cause_of (stream_error error)))
   finish_fault bad error same found =
-      subst (λ cause. Ended r u came c l held (stopped_by cause)) (sym (fault_told error bad same))
-      (finish_bad bad (verdict-bad r.w.level (Some r.m) held bad found) (λ e. absurd (never_untidy error (same ∙ ap Some e))))
+      rw (fault_told error bad same) (finish_bad bad (verdict-bad _ _ _ bad found) (λ e. absurd (never_untidy error (same ∙ ap Some e))))
 
   -- the read budget is spent
   pub finish_spent : scan (Some r.m) held ≡ past → left + idle ≡ 0 → Ended r u came c l held (stopped_by budget_spent)
   finish_spent more zero =
-      let at = at_place (verdict-more r.w.level (Some r.m) held more) tt in
+      let at = at_place (verdict-more _ _ _ more) tt in
       ended_at u (stopped_by budget_spent) h.taken h.gains short (λ same. zero) at.all at.state_is
       (at.verdict_is, omega (arith, ap length h.taken.parts, length-append r.held h.taken.piece))
       (λ same. absurd cc) at.rests
@@ -204,7 +169,7 @@ module _ {S E : Type 0} {r : Start S E} {u : S} {left came : ℕ} {c : Supply} {
   -- a read failed
   pub finish_unread : scan (Some r.m) held ≡ past → Rises r.source.faults c.faults → Ended r u came c l held (stopped_by read_failed)
   finish_unread more rises =
-      let at = at_place (verdict-more r.w.level (Some r.m) held more) tt in
+      let at = at_place (verdict-more _ _ _ more) tt in
       ended_at u (stopped_by read_failed) h.taken h.gains short (λ e. absurd cc) at.all at.state_is (at.verdict_is, rises) (λ e. absurd cc) at.rests
 
   -- a frame that has a fault
@@ -215,43 +180,39 @@ module _ {S E : Type 0} {r : Start S E} {u : S} {left came : ℕ} {c : Supply} {
 
   -- a frame that is refused
   finish_refused : {raw : Raw} {n : ℕ} {why : E} → scan (Some r.m) held ≡ took raw n → IsRefused r.w u raw why → Ended r u came c l held (refused_by why)
-  finish_refused {raw = raw} {n = n} {why = why} found is =
-      let whole = verdict-whole r.w.level (Some r.m) held raw n is.frame found is.at_level is.is_whole in
-      let all = wrote h.spans (none_refused r.w r.m u held is.frame n why whole is.refuses) in
+  finish_refused {why = why} found is =
+      let whole = verdict-whole _ _ _ _ _ is.frame found is.at_level is.is_whole in
+      let all = wrote h.spans (none_refused _ _ _ _ _ _ _ whole is.refuses) in
       ended_at u (refused_by why) h.taken h.gains short (λ e. absurd cc) all.text_is all.state_is (inl all.refused_is) (λ e. absurd cc)
-      (record { rests = rests; refused = inl (record { frame = is.frame; used = n; found = whole; refuses = is.refuses }) })
+      (record { rests = rests; refused = inl (search) })
 
   -- a frame at which memory ran out
   finish_memory : {raw : Raw} {n : ℕ} (t : S)
       → scan (Some r.m) held ≡ took raw n → IsTrue (r.w.wants raw.kind) → Ended r t came c l held (stopped_by out_of_memory)
-  finish_memory {raw = raw} {n = n} t found wants =
+  finish_memory t found wants =
       let is = rests in
-      ended_at t (stopped_by out_of_memory) h.taken h.gains short (λ e. absurd cc) (_, sym (h.spans.text_is held)) tt (record {
-        sequence = is.used;
-        rest = held;
-        parts = is.parts;
-        is_sequence = is.is_sequence;
-        none_refused = is.none_refused;
-        wanting = record { raw = raw; used = n; found = found; such = wants };
-        written_is = is.text_is;
-      }) (λ e. absurd cc) (record { rests = rests_after is; wanting = record { raw = raw; used = n; found = found; such = wants } })
+      ended_at t (stopped_by out_of_memory) h.taken h.gains short (λ e. absurd cc) (_, sym (h.spans.text_is held)) tt (search) (λ e. absurd cc)
+      (record { rests = rests_after is; wanting = search })
 
 -- The end of input: with what the writer says of the end, or inside a frame.
 pub finish_end : {S E : Type 0} {r : Start S E} {u : S} {left came : ℕ} {c : Supply} {l : Store} {idle : ℕ} (held : List ℕ) (end : Option E)
     → Clear r u left came c l held idle → scan (Some r.m) held ≡ past → IsEmpty c.left → r.w.end u ≡ end → Ended r u came c l held (end_with held end)
-finish_end {r = r} {u = u} [] None h more empty may =
-    let at = at_place h (verdict-more r.w.level (Some r.m) [] more) tt in
-    let sequence = sequence_of_all r.w.level (Some r.m) (h.used ++ []) h.taken.are_bytes (sym at.rests.place_is) in
+finish_end {u = u} [] None h more empty may =
+    let at = at_place h (verdict-more _ _ _ more) tt in
     ended_at u finished h.taken h.gains (short h) (λ e. absurd cc) at.all at.state_is
-    ((_, sequence), empty, ap r.w.end (sym at.state_is) ∙ may) (λ e. absurd cc) at.rests
-finish_end {r = r} {u = u} [] (Some why) h more empty may =
-    let at = at_place h (verdict-more r.w.level (Some r.m) [] more) tt in
-    let sequence = sequence_of_all r.w.level (Some r.m) (h.used ++ []) h.taken.are_bytes (sym at.rests.place_is) in
+    ((_, sequence_of_all _ _ _ h.taken.are_bytes (sym at.rests.place_is)), empty, rw (← at.state_is) may) (λ e. absurd cc) at.rests
+finish_end {u = u} [] (Some why) h more empty may =
+    let at = at_place h (verdict-more _ _ _ more) tt in
     ended_at u (refused_by why) h.taken h.gains (short h) (λ e. absurd cc) at.all.text_is at.state_is
-    (inr (record { sequence = (_, sequence); empty = empty; none_refused = at.all.none_refused; ends = ap r.w.end (sym at.state_is) ∙ may }))
+    (inr (record {
+      sequence = (_, sequence_of_all _ _ _ h.taken.are_bytes (sym at.rests.place_is));
+      empty = empty;
+      none_refused = at.all.none_refused;
+      ends = rw (← at.state_is) may;
+    }))
     (λ e. absurd cc) (record { rests = rests h; refused = inr (refl, may) })
-finish_end {r = r} {u = u} (byte ∷ bytes) end h more empty may =
-    let at = at_place h (verdict-more r.w.level (Some r.m) (byte ∷ bytes) more) tt in
+finish_end {u = u} (byte ∷ bytes) end h more empty may =
+    let at = at_place h (verdict-more _ _ _ more) tt in
     ended_at u (stopped_by cut_short) h.taken h.gains (short h) (λ e. absurd cc) at.all at.state_is
     (((λ e. absurd (let none = at.rests.place_is ∙ e in cc)), at.verdict_is), empty) (λ e. absurd cc) at.rests
 
@@ -259,21 +220,15 @@ finish_end {r = r} {u = u} (byte ∷ bytes) end h more empty may =
 
 still_unwritten : (E : Type 0) (error : StreamError) (written : Result (Unit {0}) SinkFault)
     → cause_of error ≡ write_failed → ending_of {E = E} (ended (ends.Stream error) written) ≡ stopped_by write_failed
-still_unwritten E error (Ok done) same = ap stopped_by same
-still_unwritten E error (Err bad) same = refl
+still_unwritten E error written same = grind arith
 
 -- nothing was pending after a failed write, so nothing more was written
 still_failed : {l l' l'' : Store} {before after bytes : List ℕ} {written : Result (Unit {0}) SinkFault}
     → GatherFails l l' before after bytes → WritesAll l' l'' after written → GatherFails l l'' before after bytes
-still_failed {l = l} {l' = l'} {l'' = l''} f g =
+still_failed f g =
     let none : g.piece ≡ [] = nil_from_length g.piece (omega (arith, length-append g.piece g.prefix.0, ap length (g.prefix.1 ∙ f.none))) in
-    record {
-      piece = f.piece;
-      gains = subst (Gains l l'') (append-nil f.piece) (Gains-then _ _ _ _ _ f.gains (subst (Gains l' l'') none g.gains));
-      prefix = f.prefix;
-      rises = λ low. omega (arith, f.rises low);
-      none = f.none;
-    }
+    let gains = rw append-nil at (Gains-then _ _ _ _ _ f.gains (rw none at g.gains)) in
+    search arith
 
 module _ {S E : Type 0} {r : Start S E} {u : S} {left came : ℕ} {c : Supply} {l : Store} {held before : List ℕ}
     (g : Going r u left came c l held before) where
@@ -284,21 +239,12 @@ module _ {S E : Type 0} {r : Start S E} {u : S} {left came : ℕ} {c : Supply} {
       let split = append_assoc g.used g.since held in
       let both = Spans-then g.spans g.spans_since in
       let whole : ((g.text ++ g.written) ++ piece) ++ (prefix.0 ++ rest) ≡ text_of r.w r.s r.m (g.used ++ (g.since ++ held)) =
-      cc (
-        split,
-        append_assoc (g.text ++ g.written) piece (prefix.0 ++ rest),
-        append_assoc g.text g.written (piece ++ (prefix.0 ++ rest)),
-        append_assoc piece prefix.0 rest,
-        append_assoc before tail rest,
-        append_assoc g.written before (tail ++ rest),
-        append_assoc g.text g.text_since (tail ++ rest),
-        both.text_is held,
-      ) in
+      grind (arith, append_assoc, both.text_is held) in
       ended_at t (stopped_by write_failed) g.taken (Gains-then _ _ _ _ _ g.gains gains)
       (short_by (g.written ++ piece) (rests_on g.spans g.taken.are_bytes) (sym (append_assoc g.text g.written piece)) g.room) (λ e. absurd cc)
       (prefix.0 ++ rest, whole) tt (Rises-later _ _ _ g.gains.faults gains.faults rises)
       (λ e. absurd cc)
-      (subst (λ (xs : List ℕ). RestsAfter r.w r.s r.m xs held) split (rests_after (rests_on both (subst IsBytes (sym split) g.taken.are_bytes))))
+      (rw split at (rests_after (rests_on both (subst IsBytes (sym split) g.taken.are_bytes))))
 
   -- what was pending could not be written
   pub finish_unflushed : {l' : Store} {bad : SinkFault} (t : S) → WritesAll l l' before (Err bad) → Ended r t came c l' held (stopped_by write_failed)

@@ -1,11 +1,12 @@
 -- What a writer of the system has after a write and a flush, and what its sink reports.
-use Rattle.std.proofs.Common.{◌≡◌, ◌≤◌, ◌-◌, List, [], ◌++◌, ℕ, length, take, Option, Some, None, sym, ap, ◌∙◌, arith, append-nil}
+use Rattle.amqp_stream.specs
+use Rattle.std.proofs.Common.{◌≡◌, ◌≤◌, ◌-◌, List, [], ℕ, length, take, Option, Some, None, sym, ap, ◌∙◌, arith, append-nil}
 use Rattle.std.proofs.Math.Seq.{take-append_seam}
 use Rattle.std.proofs.lemmas.List.{length-append, length-take-le, take_all}
 use Rattle.std.specs.Io.KnownBytes.{Appends, Keeps}
 use Rattle.std.proofs.KnownBytes.{Appends-kept}
-use Rattle.amqp_stream.specs.Ends.{Grows, Bytes}
-use Rattle.amqp_stream.specs.Scripts.{without_last}
+use specs.Ends.{Grows, Bytes}
+use specs.Scripts.{without_last}
 
 -- bytes that were appended stay after a flush
 pub flushed : (a b c : Option (List ℕ)) (bytes : List ℕ) → Appends a b bytes → Keeps b c → Appends a c bytes
@@ -13,18 +14,14 @@ flushed a b c bytes = Appends-kept a b c bytes
 
 -- a write that failed appended nothing
 pub failed : (a b : Option (List ℕ)) (piece : List ℕ) → Keeps a b → Appends a b (take 0 piece)
-failed None b piece h = tt
-failed (Some x) None piece h = absurd h
-failed (Some x) (Some y) piece h = h ∙ sym (append-nil x)
+failed a b piece h = grind (arith, append-nil)
 
 all_of : (bytes : List ℕ) → take (length bytes - 0) bytes ≡ bytes
 all_of bytes = take_all (length bytes - 0) bytes (omega arith)
 
 -- What a write took and a flush let through is what the sink got.
 pub all_gained : (a b : Option (List ℕ)) (bytes : List ℕ) → Appends a b bytes → Grows (without_last 0 a) (without_last 0 b) bytes
-all_gained None b bytes h = tt
-all_gained (Some x) None bytes h = absurd h
-all_gained (Some x) (Some y) bytes h = ap Bytes (all_of y ∙ h ∙ ap (λ (xs : List ℕ). xs ++ bytes) (sym (all_of x)))
+all_gained a b bytes h = grind (arith, all_of)
 
 -- What a write took and no flush let through is not reported.
 pub none_gained : (a b : Option (List ℕ)) (piece : List ℕ) (n : ℕ) → n ≤ length piece → Appends a b (take n piece)

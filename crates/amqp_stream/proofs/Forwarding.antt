@@ -1,42 +1,27 @@
 -- Runs that go on: a call of a forwarder, as one of canonical bytes, bytes that are fed in pieces, and two runs one after another.
-use Rattle.std.proofs.Common.{◌≡◌, ℕ, List, [], ◌∷◌, ◌++◌, Some, Result, Ok, Err, refl, sym, ap, subst, ◌∙◌, append_assoc, append-nil, ◌+◌, ◌≤◌}
-use Rattle.std.proofs.Common.{length, Option, inl, inr, arith}
+use Rattle.amqp_stream.proofs
+use Rattle.amqp_stream.specs
+use proofs.Names.{◌≡◌, ℕ, List, [], ◌∷◌, ◌++◌, Some, Result, Ok, Err, refl, sym, ap, subst, ◌∙◌, append_assoc, append-nil, ◌+◌, ◌≤◌, length, Option, inl, inr}
+use proofs.Names.{arith, Infallible, Level, plain, canon, canon_frames, front, place, place-none, splits_of, sequence_front, StreamError, Cause, write_failed}
+use proofs.Names.{out_of_memory, cause_of, faulty, cut_short, budget_spent, read_failed, Change, ◌⇒◌, Call, call_of, Supply, Store, Canonicalizes, canonical_at}
+use proofs.Names.{Manner, stopped_by, Ending, finished, refused_by, text_of, plan_of, IsShortBy, HasCause, HasWritten, HasState, with_ahead, RestsBy, Resumes}
+use proofs.Names.{ahead, Rests, RestsAfter, text_ending, length-append, IsBytes, Frame, SpellsFrames, IsSequence, IsPrefix}
 use Rattle.std.proofs.lemmas.List.Concat.{flat_map-append}
 use Rattle.std.specs.List.{concat}
-use Rattle.std.specs.declared.string.ParseError.{Infallible}
-use Rattle.amqp_types.specs.Levels.{Level, plain}
-use Rattle.amqp_wire.specs.Canonical.{canon, canon_frames}
-use Rattle.amqp_wire.specs.Fronts.{front, place, IsUndecided}
-use Rattle.amqp_wire.proofs.Cuts.{front-none, place-none}
-use Rattle.amqp_wire.proofs.Sequences.{splits_of, SpellsFrames-precedes, sequence_front}
-use Rattle.amqp_stream.specs.declared.errors.StreamError.{StreamError}
-use Rattle.amqp_stream.specs.declared.errors.RunError.TheVariants as ends
-use Rattle.amqp_stream.specs.declared.forwarder.Forwarded.{Forwarded}
-use Rattle.amqp_stream.specs.declared.forwarder.Forwarded.TheVariants as results
-use Rattle.amqp_stream.specs.Errors.{Cause, write_failed, out_of_memory, cause_of, faulty, cut_short, budget_spent, read_failed}
-use Rattle.amqp_stream.specs.Changes.{Change, ◌⇒◌}
-use Rattle.amqp_stream.specs.Calls.{Call, call_of}
-use Rattle.amqp_stream.specs.Ends.{Supply, Store, Takes}
-use Rattle.amqp_stream.specs.Canonicalizing.{Canonicalizes, canon_of}
-use Rattle.amqp_stream.specs.Manners.{canonical_at}
-use Rattle.amqp_stream.specs.Steps.{Manner}
-use Rattle.amqp_stream.specs.Streaming.{stopped_by, Ending, finished, refused_by, text_of, plan_of, IsShortBy, HasCause, HasWritten, HasState, StreamsBy}
-use Rattle.amqp_stream.specs.Resuming.{with_ahead, RestsBy, Resumes, ahead, Rests, RestsAfter, RunsAddUp}
-use Rattle.amqp_stream.specs.Transcribing.{text_ending}
-use Rattle.amqp_stream.specs.Forwarding.{Forwarding, ForwardsBy, Forwards, HeldUnless, HeldAfter, forward_ending, forward_result, as_forward, fault_after}
-use Rattle.amqp_stream.specs.Forwarding.{lasting_after, Fed, fed_after, PiecesAreWhole}
-use Rattle.amqp_stream.proofs.Exactly.{front-append}
-use Rattle.amqp_stream.proofs.Transcribing.{CanonicalizesAs, canonical, canonicalizes_as, memory_error, never_out_of_memory}
-use Rattle.std.proofs.lemmas.List.{length-append}
-use Rattle.amqp_types.specs.Judging.{IsBytes}
-use Rattle.amqp_wire.specs.Frames.{Frame}
-use Rattle.amqp_wire.specs.Spelling.{SpellsFrames}
-use Rattle.amqp_wire.specs.Verdicts.{judge_frame}
-use Rattle.amqp_stream.specs.Causes.{IsSequence}
-use Rattle.amqp_stream.specs.Writing.{IsPrefix}
-use Rattle.amqp_stream.proofs.Adding.{Takes-then, Takes-ahead, counted_more, Gains-then, Rises-later, IsBytes-append, ahead_of_none}
-use Rattle.amqp_stream.proofs.Going.{Through, through, Spans}
-use Rattle.amqp_stream.proofs.Finishing.{front_bytes}
+use Rattle.amqp_wire.proofs.Cuts.{front-none}
+use Rattle.amqp_wire.proofs.Sequences.{SpellsFrames-precedes}
+use specs.declared.forwarder.Forwarded.{Forwarded}
+use specs.Canonicalizing.{canon_of}
+use specs.Streaming.{StreamsBy}
+use specs.Resuming.{RunsAddUp}
+use specs.Forwarding.{Forwarding, ForwardsBy, Forwards, HeldUnless, HeldAfter, forward_ending, forward_result, as_forward, fault_after, lasting_after, Fed}
+use specs.Forwarding.{fed_after, PiecesAreWhole}
+use proofs.Exactly.{front-append}
+use proofs.Transcribing.{CanonicalizesAs, canonical, canonicalizes_as, memory_error, never_out_of_memory}
+use proofs.Adding.{Takes-then, Takes-ahead, counted_more, Gains-then, Rises-later, IsBytes-append, ahead_of_none}
+use proofs.Going.{Through, through, Spans}
+use proofs.Finishing.{front_bytes}
+use proofs.Names.ends
 
 -- ---- a call
 
@@ -49,8 +34,7 @@ held_at : {S : Type 0} {level : Level} {writer : Change S} {call : Call Supply S
     → (is : CanonicalizesAs level (with_ahead held.old call) r h.run.taken h.run.reads) → HeldAfter level call.limit is.call.run.taken held.new r
 held_at {level = level} {call = call} (Ok done) h is = h.rests.place_is ∙ ap (place level (Some call.limit)) (sym is.taken)
 held_at {level = level} {writer = writer} {call = call} {held = held} (Err error) h is =
-    subst (λ (xs : List ℕ). HeldUnless level call.limit xs held.new (cause_of error))
-    (sym is.taken) (by_cause (cause_of error) (no_memory error is.call) h.rests)
+    rw is.taken (by_cause (cause_of error) (no_memory error is.call) h.rests)
   where
     by_cause : (cause : Cause) → (cause ≡ out_of_memory → ⊥)
         → RestsBy {E = Infallible} (canonical_at level) writer.old writer.new call.limit h.run.taken h.run.written held.new (stopped_by cause)
@@ -62,25 +46,21 @@ held_at {level = level} {writer = writer} {call = call} {held = held} (Err error
 -- a call of a forwarder ends as a run does
 forward_ends : (E : Type 0) (result : Result Forwarded StreamError)
     → (forward_ending {E = E} (as_forward result) ≡ text_ending (forward_result result)) × (fault_after {E = E} (as_forward result) ≡ lasting_after result)
-forward_ends E (Ok results.More) = (refl, refl)
-forward_ends E (Ok results.Ended) = (refl, refl)
-forward_ends E (Err error) = (refl, refl)
+forward_ends E result = grind arith
 
 -- A call of a forwarder with the writer of canonical bytes is a call that writes the canonical bytes of what came.
 pub forwards : {S : Type 0} {writer : Change S} {forwarder : Change Forwarding} {source : Change Supply} {sink : Change Store}
     (result : Result Forwarded StreamError)
     → ForwardsBy {E = Infallible} (canonical_at plain) writer forwarder source sink (as_forward result) → Forwards plain forwarder source sink result
-forwards {writer = writer} {forwarder = forwarder} {source = source} {sink = sink} result h =
+forwards result h =
     let ends = forward_ends Infallible result in
-    let run =
-    subst (Resumes (canonical_at plain) writer (call_of forwarder.old.limit 1 source sink) (forwarder.old.held ⇒ forwarder.new.held)
-    (forwarder.old.came ⇒ forwarder.new.came)) ends.0 h.run in
+    let run = rw ends.0 at h.run in
     let is = canonicalizes_as (forward_result result) canonical run.run in
     record {
       call = is.call;
       piece = run.piece;
       parts = is.taken ∙ run.parts;
-      takes = subst (Takes source.old source.new run.piece) (sym is.reads) run.takes;
+      takes = rw is.reads run.takes;
       counts = run.counts;
       some = λ e. run.some (ap (λ x. text_ending (forward_result x)) e);
       held = held_at (forward_result result) run is;
@@ -104,22 +84,15 @@ text_more level m a b =
 abbrev at_once : Level → ℕ → List ℕ → Fed
 at_once level m bytes = record { text = canon_of level m bytes; held = place level (Some m) bytes }
 
-same_fed : (text other held rest : List ℕ) → text ≡ other → held ≡ rest
-    → (let a : Fed = record { text = text; held = held } in let b : Fed = record { text = other; held = rest } in a ≡ b)
-same_fed text other held rest e f = cc
-
 fed_more : (level : Level) (m : ℕ) (a : List ℕ) (pieces : List (List ℕ)) → fed_after level m (at_once level m a) pieces ≡ at_once level m (a ++ concat pieces)
-fed_more level m a [] = ap (at_once level m) (sym (append-nil a))
+fed_more level m a [] = rw append-nil
 fed_more level m a (piece ∷ pieces) =
-    ap (λ (done : Fed). fed_after level m done pieces) (same_fed _ _ _ _ (sym (text_more level m a piece)) (sym (place_more level m a piece)))
-    ∙ fed_more level m (a ++ piece) pieces
-    ∙ ap (at_once level m) (append_assoc a piece (concat pieces))
+    rw (← text_more level m a piece, ← place_more level m a piece) (fed_more level m (a ++ piece) pieces ∙ rw append_assoc)
 
 -- Bytes that come in pieces give what they give at once, however they are cut.
 pub pieces_are_whole : PiecesAreWhole
 pieces_are_whole level m pieces =
-    ap (λ (done : Fed). fed_after level m done pieces) (same_fed _ _ _ _ (sym (ap canon_frames (front-none level (Some m)))) (sym (place-none level (Some m))))
-    ∙ fed_more level m [] pieces
+    let none = fed_more level m [] pieces in rw (front-none level (Some m), place-none level (Some m)) at none
 
 -- ---- a run that begins with nothing held, and runs one after another
 
@@ -128,7 +101,7 @@ pub as_one_run : {S E : Type 0} {w : Manner S E} {writer : Change S} {call : Cal
     {held : Change (List ℕ)} {came : Change ℕ} {e : Ending E} → held.old ≡ [] → Resumes w writer call held came e → StreamsBy w writer call e
 as_one_run {w = w} {writer = writer} {call = call} {held = held} {e = e} none h =
     let P : Supply → Type 0 = λ a. StreamsBy w writer (record call { source = a ⇒ call.source.new }) e in
-    subst P {x = ahead held.old call.source.old} (ahead_of_none held.old call.source.old none) (record { run = h.run; state_is = h.state_is })
+    subst P {x = ahead held.old call.source.old} (ahead_of_none held.old call.source.old none) (search)
 
 -- ---- what was used is a sequence of frames that were written for, whatever follows
 
@@ -147,7 +120,7 @@ spans_of {w = w} {s = s} {m = m} h =
 
 spells_then : (level : Level) (m : Option ℕ) (a b : List ℕ) (fs gs : List Frame)
     → SpellsFrames level m a fs → SpellsFrames level m b gs → SpellsFrames level m (a ++ b) (fs ++ gs)
-spells_then level m a b [] gs r q = subst (λ (xs : List ℕ). SpellsFrames level m (xs ++ b) gs) (sym r) q
+spells_then level m a b [] gs r q = rw r q
 spells_then level m a b (f ∷ fs) gs r q =
     (r.0, r.1 ++ b, cc (r.2, append_assoc r.0 r.1 b), r.3, r.4, spells_then level m r.1 b fs gs r.5 q)
 
@@ -222,11 +195,10 @@ module _ {S E : Type 0} {w : Manner S E} {m : ℕ} {s t : S} {used p : List ℕ}
       ends = ap w.end (sp.state_is bytes) ∙ y.ends;
     })
   ]
-  causes_then (stopped_by (faulty bad)) few h = ap (judge_frame w.level (Some m)) (sp.after bytes) ∙ h
-  causes_then (stopped_by cut_short) few h = (subst (IsUndecided w.level (Some m)) (sym (sp.after bytes)) h.0, h.1)
-  causes_then (stopped_by budget_spent) few h = (ap (judge_frame w.level (Some m)) (sp.after bytes) ∙ h.0, few refl)
-  causes_then (stopped_by read_failed) few h =
-      (ap (judge_frame w.level (Some m)) (sp.after bytes) ∙ h.0, Rises-later _ _ _ ab bc h.1)
+  causes_then (stopped_by (faulty bad)) few h = rw (sp.after bytes) h
+  causes_then (stopped_by cut_short) few h = (rw (sp.after bytes) h.0, h.1)
+  causes_then (stopped_by budget_spent) few h = (rw (sp.after bytes) h.0, few refl)
+  causes_then (stopped_by read_failed) few h = (rw (sp.after bytes) h.0, Rises-later _ _ _ ab bc h.1)
   causes_then (stopped_by write_failed) few h = Rises-later _ _ _ kl ln h
   causes_then (stopped_by out_of_memory) few h = record {
     sequence = used ++ h.sequence;
@@ -248,7 +220,7 @@ runs_add_up w s t u m budget more h0 h1 h2 c0 c1 c2 a b c k l n e f g =
     let sp = spans_of first in
     let taken = used ++ g.run.taken in
     let parts : taken ≡ h0 ++ (f.piece ++ g.piece) =
-    cc (g.parts, append_assoc used h1 g.piece, first.parts, f.parts, append_assoc h0 f.piece g.piece) in
+    grind (arith, append_assoc, g.parts, first.parts, f.parts) in
     let takes = Takes-then _ _ _ _ _ _ _ f.takes g.takes in
     let came : e ≡ stopped_by budget_spent → budget + more ≤ length (f.piece ++ g.piece) =
     λ same. omega (arith, f.some refl, g.some same, length-append f.piece g.piece) in

@@ -1,15 +1,14 @@
 -- The generated stream is given, frame after frame.
-use Rattle.std.proofs.Common.{◌≡◌, ◌≢◌, ℕ, ◌+◌, ◌-◌, ◌≤◌, List, [], ◌++◌, suc, length, take, drop, sym, ap, ap₂, ◌∙◌, arith, append_assoc}
-use Rattle.std.proofs.lemmas.List.{take-take, take-append-drop}
-use Rattle.amqp_types.specs.Writing.{Puts}
+use Rattle.amqp_stream.proofs
+use Rattle.amqp_stream.specs
+use proofs.Names.{◌≡◌, ◌≢◌, ℕ, ◌+◌, ◌-◌, ◌≤◌, List, [], ◌++◌, suc, length, take, drop, sym, ap, ◌∙◌, arith, append_assoc, take-take, take-append-drop, Puts}
+use proofs.Names.{held_in, made_frame, made_from}
+use Rattle.std.proofs.Common.{ap₂}
 use Rattle.amqp_types.proofs.Puts.{puts-length}
-use Rattle.amqp_stream.specs.declared.buffer.Span.{Span}
-use Rattle.amqp_stream.specs.Spans.{held_in}
-use Rattle.amqp_stream.specs.Made.{made_frame, made_from}
-use Rattle.amqp_stream.specs.Making.{IsMaking, left_in}
-use Rattle.amqp_stream.proofs.MadeSizes.{made_frame-short}
-use Rattle.amqp_stream.proofs.Spans.{put_front}
-use Rattle.amqp_stream.proofs.Spans.{part-drop, part-length}
+use specs.declared.buffer.Span.{Span}
+use specs.Making.{IsMaking, left_in}
+use proofs.MadeSizes.{made_frame-short}
+use proofs.Spans.{put_front, part-drop, part-length}
 
 -- ---- the next frame
 
@@ -21,12 +20,7 @@ pub refilled_making : {frame new : List ℕ} {s : Span} {next frames end : ℕ} 
     → next ≢ frames → Puts frame new 0 (made_frame next) end → IsMaking new (span 0 end) (next + 1) frames
 refilled_making {frame = frame} {new = new} {next = next} {end = end} making more p =
     let len = puts-length frame new 0 end (made_frame next) (omega (arith, made_frame-short next)) p in
-    record {
-      is_span = record { ordered = omega arith; within = omega (arith, made_frame-short next) };
-      len = len ∙ making.len;
-      ordered = omega arith;
-      few = making.few;
-    }
+    search (arith, made_frame-short next)
 
 made_from-next : (next frames : ℕ) → next ≤ frames → next ≢ frames
     → made_from next (frames - next) ≡ made_frame next ++ made_from (next + 1) (frames - (next + 1))
@@ -53,11 +47,7 @@ pub record Giving (all buf frame : List ℕ) (s : Span) (next frames given : ℕ
 -- What was given stays so when the next frame is put into the buffer of one frame.
 pub given_refilled : {all buf frame new : List ℕ} {s t : Span} {next then frames given : ℕ} → Giving all buf frame s next frames given
     → IsMaking new t then frames → left_in new t then frames ≡ left_in frame s next frames → Giving all buf new t then frames given
-given_refilled g making same = record {
-  making = making;
-  within = g.within;
-  parts = cc (g.parts, same);
-}
+given_refilled g making same = let parts = rw (← same) at g.parts in search
 
 -- the first bytes of a part, and what is left of it
 cut_part : (frame : List ℕ) (start end n : ℕ) → n ≤ end - start
@@ -78,12 +68,7 @@ given_more all buf new frame start end next frames given most behind g few room 
     let len = part-length frame start (start + most) (omega arith) (omega arith) in
     let same = puts-length buf new given behind piece (omega arith) p in
     record {
-      making = record {
-        is_span = record { ordered = omega arith; within = g.making.is_span.within };
-        len = g.making.len;
-        ordered = g.making.ordered;
-        few = g.making.few;
-      };
+      making = search arith;
       within = omega arith;
       parts =
           cc (

@@ -1,26 +1,17 @@
 -- What is written for frames after frames; and the engine's loop: what was taken, what was written, and what is pending.
-use Rattle.std.proofs.Common.{◌≡◌, ◌≢◌, ℕ, ◌+◌, ◌-◌, ◌*◌, ◌<◌, ◌≤◌, List, [], ◌++◌, length, take, drop, Some, Result, Ok, IsTrue, refl, sym, ap, subst, ◌∙◌}
-use Rattle.std.proofs.Common.{arith, append_assoc, append-nil, ◌∷◌, None, Err}
-use Rattle.std.proofs.lemmas.List.{length-append, length-drop, take-append-drop}
-use Rattle.amqp_types.specs.Judging.{took, IsBytes}
-use Rattle.amqp_wire.specs.declared.frame_type.AMQPFrameType.{AMQPFrameType}
-use Rattle.amqp_wire.specs.declared.frame_type.AMQPFrameType.TheVariants as kinds
-use Rattle.amqp_wire.specs.declared.looking.FrameLayout.{FrameLayout}
-use Rattle.amqp_wire.specs.Frames.{Raw, frame_length, length_around, Frame}
-use Rattle.amqp_wire.specs.HeaderScan.{scan}
-use Rattle.amqp_wire.specs.Looks.{laid_out}
-use Rattle.amqp_wire.specs.Fronts.{place}
-use Rattle.amqp_wire.proofs.HeaderScan.{scan-in_bounds}
+use Rattle.amqp_stream.proofs
+use Rattle.amqp_stream.specs
+use proofs.Names.{◌≡◌, ◌≢◌, ℕ, ◌+◌, ◌-◌, ◌*◌, ◌<◌, ◌≤◌, List, [], ◌++◌, length, take, drop, Some, Result, Ok, IsTrue, refl, sym, ap, subst, ◌∙◌, arith}
+use proofs.Names.{append_assoc, append-nil, ◌∷◌, None, Err, length-append, length-drop, take-append-drop, took, IsBytes, AMQPFrameType, FrameLayout, Raw}
+use proofs.Names.{frame_length, Frame, scan, laid_out, place, scan-in_bounds, verdict-whole, SourceFault, ◌⇒◌, Supply, Store, Takes, Gains, counted, ReadsMore}
+use proofs.Names.{Lies, WritesAll, Gathered, Manner, text, refused, state, Writes, text_of, refused_of, state_of}
+use Rattle.amqp_wire.specs.Frames.{length_around}
 use Rattle.amqp_wire.proofs.Encoded.{scan-beside}
-use Rattle.amqp_wire.proofs.Cuts.{ComesBefore-none, ComesBefore-more, verdict-whole}
-use Rattle.amqp_stream.specs.declared.source.SourceFault.{SourceFault}
-use Rattle.amqp_stream.specs.Changes.{◌⇒◌}
-use Rattle.amqp_stream.specs.Ends.{Supply, Store, Takes, Gains, counted}
-use Rattle.amqp_stream.specs.Reading.{ReadsMore, Lies}
-use Rattle.amqp_stream.specs.Writing.{WritesAll, Keeps, Gathered}
-use Rattle.amqp_stream.specs.Steps.{Manner, text_at, text, refused_at, refused, state_at, state}
-use Rattle.amqp_stream.specs.Streaming.{IsStep, Writes, text_of, refused_of, state_of}
-use Rattle.amqp_stream.proofs.Adding.{Takes-then, Takes-none, counted_none, counted_more, Gains-none, Gains-then, IsBytes-append}
+use Rattle.amqp_wire.proofs.Cuts.{ComesBefore-none, ComesBefore-more}
+use specs.Writing.{Keeps}
+use specs.Streaming.{IsStep}
+use proofs.Adding.{Takes-then, Takes-none, counted_none, counted_more, Gains-none, Gains-then, IsBytes-append}
+use proofs.Names.kinds
 
 -- where none of the first frames is refused, the others are written for from the state after them
 pub record Through {S E : Type 0} (w : Manner S E) (s : S) (fs gs : List Frame) : Type 0 where
@@ -28,42 +19,37 @@ pub record Through {S E : Type 0} (w : Manner S E) (s : S) (fs gs : List Frame) 
   pub refused_is : refused w s (fs ++ gs) ≡ refused w (state w s fs) gs
   pub state_is : state w s (fs ++ gs) ≡ state w (state w s fs) gs
 
-through_at : {S E : Type 0} (w : Manner S E) (s : S) (fs gs : List Frame) (r : Result (List ℕ × S) E) → ((t : S) → refused w t fs ≡ None → Through w t fs gs)
-    → refused_at r (λ t. refused w t fs) ≡ None
-    → (text_at r (λ t. text w t (fs ++ gs)) ≡ text_at r (λ t. text w t fs) ++ text w (state_at s r (λ t. state w t fs)) gs)
-    × (refused_at r (λ t. refused w t (fs ++ gs)) ≡ refused w (state_at s r (λ t. state w t fs)) gs)
-    × (state_at s r (λ t. state w t (fs ++ gs)) ≡ state w (state_at s r (λ t. state w t fs)) gs)
-through_at w s fs gs (Ok p) ih h =
-    let rest = ih p.1 h in
-    (ap (λ (xs : List ℕ). p.0 ++ xs) rest.text_is ∙ sym (append_assoc p.0 _ _), rest.refused_is, rest.state_is)
-through_at w s fs gs (Err why) ih h = absurd cc
+through_at : {S E : Type 0} (w : Manner S E) (s : S) (f : Frame) (fs gs : List Frame) (r : Result (List ℕ × S) E) → w.step s f ≡ r
+    → ((t : S) → refused w t fs ≡ None → Through w t fs gs) → refused w s (f ∷ fs) ≡ None → Through w s (f ∷ fs) gs
+unfolding text refused state
+through_at w s f fs gs (Ok p) is ih h =
+    let rest = ih p.1 (rw is at h) in
+    record { text_is = rw (is, rest.text_is, append_assoc); refused_is = rw is rest.refused_is; state_is = rw is rest.state_is }
+through_at w s f fs gs (Err why) is ih h = absurd (let none = rw is at h in cc)
 
 -- What is written for frames that follow others is written from the state after these.
 pub through : {S E : Type 0} (w : Manner S E) (s : S) (fs gs : List Frame) → refused w s fs ≡ None → Through w s fs gs
 unfolding text refused state
-through w s [] gs h = record { text_is = refl; refused_is = refl; state_is = refl }
-through w s (f ∷ fs) gs h =
-    let at = through_at w s fs gs (w.step s f) (λ t. through w t fs gs) h in
-    record { text_is = at.0; refused_is = at.1; state_is = at.2 }
+through w s [] gs h = search
+through w s (f ∷ fs) gs h = through_at w s f fs gs (w.step s f) refl (λ t. through w t fs gs) h
 
 -- after a frame that is refused nothing changes
 pub record IsSettled {S E : Type 0} (w : Manner S E) (s : S) (fs gs : List Frame) (why : E) : Type 0 where
   pub refused_is : refused w s (fs ++ gs) ≡ Some why
   pub text_is : text w s (fs ++ gs) ≡ text w s fs
 
-settled_at : {S E : Type 0} (w : Manner S E) (fs gs : List Frame) (why : E) (r : Result (List ℕ × S) E)
-    → ((t : S) → refused w t fs ≡ Some why → IsSettled w t fs gs why) → refused_at r (λ t. refused w t fs) ≡ Some why
-    → (refused_at r (λ t. refused w t (fs ++ gs)) ≡ Some why) × (text_at r (λ t. text w t (fs ++ gs)) ≡ text_at r (λ t. text w t fs))
-settled_at w fs gs why (Ok p) ih h = let rest = ih p.1 h in (rest.refused_is, ap (λ (xs : List ℕ). p.0 ++ xs) rest.text_is)
-settled_at w fs gs why (Err x) ih h = (h, refl)
+settled_at : {S E : Type 0} (w : Manner S E) (s : S) (f : Frame) (fs gs : List Frame) (why : E) (r : Result (List ℕ × S) E) → w.step s f ≡ r
+    → ((t : S) → refused w t fs ≡ Some why → IsSettled w t fs gs why) → refused w s (f ∷ fs) ≡ Some why → IsSettled w s (f ∷ fs) gs why
+unfolding text refused
+settled_at w s f fs gs why (Ok p) is ih h =
+    let rest = ih p.1 (rw is at h) in record { refused_is = rw is rest.refused_is; text_is = rw (is, rest.text_is) }
+settled_at w s f fs gs why (Err x) is ih h = record { refused_is = rw is (rw is at h); text_is = rw is }
 
 -- Frames that follow a refused one change neither the refusal nor what is written.
 pub settled : {S E : Type 0} (w : Manner S E) (s : S) (fs gs : List Frame) (why : E) → refused w s fs ≡ Some why → IsSettled w s fs gs why
 unfolding text refused
 settled w s [] gs why h = absurd cc
-settled w s (f ∷ fs) gs why h =
-    let at = settled_at w fs gs why (w.step s f) (λ t. settled w t fs gs why) h in
-    record { refused_is = at.0; text_is = at.1 }
+settled w s (f ∷ fs) gs why h = settled_at w s f fs gs why (w.step s f) refl (λ t. settled w t fs gs why) h
 
 -- ---- the loop
 
@@ -87,7 +73,7 @@ pub record Spans {S E : Type 0} (w : Manner S E) (m : ℕ) (s t : S) (bytes text
   pub state_is : (rest : List ℕ) → state_of w s m (bytes ++ rest) ≡ state_of w t m rest
 
 Spans-none : {S E : Type 0} (w : Manner S E) (m : ℕ) (s : S) → Spans w m s s [] []
-Spans-none w m s = record { after = λ rest. refl; text_is = λ rest. refl; refused_is = λ rest. refl; state_is = λ rest. refl }
+Spans-none w m s = search
 
 -- Two sequences of frames, one after the other, are written for one after the other.
 pub Spans-then : {S E : Type 0} {w : Manner S E} {m : ℕ} {s t u : S} {a b p q : List ℕ}
@@ -104,15 +90,13 @@ Spans-then {w = w} {m = m} {u = u} {a = a} {b = b} {p = p} {q = q} g h = record 
 pub Spans-one : {S E : Type 0} {w : Manner S E} {s t : S} {raw : Raw} {bytes : List ℕ} (m : ℕ) (held : List ℕ) (n : ℕ)
     → scan (Some m) held ≡ took raw n → IsStep w s t raw bytes → Spans w m s t (take n held) bytes
 unfolding text refused state
-Spans-one {w = w} {s = s} {raw = raw} m held n found is =
-    let one =
-    ComesBefore-more w.level (Some m) [] held [] is.frame n (ComesBefore-none w.level (Some m))
-    (verdict-whole w.level (Some m) held raw n is.frame found is.at_level is.is_whole) in
+Spans-one m held n found is =
+    let one = ComesBefore-more _ _ [] _ [] _ _ (ComesBefore-none _ _) (verdict-whole _ _ _ _ _ is.frame found is.at_level is.is_whole) in
     record {
       after = one.after;
-      text_is = λ rest. ap (text w s) (one.sequence rest) ∙ ap (λ r. text_at r (λ u. text_of w u m rest)) is.steps;
-      refused_is = λ rest. ap (refused w s) (one.sequence rest) ∙ ap (λ r. refused_at r (λ u. refused_of w u m rest)) is.steps;
-      state_is = λ rest. ap (state w s) (one.sequence rest) ∙ ap (λ r. state_at s r (λ u. state_of w u m rest)) is.steps;
+      text_is = λ rest. rw (one.sequence rest, is.steps);
+      refused_is = λ rest. rw (one.sequence rest, is.steps);
+      state_is = λ rest. rw (one.sequence rest, is.steps);
     }
 
 -- What was held at first and taken so far, with what is held at its end. At most `idle` reads gave nothing.
@@ -161,8 +145,8 @@ Clear-held r held e fits few = record {
   taken = record {
     piece = [];
     parts = e ∙ sym (append-nil r.held);
-    takes = subst (Takes r.source r.source []) {x = 0} (omega arith) (Takes-none r.source);
-    counts = counted_none r.came [] refl;
+    takes = subst (Takes r.source r.source []) {x = 0} (omega arith) (Takes-none _);
+    counts = counted_none _ [] refl;
     fall = omega arith;
     few = omega arith;
     are_bytes = fits;
@@ -173,7 +157,7 @@ Clear-held r held e fits few = record {
 -- the loop goes on, with nothing pending
 pub Going-clear : {S E : Type 0} {r : Start S E} {u : S} {left came : ℕ} {b : Supply} {l : Store} {held pending : List ℕ}
     → Clear r u left came b l held 0 → pending ≡ [] → Going r u left came b l held pending
-Going-clear {r = r} {u = u} {l = l} h none = record {
+Going-clear {r = r} {u = u} h none = record {
   used = h.used;
   text = h.text;
   between = u;
@@ -182,7 +166,7 @@ Going-clear {r = r} {u = u} {l = l} h none = record {
   text_since = [];
   spans_since = Spans-none r.w r.m u;
   written = [];
-  gains = subst (Gains r.sink l) (sym (append-nil h.text)) h.gains;
+  gains = rw append-nil h.gains;
   parts = none;
   taken = h.taken;
   room = h.room;
@@ -191,8 +175,7 @@ Going-clear {r = r} {u = u} {l = l} h none = record {
 
 -- a frame has no more bytes than it uses
 around_fits : (kind : AMQPFrameType) (p n : ℕ) → 8 ≤ n → (kind ≢ kinds.ProtocolHeader → p + 8 ≤ n) → length_around kind p ≤ n
-around_fits kinds.ProtocolHeader p n least h = least
-around_fits kind p n least h = h (λ e. absurd cc)
+around_fits kind p n least h = grind arith
 
 -- A borrowed frame has no more bytes than it uses of those that it lies in.
 pub frame_fits : (m : ℕ) (held : List ℕ) (raw : Raw) (n : ℕ) → scan (Some m) held ≡ took raw n → frame_length raw ≤ n
@@ -203,14 +186,12 @@ module _ {S E : Type 0} {r : Start S E} {u : S} {left came : ℕ} {b : Supply} {
     (g : Going r u left came b l held pending) where
   -- what was pending was written
   pub Clear-flushed : {l' : Store} {done : Unit {0}} → WritesAll l l' pending (Ok done) → Clear r u left came b l' held 0
-  Clear-flushed {l' = l'} all = record {
+  Clear-flushed all = record {
     used = g.used ++ g.since;
     text = g.text ++ g.text_since;
     spans = Spans-then g.spans g.spans_since;
-    gains =
-        subst (Gains r.sink l') {x = (g.text ++ g.written) ++ pending} (cc (append_assoc g.text g.written pending))
-        (Gains-then _ _ _ _ _ g.gains (subst (Gains l l') all.ok all.gains));
-    taken = subst (λ (xs : List ℕ). Taken r left came b xs 0) (sym (append_assoc g.used g.since held)) g.taken;
+    gains = rw (append_assoc, g.parts) at (Gains-then _ _ _ _ _ g.gains (rw all.ok at all.gains));
+    taken = rw append_assoc g.taken;
     room = omega (arith, length-append g.since held);
   }
 
@@ -218,7 +199,7 @@ module _ {S E : Type 0} {r : Start S E} {u : S} {left came : ℕ} {b : Supply} {
   going_on : {v : S} {l' : Store} {after bytes : List ℕ} (since rest : List ℕ) → Spans r.w r.m g.between v since (g.text_since ++ bytes)
       → Gathered l l' pending after bytes → since ++ rest ≡ g.since ++ held
       → (IsTrue r.w.compact → length after ≤ length since) → Going r v left came b l' rest after
-  going_on {l' = l'} {after = after} {bytes = bytes} since rest spans k same compact = record {
+  going_on {after = after} {bytes = bytes} since rest spans k same compact = record {
     used = g.used;
     text = g.text;
     between = g.between;
@@ -227,9 +208,9 @@ module _ {S E : Type 0} {r : Start S E} {u : S} {left came : ℕ} {b : Supply} {
     text_since = g.text_since ++ bytes;
     spans_since = spans;
     written = g.written ++ k.written;
-    gains = subst (Gains r.sink l') (append_assoc g.text g.written k.written) (Gains-then _ _ _ _ _ g.gains k.gains);
-    parts = cc (append_assoc g.written k.written after, append_assoc g.written pending bytes);
-    taken = subst (λ (xs : List ℕ). Taken r left came b (g.used ++ xs) 0) (sym same) g.taken;
+    gains = rw append_assoc at (Gains-then _ _ _ _ _ g.gains k.gains);
+    parts = grind (arith, append_assoc);
+    taken = rw same g.taken;
     room = omega (arith, ap length same);
     compact = compact;
   }
@@ -237,7 +218,7 @@ module _ {S E : Type 0} {r : Start S E} {u : S} {left came : ℕ} {b : Supply} {
   -- nothing of a frame was gathered
   pub Going-kept : {l' : Store} {after : List ℕ} → Keeps l l' pending after → Going r u left came b l' held after
   Going-kept {after = after} k =
-      going_on g.since held (subst (Spans r.w r.m g.between u g.since) (sym (append-nil g.text_since)) g.spans_since) k refl
+      going_on _ held (rw append-nil g.spans_since) k refl
       (λ is. omega (arith, g.compact is, ap length (k.parts ∙ append-nil pending), length-append k.written after))
 
   -- a frame that lies at the front of what is held is used, and what is written for it was gathered
@@ -248,17 +229,9 @@ module _ {S E : Type 0} {r : Start S E} {u : S} {left came : ℕ} {b : Supply} {
       let n = layout.frame_len in
       let all : take n held ++ drop n held ≡ held = take-append-drop n held in
       going_on (g.since ++ take n held) (drop n held) (Spans-then g.spans_since (Spans-one r.m held n lies.found w.step)) w.gathered
-      (cc (append_assoc g.since (take n held) (drop n held), all))
+      (rw (append_assoc, all))
       (λ is.
-      omega (
-        arith,
-        g.compact is,
-        compact is,
-        ap length all,
-        length-append (take n held) (drop n held),
-        length-drop n held,
-        length-append g.since (take n held),
-      ))
+      omega (arith, g.compact is, compact is, ap length all, length-drop n held, length-append {A = ℕ}))
 
   -- what is pending for a compact writer and the next frame fit a buffer for the largest frame
   pub fits_room : {layout : FrameLayout} → Lies r.m held layout → IsTrue r.w.compact → length pending + frame_length (laid_out layout held) ≤ r.m + 8
@@ -270,7 +243,7 @@ pub Clear-read : {S E : Type 0} {r : Start S E} {u : S} {left came later : ℕ}
     {b c : Supply} {l : Store} {held after : List ℕ} {q : Result ℕ SourceFault} (idle : ℕ)
     → Clear r u left came b l held 0 → 0 < left → (h : ReadsMore (b ⇒ c) (held ⇒ after) q) → 1 ≤ length h.piece + idle
     → Some later ≡ counted (length h.piece) (Some came) → length after ≤ r.m + 8 → Clear r u (left - 1) later c l after idle
-Clear-read {r = r} {left = left} {came = came} {later = later} {b = b} {c = c} {held = held} {after = after} idle k some h enough counts room =
+Clear-read {r = r} {left = left} {came = came} {later = later} {c = c} {held = held} {after = after} idle k some h enough counts room =
     let t = k.taken in
     let parts : (k.used ++ held) ++ h.piece ≡ k.used ++ after = cc (append_assoc k.used held h.piece, h.held) in
     record {
@@ -278,7 +251,7 @@ Clear-read {r = r} {left = left} {came = came} {later = later} {b = b} {c = c} {
       text = k.text;
       spans = k.spans;
       gains = k.gains;
-      taken = subst (λ (xs : List ℕ). Taken r (left - 1) later c xs idle) parts (record {
+      taken = rw (← parts) (record {
         piece = t.piece ++ h.piece;
         parts = cc (append_assoc r.held t.piece h.piece, t.parts);
         takes =

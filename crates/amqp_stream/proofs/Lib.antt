@@ -1,4 +1,5 @@
 -- The lemmas of amqp_stream.
+pub mod Names
 pub mod Spans
 pub mod Adding
 pub mod Pulling

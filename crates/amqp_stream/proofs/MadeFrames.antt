@@ -1,25 +1,27 @@
 -- The frames that are generated, of which two are methods, and the sequence that they are.
-use Rattle.std.proofs.Common.{◌≡◌, ℕ, zero, suc, ◌+◌, ◌-◌, ◌%◌, ◌^◌, ◌<◌, ◌&&◌, Bool, true, List, [], ◌∷◌, ◌++◌, take, refl, subst, arith, rules}
-use Rattle.std.specs.Prelude.{◌==◌, nat_lt, if◌then◌else◌}
+use Rattle.amqp_stream.proofs
+use Rattle.amqp_types.specs as types
+use Rattle.amqp_wire.specs as wire
+use proofs.Names.{◌≡◌, ℕ, zero, suc, ◌+◌, ◌-◌, ◌%◌, ◌<◌, Bool, true, List, [], ◌∷◌, ◌++◌, take, refl, arith, ◌==◌, if◌then◌else◌, nat_tests, plain, took}
+use proofs.Names.{IsBytes, Frame, Body, made_channel, made_payload, made_frame, select_payload, declare_payload, made_from}
+use Rattle.std.proofs.Common.{◌&&◌, rules}
+use Rattle.std.specs.Prelude.{nat_lt}
 use Rattle.std.specs.Str.{is_utf8}
-use Rattle.std.proofs.lemmas.Bool.Decides.{nat_tests}
 use Rattle.std.proofs.lemmas.Str.{is_utf8-from_IsUtf8, IsUtf8-from_ascii}
-use Rattle.amqp_types.specs.Levels.{plain}
-use Rattle.amqp_types.specs.Judging.{took, IsBytes}
-use Rattle.amqp_types.specs.Flags.{judge_flags}
-use Rattle.amqp_types.specs.Strings.{judge_short_string, judge_long_string}
-use Rattle.amqp_types.specs.Values.{boolean_value}
-use Rattle.amqp_types.specs.ValueJudging.{filled, judge_entry, judge_table, judge_behind, judge_tagged, nested, judge_value}
-use Rattle.amqp_types.specs.Slots.{Item, flag_item, text_item, entries_item}
-use Rattle.amqp_types.specs.SlotJudging.{judge_form, judge_dropped, judge_slots}
-use Rattle.amqp_types.specs.Rows.{rows_of, slots_at}
-use Rattle.amqp_types.specs.Methods.{Method, method, judge_method, judge_in_class, judge_payload}
-use Rattle.amqp_types.specs.MethodSpelling.{SpellsPayload}
+use types.Flags.{judge_flags}
+use types.Strings.{judge_short_string, judge_long_string}
+use types.Values.{boolean_value}
+use types.ValueJudging.{filled, judge_entry, judge_table, judge_behind, judge_tagged, nested, judge_value}
+use types.Slots.{Item, flag_item, text_item, entries_item}
+use types.SlotJudging.{judge_form, judge_dropped, judge_slots}
+use types.Rows.{rows_of, slots_at}
+use types.Methods.{Method, method, judge_method, judge_in_class, judge_payload}
+use types.MethodSpelling.{SpellsPayload}
 use Rattle.amqp_laws.proofs.MethodLaws.{payloads_lawful}
-use Rattle.amqp_wire.specs.Frames.{Frame, Meth, Body, Beat}
-use Rattle.amqp_wire.specs.Spelling.{Spells}
-use Rattle.amqp_stream.specs.Made.{made_channel, made_payload, made_frame, select_payload, declare_payload, MadeIsASequence, made_from, IsSequenceOf}
-use Rattle.amqp_stream.proofs.MadeSizes.{by_four, made_frame-short}
+use wire.Frames.{Meth, Beat}
+use wire.Spelling.{Spells}
+use Rattle.amqp_stream.specs.Made.{MadeIsASequence, IsSequenceOf}
+use proofs.MadeSizes.{by_four, made_frame-short}
 
 -- where each frame is encoded, the frames one after another are a sequence
 pub made_sequence : (frame : ℕ → Frame) → ((i : ℕ) → Spells plain (made_frame i) (frame i)) → (i n : ℕ) → IsSequenceOf n (made_from i n)
@@ -77,8 +79,7 @@ declare_judged = simp (empty_utf8, key_utf8)
 
 spelled_by : {payload : List ℕ} {m : Method} {n : ℕ}
     → judge_payload payload ≡ took m n → are_bytes payload ≡ true → take n payload ≡ payload → SpellsPayload plain payload m
-spelled_by {payload = payload} {m = m} {n = n} judged bytes whole =
-    subst (λ (xs : List ℕ). SpellsPayload plain xs m) whole (payloads_lawful.exact.spelled payload m n (bytes_by payload bytes) judged).0
+spelled_by judged bytes whole = rw whole at ((payloads_lawful.exact.spelled _ _ _ (bytes_by _ bytes) judged).0)
 
 -- ---- the frames
 
@@ -92,24 +93,11 @@ frame_at i =
 frame_spelled : (i : ℕ) → Spells plain (made_frame i) (frame_at i)
 unfolding made_frame frame_at
 frame_spelled i =
-    let fits : made_channel i < 2 ^ 16 = omega arith in
     by_four (Spells plain) (i % 4 == 0) (i % 4 == 1) (i % 4 == 2) _ _ _ _ _ _ _ _
-    (record {
-      payload = made_payload i;
-      is_framed = record { channel_fits = omega arith; length_fits = omega arith; bytes_are = refl };
-      at_level = tt;
-    })
-    (record { channel_fits = fits; length_fits = omega arith; bytes_are = refl })
-    (record {
-      payload = select_payload;
-      is_framed = record { channel_fits = fits; length_fits = omega arith; bytes_are = refl };
-      spelled = spelled_by select_judged refl refl;
-    })
-    (record {
-      payload = declare_payload;
-      is_framed = record { channel_fits = fits; length_fits = omega arith; bytes_are = refl };
-      spelled = spelled_by declare_judged refl refl;
-    })
+    (record { payload = made_payload i; is_framed = search arith; at_level = tt })
+    (search arith)
+    (record { payload = select_payload; is_framed = search arith; spelled = spelled_by select_judged refl refl })
+    (record { payload = declare_payload; is_framed = search arith; spelled = spelled_by declare_judged refl refl })
 
 -- The generated stream is a sequence of frames at each level.
 pub all_made : MadeIsASequence

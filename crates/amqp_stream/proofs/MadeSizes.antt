@@ -1,11 +1,10 @@
 -- The lengths of generated frames, and of the stream.
-use Rattle.std.proofs.Common.{◌≡◌, ℕ, zero, suc, ◌+◌, ◌*◌, ◌/◌, ◌%◌, ◌<◌, ◌≤◌, Bool, true, false, List, length, ap, ◌∙◌, inl, inr, arith, zero-add}
-use Rattle.std.specs.Prelude.{◌==◌, if◌then◌else◌}
-use Rattle.std.proofs.lemmas.List.{length-append}
-use Rattle.std.proofs.lemmas.Bool.{cases_lt}
-use Rattle.std.proofs.lemmas.Bool.Decides.{nat_tests}
+use Rattle.amqp_stream.proofs
+use proofs.Names.{◌≡◌, ℕ, zero, suc, ◌+◌, ◌*◌, ◌%◌, ◌<◌, ◌≤◌, Bool, true, false, List, length, ap, ◌∙◌, inl, inr, arith, ◌==◌, if◌then◌else◌, length-append}
+use proofs.Names.{cases_lt, nat_tests, made_frame, made_from, made_channel, made_payload, select_payload, declare_payload}
+use Rattle.std.proofs.Common.{◌/◌, zero-add}
 use Rattle.amqp_wire.proofs.Sizes.{framed_length}
-use Rattle.amqp_stream.specs.Made.{made_frame, made_from, made, made_channel, made_payload, select_payload, declare_payload, most_frames}
+use Rattle.amqp_stream.specs.Made.{made, most_frames}
 
 -- the length of a frame, by its number modulo 4
 abbrev pub length_by : ℕ → ℕ

@@ -1,21 +1,12 @@
 -- What follows from a call of `next`, for its callers.
-use Rattle.std.proofs.Common.{◌≡◌, ℕ, ◌+◌, ◌-◌, ◌*◌, ◌<◌, ◌≤◌, List, length, Option, Some, None, Result, Ok, Err, IsErrAnd, drop, refl, sym, ap}
-use Rattle.std.proofs.Common.{subst, ◌∙◌, inl, inr, arith, append-nil}
-use Rattle.std.proofs.lemmas.Bool.{cases_lt}
-use Rattle.std.proofs.lemmas.List.{drop_at, length-append, length-drop}
+use Rattle.amqp_stream.proofs
+use Rattle.amqp_stream.specs
+use proofs.Names.{◌≡◌, ℕ, ◌+◌, ◌-◌, ◌*◌, ◌<◌, ◌≤◌, List, length, Option, Some, None, Result, Ok, Err, drop, refl, sym, ap, subst, ◌∙◌, inl, inr, arith}
+use proofs.Names.{append-nil, cases_lt, drop_at, length-append, length-drop, Fault, past, fault, IsBytes, IsBytes-drop, raw_of, scan, scan-in_bounds, scan-none}
+use proofs.Names.{scan-past_few, AMQPRawFrame, ReadError, Change, Supply, read_fault, Holding, Ends, IsBorrowed, HasNext}
+use Rattle.std.proofs.Common.{IsErrAnd}
 use Rattle.std.proofs.Math.Nat.{mul-le-mul_right}
-use Rattle.amqp_types.specs.Judging.{Fault, past, fault, IsBytes}
-use Rattle.amqp_types.proofs.Bytes.{IsBytes-drop}
-use Rattle.amqp_wire.specs.Frames.{raw_of}
-use Rattle.amqp_wire.specs.HeaderScan.{scan}
-use Rattle.amqp_wire.proofs.HeaderScan.{scan-in_bounds, scan-none, scan-past_few}
-use Rattle.amqp_wire.specs.declared.raw_frame.AMQPRawFrame.{AMQPRawFrame}
-use Rattle.amqp_stream.specs.declared.errors.ReadError.{ReadError}
-use Rattle.amqp_stream.specs.declared.errors.ReadError.TheVariants as errors
-use Rattle.amqp_stream.specs.Changes.{Change}
-use Rattle.amqp_stream.specs.Ends.{Supply}
-use Rattle.amqp_stream.specs.Errors.{read_fault}
-use Rattle.amqp_stream.specs.Reading.{Holding, Ends, IsBorrowed, reading_left, HasNext}
+use specs.Reading.{reading_left}
 
 -- ---- what is held
 
@@ -44,10 +35,7 @@ module _ {X : Type 0} {P : ℕ → List ℕ → List ℕ → X → Type 0} {supp
 
   -- Where bytes were taken, a read was made.
   pub next_some : 0 < length p.taken → budget.new < budget.old
-  next_some some = elim (cases_lt budget.new budget.old) [
-    | inl less ↦ less
-    | inr none ↦ absurd (omega (arith, ap length (p.unread (omega arith))))
-  ]
+  next_some some = grind arith
 
 -- ---- a fault that is held
 
@@ -71,10 +59,7 @@ next_again {supply = supply} {budget = budget} {reader = reader} (Err error) bad
   where
     by_error : (error : ReadError) → scan (Some reader.old.limit) p.bytes ≡ fault bad
         → Ends IsBorrowed reader.old.limit p.bytes supply budget.new reader.new.held (Err error) → read_fault error ≡ Some bad
-    by_error errors.CutShort found h = absurd (let more = h.0 in cc)
-    by_error errors.TurnsSpent found h = absurd (let more = h.0 in cc)
-    by_error errors.ReadFault found h = absurd (let more = h.0 in cc)
-    by_error error found h = cc
+    by_error error found h = grind arith
 
 -- ---- what a loop over `next` has left falls with each frame
 

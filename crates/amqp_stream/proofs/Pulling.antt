@@ -1,22 +1,13 @@
 -- A pull goes on by a read, and ends as `next` says.
-use Rattle.std.proofs.Common.{◌≡◌, ◌≢◌, ℕ, ◌+◌, ◌-◌, ◌<◌, ◌≤◌, List, [], ◌++◌, length, drop, Option, Some, None, Result, Ok, Err, refl, sym, ap}
-use Rattle.std.proofs.Common.{subst, ◌∙◌, arith, append_assoc, append-nil}
+use Rattle.amqp_stream.proofs
+use Rattle.amqp_stream.specs
+use proofs.Names.{◌≡◌, ◌≢◌, ℕ, ◌+◌, ◌-◌, ◌<◌, ◌≤◌, List, [], ◌++◌, length, drop, Option, Some, None, Result, Ok, Err, refl, sym, ap, subst, ◌∙◌, arith}
+use proofs.Names.{append_assoc, append-nil, length-append, nil_from_length, Fault, past, fault, IsBytes, raw_of, scan, laid_out, FrameLayout, AMQPRawFrame}
+use proofs.Names.{SourceFault, ReadError, Change, ◌⇒◌, Supply, Takes, read_fault, Holding, ReadsMore, Ends, LiesIn, IsBorrowed, HasNext}
 use Rattle.std.specs.Prelude.{OnErr}
-use Rattle.std.proofs.lemmas.List.{length-append, nil_from_length}
-use Rattle.amqp_types.specs.Judging.{Fault, past, fault, took, IsBytes}
-use Rattle.amqp_wire.specs.Frames.{raw_of}
-use Rattle.amqp_wire.specs.HeaderScan.{scan}
-use Rattle.amqp_wire.specs.Looks.{laid_out}
-use Rattle.amqp_wire.specs.declared.looking.FrameLayout.{FrameLayout}
-use Rattle.amqp_wire.specs.declared.raw_frame.AMQPRawFrame.{AMQPRawFrame}
-use Rattle.amqp_stream.specs.declared.source.SourceFault.{SourceFault}
-use Rattle.amqp_stream.specs.declared.errors.ReadError.{ReadError}
-use Rattle.amqp_stream.specs.declared.errors.ReadError.TheVariants as errors
-use Rattle.amqp_stream.specs.Changes.{Change, ◌⇒◌}
-use Rattle.amqp_stream.specs.Ends.{Supply, Takes}
-use Rattle.amqp_stream.specs.Errors.{read_fault}
-use Rattle.amqp_stream.specs.Reading.{Holding, ReadsMore, Ends, idle_reads, LiesIn, IsBorrowed, HasNext}
-use Rattle.amqp_stream.proofs.Adding.{Takes-then, Rises-later, IsBytes-append}
+use specs.Reading.{idle_reads}
+use proofs.Adding.{Takes-then, Rises-later, IsBytes-append}
+use specs.declared.errors.ReadError.TheVariants as errors
 
 -- What a pull keeps: what was taken so far. At most `idle` of its reads gave nothing.
 pub record Pulled (m : ℕ) (old new : Supply) (budget_old budget : ℕ) (before b : List ℕ) (idle : ℕ) : Type 0 where
@@ -32,14 +23,14 @@ pub record Pulled (m : ℕ) (old new : Supply) (budget_old budget : ℕ) (before
 -- where more is needed, nothing before was decided
 undecided : {m : ℕ} {a s : Supply} {budget_old budget : ℕ} {before b : List ℕ}
     → Pulled m a s budget_old budget before b 0 → scan (Some m) b ≡ past → scan (Some m) before ≢ past → ⊥
-undecided {m = m} {before = before} {b = b} p more h =
+undecided {before = before} p more h =
     h (cc (p.unread (p.decided h), append-nil before))
 
 -- one more read
 pub Pulled-more : {m : ℕ} {a s t : Supply} {budget_old budget : ℕ} {before b c : List ℕ} {r : Result ℕ SourceFault} (idle : ℕ)
     → Pulled m a s budget_old budget before b 0 → 0 < budget → scan (Some m) b ≡ past → (read : ReadsMore (s ⇒ t) (b ⇒ c) r)
     → 1 ≤ length read.piece + idle → Pulled m a t budget_old (budget - 1) before c idle
-Pulled-more {m = m} {a = a} {t = t} {budget_old = budget_old} {budget = budget} {before = before} idle p some more read enough = record {
+Pulled-more {a = a} {t = t} {budget_old = budget_old} {budget = budget} {before = before} idle p some more read enough = record {
   taken = p.taken ++ read.piece;
   are_bytes = IsBytes-append p.taken read.piece p.are_bytes read.are_bytes;
   takes =
@@ -71,31 +62,16 @@ module _ {X : Type 0} (P : ℕ → List ℕ → List ℕ → X → Type 0) {supp
       → Pulled reader.old.limit supply.old supply.new budget.old budget.new reader.old.held reader.new.held (idle_reads r)
       → IsBytes reader.new.held → length reader.new.held ≤ reader.old.limit + 8
       → Ends P reader.old.limit reader.new.held supply budget.new reader.new.held r → HasNext P supply budget reader r
-  pulls_to r same g fits room e = record {
-    limit = same;
-    taken = g.taken;
-    bytes = reader.new.held;
-    all = g.all;
-    are_bytes = fits;
-    room = room;
-    ends = e;
-    kept = on_err r refl;
-    takes = g.takes;
-    budget_falls = g.budget_falls;
-    unread = g.unread;
-    idle = g.few;
-    decided = g.decided;
-  }
+  pulls_to r same g fits room e = let kept : OnErr r (reader.new.held ≡ reader.new.held) = on_err r refl in search
 
   -- a fault that stands at the front of what is held
   pub ends_fault : (error : ReadError) (bad : Fault) → reader.new.limit ≡ reader.old.limit
       → Pulled reader.old.limit supply.old supply.new budget.old budget.new reader.old.held reader.new.held 0
       → IsBytes reader.new.held → length reader.new.held ≤ reader.old.limit + 8 → read_fault error ≡ Some bad
       → scan (Some reader.old.limit) reader.new.held ≡ fault bad → HasNext P supply budget reader (Err error)
-  ends_fault errors.CutShort bad at g fits room same e = absurd cc
-  ends_fault errors.TurnsSpent bad at g fits room same e = absurd cc
-  ends_fault errors.ReadFault bad at g fits room same e = absurd cc
-  ends_fault error bad at g fits room same e = pulls_to (Err error) at g fits room (e ∙ cc)
+  ends_fault error bad at g fits room same e =
+      let none : idle_reads {X = X} (Err error) ≡ 0 = grind arith in
+      pulls_to (Err error) at (rw none g) fits room (grind arith)
 
 module _ {X : Type 0} (P : ℕ → List ℕ → List ℕ → X → Type 0) {supply : Change Supply} {s : Supply} {budget_old budget : ℕ} {reader : Change Holding}
     {b : List ℕ} (at : reader.new.limit ≡ reader.old.limit) (g : Pulled reader.old.limit supply.old s budget_old budget reader.old.held b 0)
@@ -120,21 +96,7 @@ next_as : {X Y : Type 0} {P : ℕ → List ℕ → List ℕ → X → Type 0} (Q
     {old mid new : Holding} {r : Result (Option X) ReadError} (q : Result (Option Y) ReadError) (p : HasNext P supply budget (old ⇒ mid) r)
     → new.limit ≡ old.limit → Ends Q old.limit p.bytes supply budget.new new.held q → OnErr q (new.held ≡ p.bytes) → idle_reads q ≡ idle_reads r
     → HasNext Q supply budget (old ⇒ new) q
-next_as Q q p limit ends kept idle = record {
-  limit = limit;
-  taken = p.taken;
-  bytes = p.bytes;
-  all = p.all;
-  are_bytes = p.are_bytes;
-  room = p.room;
-  ends = ends;
-  kept = kept;
-  takes = p.takes;
-  budget_falls = p.budget_falls;
-  unread = p.unread;
-  idle = omega arith;
-  decided = p.decided;
-}
+next_as Q q p limit ends kept idle = search arith
 
 module _ {X Y : Type 0} (P : ℕ → List ℕ → List ℕ → X → Type 0) (Q : ℕ → List ℕ → List ℕ → Y → Type 0)
     {supply : Change Supply} {budget : Change ℕ} {reader : Change Holding} where
@@ -158,5 +120,4 @@ pub some_as : {supply : Change Supply} {budget : Change ℕ} {old mid new : Hold
 some_as layout raw p same e d =
     let all = p.ends.1 in
     next_as IsBorrowed (Ok (Some raw)) p same
-    (layout.frame_len, p.ends.0.found ∙ ap (λ r. took r layout.frame_len) (ap (laid_out layout) (sym all) ∙ sym e), d ∙ ap (drop layout.frame_len) all)
-    tt refl
+    (layout.frame_len, cc (p.ends.0.found), cc) tt refl

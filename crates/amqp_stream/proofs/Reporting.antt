@@ -1,28 +1,20 @@
 -- What a run that ended early reports: the place and the channel, by what was taken and what is held.
-use Rattle.std.proofs.Common.{◌≡◌, ℕ, ◌+◌, ◌-◌, ◌≤◌, min, max, List, [], length, ◌⊎◌, inl, inr, Some, Result, Ok, Err}
-use Rattle.std.proofs.Common.{refl, sym, ap, subst, ◌∙◌, arith}
+use Rattle.amqp_stream.proofs
+use Rattle.amqp_stream.specs
+use proofs.Names.{◌≡◌, ℕ, ◌+◌, ◌-◌, ◌≤◌, List, [], length, ◌⊎◌, inl, inr, Some, Result, Ok, Err, ap, arith, length-append, Frame, StreamError, RunError, Cause}
+use proofs.Names.{write_failed, out_of_memory, cause_of, Change, Call, Supply, Store, last, counted, Manner, Ending, refused_by, stopped_by, error_ending}
+use proofs.Names.{ending_of, as_run, state_of, RestsAfter, RestsBy, Resumes, WriterRun}
+use Rattle.std.proofs.Common.{min, max}
 use Rattle.std.specs.Prelude.{IfErr}
-use Rattle.std.proofs.lemmas.List.{length-append}
-use Rattle.amqp_wire.specs.Frames.{Frame}
-use Rattle.amqp_stream.specs.declared.errors.StreamError.{StreamError}
-use Rattle.amqp_stream.specs.declared.errors.StreamError.TheVariants as errors
-use Rattle.amqp_stream.specs.declared.errors.RunError.{RunError}
-use Rattle.amqp_stream.specs.declared.errors.RunError.TheVariants as ends
-use Rattle.amqp_stream.specs.declared.report.RunReport.{RunReport}
-use Rattle.amqp_stream.specs.Errors.{Cause, write_failed, out_of_memory, cause_of}
-use Rattle.amqp_stream.specs.Changes.{Change}
-use Rattle.amqp_stream.specs.Calls.{Call, as_reported}
-use Rattle.amqp_stream.specs.Ends.{Supply, Store, Takes, last, counted}
-use Rattle.amqp_stream.specs.Steps.{Manner}
-use Rattle.amqp_stream.specs.Streaming.{Ending, refused_by, stopped_by, error_ending, ending_of, as_run, state_of}
-use Rattle.amqp_stream.specs.Resuming.{RestsAfter, RestsBy, Resumes}
-use Rattle.amqp_stream.specs.Reports.{channel_in, IsRestBy, IsReportBy, IsRestAt, IsReportAt, NeverRanReport}
-use Rattle.amqp_stream.specs.Reports.{NeverBeganReport, unreported, as_run_report}
-use Rattle.amqp_stream.specs.Runs.{WriterRun}
-use Rattle.amqp_stream.proofs.Finishing.{rests_after}
-use Rattle.amqp_stream.proofs.Exactly.{streams_exactly, completes}
-use Rattle.amqp_stream.proofs.Forwarding.{as_one_run}
-use Rattle.amqp_stream.proofs.Transcribing.{Transcriber, never_began}
+use specs.declared.report.RunReport.{RunReport}
+use specs.Calls.{as_reported}
+use specs.Reports.{channel_in, IsRestBy, IsReportBy, IsRestAt, IsReportAt, NeverRanReport, NeverBeganReport, unreported, as_run_report}
+use proofs.Finishing.{rests_after}
+use proofs.Exactly.{streams_exactly, completes}
+use proofs.Forwarding.{as_one_run}
+use proofs.Transcribing.{Transcriber, never_began}
+use proofs.Names.errors
+use proofs.Names.ends
 
 -- ---- a run that began with nothing held
 
@@ -50,7 +42,7 @@ reached : {S E : Type 0} (w : Manner S E) (s t : S) (m : ℕ) (bytes written hel
 reached w s t m bytes written held (stopped_by write_failed) h = (h, tt)
 reached w s t m bytes written held (stopped_by out_of_memory) h = (h.rests, h.wanting)
 reached w s t m bytes written held (refused_by why) h =
-    (rests_after h.rests, subst (λ x. IsRestBy w x m bytes held (refused_by why)) h.rests.state_is h.refused)
+    (rests_after h.rests, rw h.rests.state_is at h.refused)
 reached w s t m bytes written held ending h = (rests_after h.rests, h.place_is)
 
 -- where no more came than the count holds, it is exact
@@ -65,14 +57,14 @@ pub reports : {S E : Type 0} {w : Manner S E} {writer : Change S} {call : Call S
     → IfErr r (IsReportBy w writer.old call.limit call.source)
 reports (Ok done) e none zero h few at_is channel_is = tt
 reports {w = w} {writer = writer} {call = call} {held = held} {came = came} (Err report) e none zero h few at_is channel_is =
-    let run = subst (λ x. Resumes w writer call held came (ending_of x)) (sym e) h in
+    let run = rw (← e) at h in
     let at = reached w writer.old writer.new call.limit run.run.taken run.run.written held.new (error_ending report.error) run.rests in
     let taken : run.run.taken ≡ run.piece = cc run.parts in
-    let counts : Some came.new ≡ counted (length run.piece) (Some 0) = run.counts ∙ ap (λ n. counted (length run.piece) (Some n)) zero in
+    let counts = rw zero at run.counts in
     record {
       taken = run.run.taken;
       reads = run.run.reads;
-      takes = subst (λ (piece : List ℕ). Takes call.source.old call.source.new piece run.run.reads) (sym taken) run.takes;
+      takes = rw taken run.takes;
       sequence = at.0.used;
       rest = held.new;
       parts = at.0.parts;
@@ -95,27 +87,14 @@ reports {w = w} {writer = writer} {call = call} {held = held} {came = came} (Err
 
 -- The error of a report is the same before and after it is made one of a run.
 pub unreported_as_run : {E : Type 0} (r : Result (Unit {0}) (RunReport StreamError)) → unreported {E = RunError E} (as_run_report r) ≡ as_run (unreported r)
-unreported_as_run (Ok done) = refl
-unreported_as_run (Err report) = refl
+unreported_as_run r = grind arith
 
 -- Of a writer that writes bytes for each frame and refuses none, a report says where reading ended.
 pub report_at : {S E : Type 0} {w : Manner S E} {s : S} {f : List Frame → List ℕ}
     → Transcriber w s f → (m : ℕ) (source : Change Supply) (r : Result (Unit {0}) (RunReport StreamError))
     → IfErr (as_run_report {E = E} r) (IsReportBy w s m source) → IfErr r (IsReportAt w.level m source)
 report_at is m source (Ok done) h = tt
-report_at {w = w} {s = s} is m source (Err report) h = record {
-  taken = h.taken;
-  reads = h.reads;
-  takes = h.takes;
-  sequence = h.sequence;
-  rest = h.rest;
-  parts = h.parts;
-  is_sequence = h.is_sequence;
-  few = h.few;
-  there = by_cause (cause_of report.error) h.there.1;
-  place_is = h.place_is;
-  channel_is = h.channel_is;
-}
+report_at {w = w} {s = s} is m source (Err report) h = search (by_cause (cause_of report.error) h.there.1)
   where
     by_cause : (cause : Cause) → IsRestBy w (state_of w s m h.sequence) m h.taken h.rest (stopped_by cause) → IsRestAt w.level m h.taken h.rest cause
     by_cause write_failed rest = tt
@@ -133,4 +112,4 @@ without_report (inr h) = inr h.0
 pub never_began_report : {T E S K : Type 0} {writer : Change T} {source : Change S} {sink : Change K} (r : Result (Unit {0}) (RunReport StreamError))
     → NeverRanReport {E = E} writer source sink (as_run_report r) → NeverBeganReport source sink errors.NoMemory r
 never_began_report (Ok done) h = absurd (let other = h.0.0.no_memory in cc)
-never_began_report (Err report) h = (never_began (rw unreported_as_run at h.0.0), record { place_is = h.1.place_is; no_channel = h.1.no_channel })
+never_began_report (Err report) h = (never_began (rw unreported_as_run at h.0.0), search)

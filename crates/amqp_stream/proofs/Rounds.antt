@@ -1,33 +1,18 @@
 -- One iteration of the engine's loop, by what stands at the front of the held bytes: a fault, a frame, or neither.
-use Rattle.std.proofs.Common.{◌≡◌, ◌≢◌, ℕ, ◌+◌, ◌-◌, ◌*◌, ◌<◌, ◌≤◌, List, [], ◌++◌, length, take, drop, Option, Some, None, Ok, Err}
-use Rattle.std.proofs.Common.{Result, IsTrue, refl, sym, ap}
-use Rattle.std.proofs.Common.{subst, ◌∙◌, ◌⊎◌, inl, inr, arith}
-use Rattle.std.proofs.lemmas.List.{length-append, length-take-le}
+use Rattle.amqp_stream.proofs
+use Rattle.amqp_stream.specs
+use proofs.Names.{◌≡◌, ◌≢◌, ℕ, ◌+◌, ◌-◌, ◌*◌, ◌<◌, ◌≤◌, List, [], length, take, drop, Option, Some, None, Ok, Err, Result, IsTrue, refl, sym, ap, subst, ◌∙◌}
+use proofs.Names.{◌⊎◌, inl, inr, arith, length-append, length-take-le, past, IsBytes, frame_length, FrameLayout, scan, laid_out, scan-none, ReadError}
+use proofs.Names.{StreamError, RunError, SinkFault, SourceFault, stream_error, budget_spent, read_failed, write_failed, ◌⇒◌, Supply, Store, counted, Holding}
+use proofs.Names.{ReadsMore, Lies, Finds, WritesAll, Ending, stopped_by, error_ending, end_with, EndsWith, gathered, IsTaken, IsStopped}
 use Rattle.std.proofs.Math.Seq.{drop-nil}
-use Rattle.amqp_types.specs.Judging.{past, IsBytes}
-use Rattle.amqp_wire.specs.Frames.{frame_length}
-use Rattle.amqp_wire.specs.declared.looking.FrameLayout.{FrameLayout}
-use Rattle.amqp_wire.specs.HeaderScan.{scan}
-use Rattle.amqp_wire.specs.Looks.{laid_out}
-use Rattle.amqp_wire.proofs.HeaderScan.{scan-none}
-use Rattle.amqp_stream.specs.declared.errors.ReadError.{ReadError}
-use Rattle.amqp_stream.specs.declared.errors.StreamError.{StreamError}
-use Rattle.amqp_stream.specs.declared.errors.RunError.{RunError}
-use Rattle.amqp_stream.specs.declared.errors.RunError.TheVariants as ends
-use Rattle.amqp_stream.specs.declared.sink.SinkFault.{SinkFault}
-use Rattle.amqp_stream.specs.declared.source.SourceFault.{SourceFault}
-use Rattle.amqp_stream.specs.Errors.{stream_error, budget_spent, read_failed, write_failed}
-use Rattle.amqp_stream.specs.Changes.{◌⇒◌}
-use Rattle.amqp_stream.specs.Ends.{Supply, Store, counted}
-use Rattle.amqp_stream.specs.Reading.{Holding, ReadsMore, Lies, Finds}
-use Rattle.amqp_stream.specs.Buffers.{Buffered}
-use Rattle.amqp_stream.specs.Writing.{WritesAll}
-use Rattle.amqp_stream.specs.Streaming.{Ending, stopped_by, error_ending, end_with, EndsWith}
-use Rattle.amqp_stream.specs.Taking.{gathered, IsTaken, IsUnflushed, IsStopped}
-use Rattle.amqp_stream.proofs.Adding.{counted_none, Rises-later}
-use Rattle.amqp_stream.proofs.Pulling.{still_more}
-use Rattle.amqp_stream.proofs.Going.{Start, Clear, Going, Clear-held, Going-clear, Going-frame, Going-kept, Clear-flushed, Clear-read, fits_room, frame_falls}
-use Rattle.amqp_stream.proofs.Finishing.{Ended, finish_header, finish_spent, finish_unread, finish_end, finish_unflushed, finish_stopped}
+use specs.Buffers.{Buffered}
+use specs.Taking.{IsUnflushed}
+use proofs.Adding.{counted_none, Rises-later}
+use proofs.Pulling.{still_more}
+use proofs.Going.{Start, Clear, Going, Clear-held, Going-clear, Going-frame, Going-kept, Clear-flushed, Clear-read, fits_room, frame_falls}
+use proofs.Finishing.{Ended, finish_header, finish_spent, finish_unread, finish_end, finish_unflushed, finish_stopped}
+use proofs.Names.ends
 
 -- What the loop works on: the writer, the reads that are left, how many bytes came, the two ends, the reader, the output buffer, and how
 -- many held bytes passed.
@@ -60,10 +45,10 @@ abbrev nothing_in : ℕ → Buffered
 nothing_in room = record { room = room; bytes = [] }
 
 empty_gathered : {room passed : ℕ} {out : Buffered} (held : List ℕ) → out ≡ nothing_in room → passed ≡ 0 → gathered out.bytes passed held ≡ []
-empty_gathered {passed = passed} held empty none = ap (λ (o : Buffered). o.bytes ++ take passed held) empty ∙ ap (λ k. take k held) none
+empty_gathered held empty none = rw (empty, none)
 
 all_held : {passed : ℕ} (held : List ℕ) → passed ≡ 0 → drop passed held ≡ held
-all_held held none = ap (λ k. drop k held) none
+all_held held none = rw none
 
 -- the loop before its first iteration
 abbrev begun : {S E : Type 0} → Start S E → Holding → Buffered → ℕ → Loop S
@@ -77,7 +62,7 @@ first_round {passed = passed} {reader = reader} r limit same fits few empty zero
     let all = all_held reader.held zero in
     record {
       limit = limit;
-      room_is = ap (λ o. o.room) empty;
+      room_is = rw empty;
       within = omega arith;
       going =
           Going-clear (Clear-held r (drop passed reader.held) (all ∙ same) (subst IsBytes (sym all) fits) (omega (arith, ap length all)))
@@ -169,7 +154,7 @@ module _ {S E : Type 0} {r : Start S E} {room : ℕ} {x : Loop S} {found : Optio
   -- Where a read failed the run ends.
   pub ends_unread : {b : Supply} {after : List ℕ} {limit : ℕ} {bad : SourceFault} → x.left ≢ 0 → ReadsMore (x.source ⇒ b) (held ⇒ after) (Err bad)
       → limit ≡ x.reader.limit → length after ≤ limit + 8 → Ended r x.writer x.came b l after (stopped_by read_failed)
-  ends_unread {b = b} some read same few =
+  ends_unread some read same few =
       let zero = ap length read.err.0 in
       finish_unread (idle_read some read zero (omega arith)) (still_more r.m read zero more)
       (Rises-later _ _ _ round.going.taken.takes.faults read.takes.faults read.err.1)
@@ -189,11 +174,11 @@ module _ {S E : Type 0} {r : Start S E} {room : ℕ} {x : Loop S} {found : Optio
       → Round r room (record { writer = x.writer; left = x.left - 1; came = came; source = b; sink = l; reader = reader; out = out; passed = passed })
   round_after_read {reader = reader} some read gave counts at_limit few limit empty zero = record {
     limit = limit ∙ at_limit ∙ round.limit;
-    room_is = ap (λ o. o.room) empty ∙ round.room_is;
+    room_is = rw empty round.room_is;
     within = omega arith;
     going =
         Going-clear (rw (all_held reader.held zero) (Clear-read 0 clear (omega arith) read (omega arith)
-        (counts ∙ ap (λ k. counted k (Some x.came)) (sym read.ok)) (omega arith)))
+        (rw read.ok counts) (omega arith)))
         (empty_gathered reader.held empty zero);
   }
 
@@ -204,12 +189,10 @@ pub no_frame : (m passed : ℕ) {held : List ℕ} {found : Option FrameLayout} {
     → held ≡ [] → Finds m (drop passed held) (Ok found) → found ≡ Some layout → ⊥
 no_frame m passed none finds is =
     let lies = rw (is, none, drop-nil passed) at finds in
-    let found = sym (scan-none (Some m)) ∙ lies.found in
-    cc found
+    cc (scan-none (Some m), lies.found)
 
 -- nor a fault
 pub no_fault : (m passed : ℕ) {held : List ℕ} (error : ReadError) → held ≡ [] → Finds m (drop passed held) (Err error) → ⊥
 no_fault m passed error none finds =
     let at = rw (none, drop-nil passed) at finds in
-    let found = sym (scan-none (Some m)) ∙ at.2 in
-    cc found
+    cc (scan-none (Some m), at.2)

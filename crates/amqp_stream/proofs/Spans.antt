@@ -1,17 +1,14 @@
 -- What lies between two places of a buffer, once more was put after it or into it.
-use Rattle.std.proofs.Common.{◌≡◌, ℕ, ◌+◌, ◌-◌, ◌≤◌, List, ◌++◌, length, take, drop, refl, subst, arith, append_assoc, Result, Ok, Err, IfOk}
-use Rattle.amqp_types.specs.Judging.{IsBytes, Fault}
-use Rattle.amqp_types.specs.Writing.{written, Puts}
-use Rattle.amqp_types.proofs.Bytes.{IsBytes-take, IsBytes-drop}
-use Rattle.std.proofs.lemmas.List.{length-take-le, drop-drop, take-take, take_at, take-append-le, drop-append-le, length-drop, drop_at, length-append}
+use Rattle.amqp_stream.proofs
+use proofs.Names.{◌≡◌, ℕ, ◌+◌, ◌-◌, ◌≤◌, List, ◌++◌, length, take, drop, refl, subst, arith, append_assoc, Result, Ok, Err, IsBytes, Fault, written, Puts}
+use proofs.Names.{IsBytes-take, IsBytes-drop, length-take-le, drop-drop, take-take, take_at, length-drop, drop_at, length-append, ParserError, Frame, canon}
+use Rattle.std.proofs.Common.{IfOk}
+use Rattle.std.proofs.lemmas.List.{take-append-le, drop-append-le}
 use Rattle.std.proofs.lemmas.Slice.{between_is}
 use Rattle.std.proofs.Math.Seq.{take-append-add}
 use borrow.Rule.Slice.PartMut.{put_mid, post_of}
 use Rattle.std.specs.List.{copy_within}
 use Rattle.std.proofs.lemmas.List.Edits.{length-paste, take-paste}
-use Rattle.amqp_types.specs.declared.errors.ParserError.{ParserError}
-use Rattle.amqp_wire.specs.Frames.{Frame}
-use Rattle.amqp_wire.specs.Canonical.{canon}
 use Rattle.amqp_wire.specs.Rewrites.{Rewrites}
 use Rattle.amqp_stream.specs.Buffers.{AddsAt}
 

@@ -1,48 +1,26 @@
 -- Frames that stand: their own bytes are what is written for them; frames that are kept and do not; and one frame of a run, taken.
-use Rattle.std.proofs.Common.{◌≡◌, ℕ, ◌+◌, ◌≤◌, List, ◌++◌, length, take, drop, true, Option, Some, Result, Ok, Err, IsTrue, refl, sym, ap, subst, ◌∙◌, arith}
-use Rattle.std.proofs.Common.{append_assoc, append-nil, ◌-◌}
-use Rattle.std.proofs.lemmas.List.{drop-drop, length-append, length-drop, length-take-le, drop_at, take_at}
-use Rattle.std.proofs.Math.Seq.{take-add}
+use Rattle.amqp_stream.proofs
+use Rattle.amqp_stream.specs
+use proofs.Names.{◌≡◌, ℕ, ◌+◌, ◌≤◌, List, ◌++◌, length, take, drop, true, Option, Some, Result, Ok, Err, IsTrue, refl, sym, ap, subst, ◌∙◌, arith, append_assoc}
+use proofs.Names.{append-nil, ◌-◌, drop-drop, length-append, length-drop, length-take-le, drop_at, take_at, take-add, IsBytes, FrameJudgement, FrameLayout, Raw}
+use proofs.Names.{frame_length, laid_out, canon, IsJudged, decode_raw, verdict-whole, Decision, RunError, IsKept, Store, Lies, Manner, Writes, EndsWith}
+use proofs.Names.{gathered, IsTaken, IsStopped, Gathered, Adds, written, written-length}
 use Rattle.amqp_types.specs.Levels.{strict}
-use Rattle.amqp_types.specs.Judging.{IsBytes}
-use Rattle.amqp_wire.specs.declared.judging.FrameJudgement.{FrameJudgement}
-use Rattle.amqp_wire.specs.declared.looking.FrameLayout.{FrameLayout}
-use Rattle.amqp_wire.specs.Frames.{Raw, Frame, frame_length}
-use Rattle.amqp_wire.specs.Looks.{laid_out}
-use Rattle.amqp_wire.specs.Canonical.{canon}
-use Rattle.amqp_wire.specs.Judgements.{IsJudged}
-use Rattle.amqp_wire.specs.Verdicts.{decode_raw}
-use Rattle.amqp_wire.proofs.Cuts.{verdict-whole}
 use Rattle.amqp_wire.proofs.Encoded.{verdict-spells}
 use Rattle.amqp_wire.proofs.Strictness.{strict_canon}
-use Rattle.amqp_stream.specs.declared.decision.Decision.{Decision}
-use Rattle.amqp_stream.specs.declared.decision.Decision.TheVariants as decisions
-use Rattle.amqp_stream.specs.declared.errors.RunError.{RunError}
-use Rattle.amqp_stream.specs.Decisions.{stands, IsKept, PassesBy, RefusesTo}
-use Rattle.amqp_stream.specs.Ends.{Store}
-use Rattle.amqp_stream.specs.Reading.{Lies}
-use Rattle.amqp_stream.specs.Steps.{Manner}
-use Rattle.amqp_stream.specs.Streaming.{Writes, EndsWith}
-use Rattle.amqp_stream.specs.Taking.{gathered, GathersFrame, IsTaken, IsStopped}
-use Rattle.amqp_stream.specs.Writing.{Gathered}
-use Rattle.amqp_stream.proofs.Going.{frame_fits}
-use Rattle.amqp_stream.proofs.Transcribing.{gathered_then}
-use Rattle.amqp_stream.proofs.Writes.{pushed, kept, settled}
-use Rattle.amqp_stream.specs.Buffers.{Adds}
-use Rattle.amqp_types.specs.Writing.{written}
-use Rattle.amqp_types.proofs.WrittenParts.{written-length}
-use Rattle.amqp_stream.proofs.Spans.{written_front, written_behind}
-
--- a payload encodes one frame
-whole_once : (raw : Raw) (f g : Frame) → decode_raw raw ≡ Ok f → decode_raw raw ≡ Ok g → g ≡ f
-whole_once raw f g p q = let both = sym p ∙ q in cc
+use specs.Decisions.{stands, PassesBy, RefusesTo}
+use specs.Taking.{GathersFrame}
+use proofs.Going.{frame_fits}
+use proofs.Transcribing.{gathered_then}
+use proofs.Writes.{pushed, kept, settled}
+use proofs.Spans.{written_front, written_behind}
+use proofs.Names.decisions
 
 -- the bytes of a frame that was judged to be canonical
 pub stands_canon : {m : ℕ} {bytes : List ℕ} {layout : FrameLayout} {judged : FrameJudgement} → IsBytes bytes → Lies m bytes layout
     → (h : IsJudged (laid_out layout bytes) judged) → judged.canonical ≡ true → take layout.frame_len bytes ≡ canon h.frame
-stands_canon {m = m} {bytes = bytes} {layout = layout} fits lies h canonical =
-    strict_canon (take layout.frame_len bytes) h.frame (verdict-spells strict (Some m) bytes h.frame layout.frame_len fits
-    (verdict-whole strict (Some m) bytes (laid_out layout bytes) layout.frame_len h.frame lies.found (sym h.canonical ∙ canonical) h.is)).0
+stands_canon fits lies h canonical =
+    strict_canon _ _ (verdict-spells strict _ _ _ _ fits (verdict-whole _ _ _ _ _ _ lies.found (sym h.canonical ∙ canonical) h.is)).0
 
 -- a decision by which a frame stands keeps it
 record Stands {S E : Type 0} (w : Manner S E) (s t : S) (raw : Raw) : Type 0 where
@@ -52,7 +30,7 @@ record Stands {S E : Type 0} (w : Manner S E) (s t : S) (raw : Raw) : Type 0 whe
 
 stands_kept : {S E : Type 0} {w : Manner S E} {s t : S} {raw : Raw} (passed : Result (Option Decision) (RunError E))
     → PassesBy w s t raw passed → stands passed ≡ true → Stands w s t raw
-stands_kept (Ok (Some (decisions.Kept judged))) h is = record { judged = judged; kept = h; canonical = is }
+stands_kept (Ok (Some (decisions.Kept judged))) h is = search
 stands_kept passed h is = absurd cc
 
 -- A frame that lies after the bytes that passed ends within those that are held.
@@ -80,8 +58,7 @@ room_left {before = before} {mid = mid} {stretch = stretch} {passed = passed} he
       ap length same,
       length-take-le passed held within,
       ap length g.parts,
-      length-append g.written mid,
-      length-append before stretch,
+      length-append {A = ℕ},
     )
 
 -- a frame that is kept, and whose canonical bytes come next
@@ -89,7 +66,7 @@ pub kept_taken : {S E : Type 0} {w : Manner S E} {s t : S} {held rest before aft
     {layout : FrameLayout} {judged : FrameJudgement} {store : Store} {passed longer : ℕ}
     → IsKept w s t (laid_out layout (drop passed held)) judged → GathersFrame layout held rest before after passed longer
     → IsTaken w s t layout store store held rest before after passed longer
-kept_taken {held = held} {rest = rest} {before = before} {after = after} {layout = layout} {store = store} {passed = passed} {longer = longer} kept g =
+kept_taken {held = held} {rest = rest} {before = before} {store = store} {passed = passed} kept g =
     let earlier = gathered before passed held in
     record {
       within = g.within;
@@ -98,9 +75,7 @@ kept_taken {held = held} {rest = rest} {before = before} {after = after} {layout
       writes = record {
         bytes = canon kept.is_judged.frame;
         step = kept.step;
-        gathered =
-            pushed store earlier (gathered after longer rest) (canon kept.is_judged.frame) tt (g.gathered_is
-            ∙ ap (λ f. earlier ++ canon f) (whole_once (laid_out layout (drop passed held)) kept.is_judged.frame g.frame kept.is_judged.is g.is_whole));
+        gathered = pushed store earlier _ _ tt (let same : g.frame ≡ kept.is_judged.frame = cc in cc);
       };
     }
 
@@ -110,15 +85,15 @@ pub stands_taken : {S E : Type 0} {w : Manner S E} {s t : S} {m : ℕ} {held pen
     → IsBytes (drop passed held) → passed ≤ length held → Lies m (drop passed held) layout
     → raw ≡ laid_out layout (drop passed held) → PassesBy w s t raw decided → stands decided ≡ true
     → longer ≡ passed + layout.frame_len → IsTaken w s t layout store store held held pending pending passed longer
-stands_taken {w = w} {s = s} {t = t} {held = held} {pending = pending} {layout = layout} {passed = passed} decided fits within lies frame passes is same =
+stands_taken {held = held} {pending = pending} {layout = layout} {passed = passed} decided fits within lies frame passes is same =
     let n = layout.frame_len in
-    let at = stands_kept decided (subst (λ (r : Raw). PassesBy w s t r decided) frame passes) is in
+    let at = stands_kept decided (rw frame at passes) is in
     let own = stands_canon fits lies at.kept.is_judged at.canonical in
     kept_taken at.kept (record {
       frame = at.kept.is_judged.frame;
       is_whole = at.kept.is_judged.is;
       within = omega (arith, frame_room passed held within lies);
-      rest = ap (λ k. drop k held) same ∙ sym (drop-drop n passed held);
+      rest = cc (drop-drop n passed held);
       no_longer = omega (arith, ap length own, length-take-le n (drop passed held) lies.inside);
       gathered_is = cc (take-add passed n held, own, append_assoc pending (take passed held) (canon at.kept.is_judged.frame));
     })
@@ -129,15 +104,15 @@ pub written_taken : {S E : Type 0} {w : Manner S E} {s t : S} {m : ℕ} {held re
     → Lies m (drop passed held) layout → raw ≡ laid_out layout (drop passed held) → Gathered old middle before mid (take passed held)
     → Writes w s t raw middle new mid after → (IsTrue w.compact → length after ≤ length mid + frame_length raw)
     → rest ≡ drop (passed + layout.frame_len) held → none ≡ 0 → IsTaken w s t layout old new held rest before after passed none
-written_taken {w = w} {s = s} {t = t} {m = m} {held = held} {rest = rest} {before = before} {mid = mid} {after = after}
-    {layout = layout} {old = old} {middle = middle} {new = new} {passed = passed} {none = none} raw lies frame g written few same zero =
-    let h = subst (λ (r : Raw). Writes w s t r middle new mid after) frame written in
+written_taken {m = m} {held = held} {rest = rest} {before = before} {mid = mid} {after = after}
+    {layout = layout} {old = old} {new = new} {passed = passed} {none = none} raw lies frame g written few same zero =
+    let h = rw frame at written in
     let all = gathered_then (settled g) h.gathered in
     let long = frame_fits m (drop passed held) (laid_out layout (drop passed held)) layout.frame_len lies.found in
-    let empty : after ≡ gathered after none rest = sym (append-nil after) ∙ ap (λ k. after ++ take k rest) (sym zero) in
+    let empty : after ≡ gathered after none rest = rw (zero, append-nil) in
     record {
       within = omega arith;
-      rest = ap (λ k. drop k rest) zero ∙ same ∙ sym (drop-drop layout.frame_len passed held);
+      rest = rw zero (same ∙ sym (drop-drop _ _ held));
       compact = λ is. omega (arith, few is, ap frame_length frame, ap length empty, ap length g.parts, length-append g.written mid);
       writes = record {
         bytes = h.bytes;
@@ -149,21 +124,21 @@ written_taken {w = w} {s = s} {t = t} {m = m} {held = held} {rest = rest} {befor
 -- the writer was left as it was, and wrote for it
 pub left_writes : {S E : Type 0} {w : Manner S E} {s u t : S} {raw : Raw} {old new : Store} {mid after : List ℕ}
     → u ≡ s → Writes w u t raw old new mid after → Writes w s t raw old new mid after
-left_writes {w = w} {t = t} {raw = raw} {old = old} {new = new} {mid = mid} {after = after} same h = subst (λ x. Writes w x t raw old new mid after) same h
+left_writes same h = rw same at h
 
 -- ---- the run ends at it
 
 -- before anything was written for it
 pub refused_stops : {S E : Type 0} {w : Manner S E} {s t : S} {raw other : Raw} {old new : Store} {pending : List ℕ} {why : RunError E} {error : RunError E}
     → raw ≡ other → RefusesTo w s t raw why → EndsWith old new pending why (Err error) → IsStopped w s t other old new pending error
-refused_stops {w = w} {s = s} {t = t} {old = old} {pending = pending} {why = why} frame decides ends = record {
+refused_stops {old = old} {pending = pending} {why = why} frame decides ends = record {
   mid = old;
   later = old;
   pending = pending;
   after = pending;
   why = why;
-  keeps = kept old pending pending refl;
-  writes = subst (λ (r : Raw). RefusesTo w s t r why) frame decides old pending;
+  keeps = kept _ _ _ refl;
+  writes = (rw frame at decides) old pending;
   ends = ends;
 }
 
@@ -204,7 +179,7 @@ module _ {m : ℕ} {layout : FrameLayout} {held rest before middle after : List 
   -- or the stretch was put before them, and both are pending
   pub kept_pending : {none : ℕ} → length middle ≤ length before + frame_length raw → after ≡ take pending middle ++ (take passed held ++ drop pending middle)
       → rest ≡ drop (passed + layout.frame_len) held → none ≡ 0 → GathersFrame layout held rest before after passed none
-  kept_pending {none = none} few put_in left zero =
+  kept_pending few put_in left zero =
       let bytes = canon put.0 in
       let all : after ≡ before ++ (take passed held ++ bytes) =
       cc (put.2, take_at before bytes (length before) refl, drop_at before bytes (length before) refl) in
@@ -214,7 +189,7 @@ module _ {m : ℕ} {layout : FrameLayout} {held rest before middle after : List 
         frame = put.0;
         is_whole = ap decode_raw (sym frame) ∙ put.1;
         within = omega arith;
-        rest = ap (λ k. drop k rest) zero ∙ left ∙ sym (drop-drop layout.frame_len passed held);
+        rest = rw zero (left ∙ sym (drop-drop _ _ held));
         no_longer = omega (arith, ap length put.2, length-append before bytes);
-        gathered_is = ap (λ k. after ++ take k rest) zero ∙ append-nil after ∙ all ∙ sym (append_assoc before (take passed held) bytes);
+        gathered_is = rw (zero, append-nil, append_assoc) all;
       }

@@ -1,34 +1,21 @@
 -- A run of a writer that refuses nothing and takes no memory transcribes its stream.
-use Rattle.std.proofs.Common.{◌≡◌, ◌≢◌, ℕ, List, [], ◌∷◌, ◌++◌, length, Option, Some, None, Result, Ok, Err, IsTrue, Bool, true, false}
-use Rattle.std.proofs.Common.{refl, sym, ap, subst, ◌∙◌, arith, append-nil, append_assoc}
+use Rattle.amqp_stream.proofs
+use Rattle.amqp_stream.specs
+use proofs.Names.{◌≡◌, ◌≢◌, ℕ, List, [], ◌∷◌, ◌++◌, length, Option, Some, None, Result, Ok, Err, IsTrue, Bool, false, refl, sym, ap, subst, ◌∙◌, arith}
+use proofs.Names.{append-nil, append_assoc, length-append, Infallible, Level, AMQPFrameType, Frame, canon, canon_frames, front, StreamError, error_for, Cause}
+use proofs.Names.{faulty, cut_short, budget_spent, read_failed, write_failed, out_of_memory, cause_of, Change, Supply, Store, Call, IsPrefix, Gathered, Manner}
+use proofs.Names.{text, refused, canonical_at, answer_to, Ending, finished, refused_by, stopped_by, ending_of, as_run, Plan, HasWritten, IsShortBy, Streams}
+use proofs.Names.{StreamsExactly, IsWelcome, UnlessStoppedBy, IsDoneOrWanting, plan_of, answer_at_end, IsExactRun, text_ending, Canonicalizes}
 use mathlib.Core.Path.{fun_ext}
-use Rattle.std.proofs.lemmas.List.{length-append}
 use Rattle.std.specs.List.{flat_map}
-use Rattle.std.specs.declared.string.ParseError.{Infallible}
-use Rattle.amqp_types.specs.Levels.{Level}
-use Rattle.amqp_wire.specs.declared.frame_type.AMQPFrameType.{AMQPFrameType}
-use Rattle.amqp_wire.specs.Frames.{Frame}
-use Rattle.amqp_wire.specs.Canonical.{canon, canon_frames}
-use Rattle.amqp_wire.specs.Fronts.{front}
 use Rattle.amqp_wire.proofs.Strictness.{canon_front-short}
-use Rattle.amqp_stream.specs.declared.errors.StreamError.{StreamError}
-use Rattle.amqp_stream.specs.declared.errors.StreamError.TheVariants as errors
-use Rattle.amqp_stream.specs.declared.errors.RunError.TheVariants as ends
-use Rattle.amqp_stream.specs.Errors.{error_for, Cause, faulty, cut_short, budget_spent, read_failed, write_failed, out_of_memory, cause_of}
-use Rattle.amqp_stream.specs.Changes.{Change}
-use Rattle.amqp_stream.specs.Ends.{Supply, Store}
-use Rattle.amqp_stream.specs.Calls.{Call}
-use Rattle.amqp_stream.specs.Writing.{IsPrefix, Gathered}
-use Rattle.amqp_stream.proofs.Adding.{Gains-then}
-use Rattle.amqp_stream.specs.Steps.{Manner, text, refused}
-use Rattle.amqp_stream.specs.Manners.{mapping, canonical_at}
-use Rattle.amqp_stream.specs.Causes.{answer_to, IsCausedBy, IsWrittenUnless, NeverBegan, UnlessStopped, IsOutOfMemory}
-use Rattle.amqp_stream.specs.Streaming.{Ending, finished, refused_by, stopped_by, ending_of, as_run, Plan, HasWritten, AtWanting, IsShortBy}
-use Rattle.amqp_stream.specs.Streaming.{Streams, StreamsExactly}
-use Rattle.amqp_stream.specs.Streaming.{IsWelcome, UnlessStoppedBy}
-use Rattle.amqp_stream.specs.Streaming.{IsDoneOrWanting, plan_of, answer_at_end, IsExactRun}
-use Rattle.amqp_stream.specs.Transcribing.{transcript, text_plan, text_ending, Transcribes, TranscribesExactly}
-use Rattle.amqp_stream.specs.Canonicalizing.{Canonicalizes}
+use proofs.Adding.{Gains-then}
+use specs.Manners.{mapping}
+use specs.Causes.{IsCausedBy, IsWrittenUnless, NeverBegan, UnlessStopped, IsOutOfMemory}
+use specs.Streaming.{AtWanting}
+use specs.Transcribing.{transcript, text_plan, Transcribes, TranscribesExactly}
+use proofs.Names.errors
+use proofs.Names.ends
 
 -- From this state on the writer has this text for frames, refuses none, takes no memory, and may end anywhere.
 pub record Transcriber {S E : Type 0} (w : Manner S E) (s : S) (text_for : List Frame → List ℕ) : Type 0 where
@@ -40,8 +27,7 @@ pub record Transcriber {S E : Type 0} (w : Manner S E) (s : S) (text_for : List 
 -- ---- its plan is that of the text
 
 false_by : (b : Bool) → (IsTrue b → ⊥) → b ≡ false
-false_by true none = absurd (none refl)
-false_by false none = refl
+false_by b none = grind arith
 
 same_plan : {E : Type 0} (level : Level) {text_is text_for : List ℕ → List ℕ} {refusal other : List ℕ → Option E} {end may : List ℕ → Option E}
     {wants none : AMQPFrameType → Bool} → text_is ≡ text_for → refusal ≡ other → end ≡ may → wants ≡ none
@@ -63,33 +49,12 @@ module _ (E : Type 0) (f : List Frame → List ℕ) (level : Level) where
 
   short_so : {m n : ℕ} {taken written : List ℕ} → IsShortBy {E = E} (text_plan f level m) m taken written n
       → IsShortBy {E = Infallible} (text_plan f level m) m taken written n
-  short_so h = record {
-    sequence = h.sequence;
-    rest = h.rest;
-    parts = h.parts;
-    is_sequence = h.is_sequence;
-    none_refused = refl;
-    written_begins = h.written_begins;
-    few = h.few;
-  }
+  short_so h = search
 
   -- So a run of a writer that refuses nothing is one of the text.
   infallibly : {call : Call Supply Store} (r : Result (Unit {0}) StreamError)
       → Streams {E = E} (text_plan f level call.limit) call (text_ending r) → Transcribes f level call r
-  infallibly (Ok done) run = record {
-    taken = run.taken;
-    are_bytes = run.are_bytes;
-    reads = run.reads;
-    takes = run.takes;
-    at_most = run.at_most;
-    all_spent = λ e. absurd cc;
-    written = run.written;
-    gains = run.gains;
-    writes = record { text_is = run.writes.text_is; none_refused = refl };
-    cause = (run.cause.0, run.cause.1, refl);
-    tidy_only = λ e. absurd cc;
-    short_by = short_so run.short_by;
-  }
+  infallibly (Ok done) run = search (arith, short_so run.short_by)
   infallibly {call = call} (Err error) run = record {
     taken = run.taken;
     are_bytes = run.are_bytes;
@@ -109,19 +74,14 @@ module _ (E : Type 0) (f : List Frame → List ℕ) (level : Level) where
           → HasWritten {E = Infallible} (text_plan f level call.limit) run.taken run.written (stopped_by cause)
       by_cause write_failed h = h
       by_cause out_of_memory h = h
-      by_cause cause h = record { text_is = h.text_is; none_refused = refl }
+      by_cause cause h = search
 
 -- ---- what follows of a call that writes a text
-
-no_memory : (f : List Frame → List ℕ) (level : Level) (call : Call Supply Store)
-    → Streams {E = Infallible} (text_plan f level call.limit) call (stopped_by out_of_memory) → ⊥
-no_memory f level call run = absurd (let none = run.cause.wanting.such in cc)
 
 -- It never runs out of memory.
 pub never_out_of_memory : (f : List Frame → List ℕ) {level : Level} {call : Call Supply Store} {r : Result (Unit {0}) StreamError}
     → Transcribes f level call r → r ≢ Err errors.NoMemory
-never_out_of_memory f {level = level} {call = call} run e =
-    no_memory f level call (subst (λ x. Streams {E = Infallible} (text_plan f level call.limit) call (text_ending x)) e run)
+never_out_of_memory f run e = let out = rw e at run in absurd (let none = out.cause.wanting.such in cc)
 
 -- What it wrote begins the text of all frames in front of what it took.
 begins : (f : List Frame → List ℕ) {level : Level} {call : Call Supply Store} (r : Result (Unit {0}) StreamError)
@@ -176,34 +136,32 @@ returned (refused_by why) = Ok tt
 returned (stopped_by cause) = Err (error_by cause)
 
 returned-run : (E : Type 0) (r : Result (Unit {0}) StreamError) → returned (ending_of {E = E} (as_run r)) ≡ r
-returned-run E (Ok done) = refl
-returned-run E (Err error) = ap Err (error_by-cause error)
+returned-run E r = grind (arith, error_by-cause)
 
 -- A run that never began since memory ran out, as a call that returns the error of a stream.
 pub never_began : {E S K : Type 0} {source : Change S} {sink : Change K} {r : Result (Unit {0}) StreamError}
     → NeverBegan source sink (ends.Stream errors.NoMemory) (as_run {E = E} r) → NeverBegan source sink errors.NoMemory r
 never_began {E = E} {r = r} h =
-    record { no_memory = sym (returned-run E r) ∙ ap (λ x. returned (ending_of x)) h.no_memory; source_stays = h.source_stays; sink_stays = h.sink_stays }
+    search (sym (returned-run E r) ∙ ap (λ x. returned (ending_of x)) h.no_memory)
 
 -- ---- the result by all of the bytes
 
 at_end_of : (E : Type 0) (r : Result (Unit {0}) StreamError) → text_ending {E = E} r ≡ answer_at_end None r
-at_end_of E (Ok done) = refl
-at_end_of E (Err error) = refl
+at_end_of E r = grind arith
 
 -- A call that writes a text returns what all bytes of its source give, and wrote the text of the frames at their front.
 pub text_exactly : {E : Type 0} (f : List Frame → List ℕ) (level : Level) (m : ℕ) (bytes written : List ℕ) (r : Result (Unit {0}) StreamError)
     → IsExactRun {E = E} (text_plan f level m) m bytes written (text_ending r) → (r ≡ answer_to level m bytes) × (written ≡ transcript f level m bytes)
 text_exactly {E = E} f level m bytes written r h =
     let answer = answer_to level m bytes in
-    (sym (returned-run E r) ∙ ap returned (h.answer ∙ sym (at_end_of E answer)) ∙ returned-run E answer, h.text_is)
+    (cc (returned-run E r, h.answer, at_end_of E answer, returned-run E answer), h.text_is)
 
 exactly_so : {E : Type 0} (f : List Frame → List ℕ) (level : Level) (m : ℕ) (bytes written : List ℕ) (r : Result (Unit {0}) StreamError)
     → IsExactRun {E = E} (text_plan f level m) m bytes written (text_ending r)
     → IsExactRun {E = Infallible} (text_plan f level m) m bytes written (text_ending r)
 exactly_so f level m bytes written r h =
     let both = text_exactly f level m bytes written r h in
-    record { answer = at_end_of Infallible r ∙ ap (answer_at_end None) both.0; text_is = both.1 }
+    search (at_end_of Infallible r ∙ ap (answer_at_end None) both.0)
 
 -- What follows from a fact follows where the fact holds but for causes that stop a run.
 pub unless : {P Q : Type 0} (cause : Cause) → (P → Q) → UnlessStopped cause P → UnlessStopped cause Q
@@ -227,19 +185,19 @@ module _ {S E : Type 0} {w : Manner S E} {s : S} {f : List Frame → List ℕ} (
 
   -- It refuses no stream.
   pub welcome : (m : ℕ) (bytes : List ℕ) → IsWelcome (plan_of w s m) bytes
-  welcome m bytes = record { none_refused = is.none_refused (front w.level (Some m) bytes); ends = is.ends _ }
+  welcome m bytes = search (is.none_refused, is.ends)
 
   -- A run of it is a call that transcribes so.
   pub transcribes : {call : Call Supply Store} (r : Result (Unit {0}) StreamError)
       → Streams (plan_of w s call.limit) call (text_ending r) → Transcribes f w.level call r
-  transcribes {call = call} r run = infallibly E f w.level r (subst (λ (plan : Plan E). Streams plan call (text_ending r)) (plan_is call.limit) run)
+  transcribes {call = call} r run = infallibly E f w.level r (rw (plan_is call.limit) at run)
 
   -- Over a source that reports its bytes, it gives the text for all of them.
   pub transcribes_exactly : {call : Call Supply Store} {bytes : List ℕ} (r : Result (Unit {0}) StreamError)
       → StreamsExactly (plan_of w s call.limit) call bytes (text_ending r) → TranscribesExactly f w.level call bytes r
   transcribes_exactly {call = call} {bytes = bytes} r run =
-      let h = subst (λ (plan : Plan E). StreamsExactly plan call bytes (text_ending r)) (plan_is call.limit) run in
-      record { written = h.written; gains = h.gains; answer = unless_so E r (exactly_so f w.level call.limit bytes h.written r) h.answer }
+      let h = rw (plan_is call.limit) at run in
+      search (unless_so E r (exactly_so f w.level call.limit bytes h.written r) h.answer)
 
 -- ---- writers of bytes for each frame by itself
 
@@ -248,7 +206,7 @@ pub maps : {S E : Type 0} {level : Level} {compact : Bool} (bytes_of : S → Fra
     → Transcriber {E = E} (mapping level bytes_of compact) s (flat_map (bytes_of s))
 unfolding text refused
 maps {E = E} {level = level} {compact = compact} bytes_of s =
-    record { text_is = text_by; none_refused = refused_by; wants_none = λ kind h. absurd cc; ends = λ t. refl }
+    search (arith, text_by, refused_by)
   where
     text_by : (frames : List Frame) → text {E = E} (mapping level bytes_of compact) s frames ≡ flat_map (bytes_of s) frames
     text_by [] = refl
@@ -290,8 +248,8 @@ canonicalizes_as {w = w} {call = call} r is =
 
 -- bytes gathered after bytes
 pub gathered_then : {a b c : Store} {x y z p q : List ℕ} → Gathered a b x y p → Gathered b c y z q → Gathered a c x z (p ++ q)
-gathered_then {x = x} {y = y} {z = z} {p = p} {q = q} g h = record {
+gathered_then g h = record {
   written = g.written ++ h.written;
   gains = Gains-then _ _ _ _ _ g.gains h.gains;
-  parts = cc (append_assoc g.written h.written z, append_assoc g.written y q, append_assoc x p q);
+  parts = grind (arith, append_assoc, g.parts, h.parts);
 }

@@ -1,43 +1,34 @@
 -- Writes one after another.
-use Rattle.std.proofs.Common.{◌≡◌, ◌≢◌, ℕ, ◌+◌, ◌-◌, List, [], ◌++◌, length, take, drop, Bool, true, false, Result, Ok, Err, refl, sym, ap, subst}
-use Rattle.std.proofs.Common.{◌∙◌, append_assoc, append-nil}
-use Rattle.std.proofs.lemmas.List.{take_rest, take-append-drop}
+use Rattle.amqp_stream.proofs
+use Rattle.amqp_wire.specs as wire
+use proofs.Names.{◌≡◌, ◌≢◌, ℕ, ◌+◌, ◌-◌, List, [], ◌++◌, length, take, drop, Bool, true, Result, Ok, Err, refl, sym, subst, ◌∙◌, append_assoc, append-nil}
+use proofs.Names.{take_rest, take-append-drop, take-add, Raw, Frame, Body, decode_raw, is_at, judge_decoded, canon, Level, Fault, not_tidy, fault, ParserError}
+use proofs.Names.{SinkFault, StreamError, Cause, faulty, write_failed, cause_of, Store, Gains, Rises, WritesAll, IsFaulty, Gathered, GatherFails, Manner}
+use proofs.Names.{finished, stopped_by, WritesBy, arith}
 use Rattle.std.proofs.lemmas.Result.{on_ok_weaker, on_err_weaker}
-use Rattle.std.proofs.Math.Seq.{take-add}
-use Rattle.amqp_wire.specs.declared.frame_type.AMQPFrameType.TheVariants as kinds
-use Rattle.amqp_wire.specs.declared.version.ProtocolVersion.{ProtocolVersion}
-use Rattle.amqp_wire.specs.Frames.{Raw, Frame, Body, Proto, beat_on}
-use Rattle.amqp_wire.specs.Verdicts.{IsPayloadError, decode_raw, decode_payload, is_at, judge_decoded}
-use Rattle.amqp_wire.specs.Spelling.{framed, proto}
-use Rattle.amqp_wire.specs.Canonical.{canon}
-use Rattle.amqp_types.specs.Levels.{Level}
-use Rattle.amqp_types.specs.Judging.{Fault, not_tidy, fault}
+use wire.declared.version.ProtocolVersion.{ProtocolVersion}
+use wire.Frames.{Proto, beat_on}
+use wire.Verdicts.{IsPayloadError, decode_payload}
+use wire.Spelling.{framed, proto}
 use Rattle.amqp_types.specs.Answers.{RefusesWhole}
-use Rattle.amqp_types.specs.declared.errors.ParserError.{ParserError}
-use Rattle.amqp_types.specs.declared.errors.ParserError.TheVariants as parses
-use Rattle.amqp_stream.specs.declared.sink.SinkFault.{SinkFault}
-use Rattle.amqp_stream.specs.declared.errors.StreamError.{StreamError}
-use Rattle.amqp_stream.specs.Errors.{Cause, faulty, write_failed, cause_of}
-use Rattle.amqp_stream.specs.Ends.{Store, Gains, Rises}
-use Rattle.amqp_stream.specs.Writing.{payload_fault, WritesAll, WritesFrame, IsUnwritten, IsFaulty, Gathered, GatherFails, Gathers, Keeps, stream_result}
-use Rattle.amqp_stream.specs.Steps.{Manner}
-use Rattle.amqp_stream.specs.Streaming.{finished, stopped_by, WritesBy}
-use Rattle.amqp_stream.proofs.Adding.{Rises-later, Gains-none, Gains-then}
+use Rattle.amqp_stream.specs.Writing.{payload_fault, WritesFrame, IsUnwritten, Gathers, Keeps, stream_result}
+use proofs.Adding.{Rises-later, Gains-none, Gains-then}
 use Rattle.amqp_wire.proofs.Rewritten.{canon_beat}
+use proofs.Names.kinds
+use Rattle.amqp_types.specs.declared.errors.ParserError.TheVariants as parses
 
 -- one more write
 pub Gains-more : (a b c : Store) (bytes : List ℕ) (done n : ℕ) → Gains a b (take done bytes)
     → Gains b c (take n (take (length bytes - done) (drop done bytes))) → Gains a c (take (done + n) bytes)
 Gains-more a b c bytes done n f g =
-    let piece : take n (take (length bytes - done) (drop done bytes)) ≡ take n (drop done bytes) = ap (take n) (take_rest bytes done) in
-    subst (Gains a c) (cc (piece, take-add done n bytes)) (Gains-then _ _ _ _ _ f g)
+    rw (take-add done n bytes, ← take_rest bytes done) (Gains-then _ _ _ _ _ f g)
 
 -- a write that failed
 pub WritesAll-fault : (a b c : Store) (bytes : List ℕ) (done : ℕ) (bad : SinkFault)
     → Gains a b (take done bytes) → Gains b c [] → Rises b.faults c.faults → WritesAll a c bytes (Err bad)
 WritesAll-fault a b c bytes done bad f g r = record {
   piece = take done bytes;
-  gains = subst (Gains a c) (append-nil (take done bytes)) (Gains-then _ _ _ _ _ f g);
+  gains = rw append-nil at (Gains-then _ _ _ _ _ f g);
   prefix = (drop done bytes, take-append-drop done bytes);
   ok = tt;
   err = Rises-later _ _ _ f.faults g.faults r;
@@ -46,7 +37,7 @@ WritesAll-fault a b c bytes done bad f g r = record {
 -- bytes and then more bytes
 pub WritesAll-then : {a b c : Store} {p q : List ℕ} {u : Unit {0}} {r : Result (Unit {0}) SinkFault}
     → WritesAll a b p (Ok u) → WritesAll b c q r → WritesAll a c (p ++ q) r
-WritesAll-then {a = a} {b = b} {c = c} {p = p} {r = r} f g =
+WritesAll-then {p = p} {r = r} f g =
     let first : f.piece ≡ p = f.ok in
     record {
       piece = f.piece ++ g.piece;
@@ -58,7 +49,7 @@ WritesAll-then {a = a} {b = b} {c = c} {p = p} {r = r} f g =
 
 -- bytes that are pending after the others
 pub pushed : (a : Store) (before after bytes : List ℕ) (u : Unit {0}) → after ≡ before ++ bytes → Gathers a a before after bytes (Ok u)
-pushed a before after bytes u e = record { written = []; gains = Gains-none a; parts = e }
+pushed a before after bytes u e = search (Gains-none a)
 
 -- a failed write of the front of them all
 pub gather_fails : {a b : Store} {bytes before after all : List ℕ} {e : SinkFault} (rest : List ℕ)
@@ -87,26 +78,26 @@ flush_failed a b before after bytes e none f = gather_fails bytes f refl none
 -- all of a text was written, and the rest is pending
 pub all_but : {a b : Store} {bytes before after all : List ℕ} {u : Unit {0}}
     → WritesAll a b bytes (Ok u) → bytes ++ after ≡ before ++ all → Gathered a b before after all
-all_but {a = a} {b = b} f same = record { written = f.piece; gains = f.gains; parts = ap (λ (xs : List ℕ). xs ++ _) f.ok ∙ same }
+all_but f same = record { written = f.piece; gains = f.gains; parts = rw f.ok same }
 
 -- bytes were gathered, and then all that was pending was written
 pub gathered_flushed : {a b c : Store} {before mid bytes : List ℕ} {r : Result (Unit {0}) SinkFault}
     → Gathered a b before mid bytes → WritesAll b c mid r → WritesAll a c (before ++ bytes) r
-gathered_flushed {a = a} {b = b} {c = c} {r = r} g f =
+gathered_flushed {a = a} {b = b} g f =
     let front : WritesAll a b g.written (Ok tt) = record { piece = g.written; gains = g.gains; prefix = ([], append-nil g.written); ok = refl; err = tt } in
-    subst (λ (xs : List ℕ). WritesAll a c xs r) g.parts (WritesAll-then front f)
+    rw g.parts at (WritesAll-then front f)
 
 -- bytes that were gathered were pending before, too
 pub settled : {a b : Store} {before mid bytes : List ℕ} → Gathered a b before mid bytes → Keeps a b (before ++ bytes) mid
-settled {before = before} {bytes = bytes} g = record { written = g.written; gains = g.gains; parts = g.parts ∙ sym (append-nil (before ++ bytes)) }
+settled {before = before} {bytes = bytes} g = search (g.parts ∙ sym (append-nil (before ++ bytes)))
 
 -- ---- the canonical bytes of a frame
 
 -- The canonical bytes of a frame were gathered, or a write failed.
 pub wrote : (raw : Raw) (a b : Store) (before after bytes : List ℕ) (f : Frame) (r : Result (Unit {0}) SinkFault)
     → decode_raw raw ≡ Ok f → bytes ≡ canon f → Gathers a b before after bytes r → WritesFrame raw a b before after (stream_result r)
-wrote raw a b before after bytes f (Ok u) w e h = (f, w, subst (λ (xs : List ℕ). Gathered a b before after xs) e h)
-wrote raw a b before after bytes f (Err d) w e h = (f, w, subst (λ (xs : List ℕ). GatherFails a b before after xs) e h)
+wrote raw a b before after bytes f (Ok u) w e h = (f, w, rw e at h)
+wrote raw a b before after bytes f (Err d) w e h = (f, w, rw e at h)
 
 -- A body that was gathered as it came is the canonical bytes of its frame.
 pub wrote-body : (raw : Raw) (a b : Store) (before after : List ℕ) (r : Result (Unit {0}) SinkFault) → raw.kind ≡ kinds.Body
@@ -116,7 +107,7 @@ wrote-body raw a b before after r k h = wrote raw a b before after (framed 3 raw
 
 -- nothing was gathered
 pub kept : (a : Store) (before after : List ℕ) → after ≡ before → Keeps a a before after
-kept a before after e = record { written = []; gains = Gains-none a; parts = e ∙ sym (append-nil before) }
+kept a before after e = search (Gains-none a, e ∙ sym (append-nil before))
 
 -- ---- a payload that is none
 
@@ -168,14 +159,13 @@ module _ (raw : Raw) (a : Store) (before after : List ℕ) where
       → RefusesWhole error (decode_raw raw) → after ≡ before → WritesFrame raw a a before after (Err (payload_fault error))
   added_refused error inside some h same =
       let none = is_none raw error inside some h in
-      subst (IsUnwritten raw a a before after) none.tells (none.is_whole, none.other, kept a before after same)
+      subst (IsUnwritten raw a a before after) none.tells (none.is_whole, none.other, kept _ _ _ same)
 
 -- ---- a frame at a level
 
 -- what whole payload has a fault, at each level
 faulty_at : (t : Bool) (read : Result Frame Fault) (bad : Fault) (n : ℕ) → read ≡ Err bad → judge_decoded t read n ≡ fault bad
-faulty_at true read bad n e = ap (λ r. judge_decoded true r n) e
-faulty_at false read bad n e = ap (λ r. judge_decoded false r n) e
+faulty_at t read bad n e = grind arith
 
 -- a frame that is none at any level
 pub is_faulty : (level : Level) (raw : Raw) (bad : Fault) → decode_raw raw ≡ Err bad → bad ≢ not_tidy → IsFaulty level raw bad
@@ -187,7 +177,7 @@ is_faulty level raw bad e other = record { judged_bad = λ n. faulty_at (is_at l
 pub written_by : {S E : Type 0} {w : Manner S E} {s t : S} {raw : Raw} {a b : Store} {before after : List ℕ} (done : Unit {0})
     → ((f : Frame) → w.step s f ≡ Ok (canon f, t)) → is_at w.level raw ≡ true
     → WritesFrame raw a b before after (Ok done) → WritesBy w s t raw a b before after finished
-written_by done steps at h = record { bytes = canon h.0; step = record { frame = h.0; is_whole = h.1; at_level = at; steps = steps h.0 }; gathered = h.2 }
+written_by done steps at h = search
 
 -- A frame of which they were not, as the ending of such a writer.
 pub unwritten_by : {S E : Type 0} (w : Manner S E) {s : S} (t : S) (raw : Raw) (a b : Store) (before after : List ℕ) (error : StreamError)

@@ -1,17 +1,17 @@
 -- `canonicalize`: what it ensures, what loops keep, what falls with each iteration and that no place or sum is out of range.
 use Rattle.std.proofs.Common.{rules, arith}
 use Rattle.std.proofs.lemmas.List.{take_rest}
-use Rattle.amqp_c.proofs.Fronts.{going_start, going_on, going_falls, going_stops, going_finishes}
+use Rattle.amqp_c.proofs.Fronts.{going_start, going_on, running_falls, going_stops, going_finishes}
 use Rattle.amqp_c.proofs.canonicalize.canonicalize.Goals as goal
 
 pub frames-init : goal.frames-init
 frames-init c = going_start _ _ _ _
 
 pub overflow_add-used : goal.overflow_add-used
-overflow_add-used c = let falls = going_falls c.args.bytes.now c.frames.used (rw take_rest at c.in-Ok.ensures) in search (rules, falls.1)
+overflow_add-used c = let falls = running_falls c.frames.invariant.run (rw take_rest at c.in-Ok.ensures).found in search (rules, falls.1)
 
 pub frames-smaller : goal.frames-smaller
-frames-smaller c = let falls = going_falls c.args.bytes.now c.frames.used (rw take_rest at c.in-Ok.ensures) in omega (arith, falls.0, falls.1)
+frames-smaller c = omega (arith, running_falls c.frames.invariant.run (rw take_rest at c.in-Ok.ensures).found)
 
 pub frames-preserved : goal.frames-preserved
 frames-preserved c = going_on c.frames.invariant c.requires.room (rw take_rest at c.in-Ok.ensures)

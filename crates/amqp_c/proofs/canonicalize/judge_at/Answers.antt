@@ -13,4 +13,4 @@ returns-in-Err c =
 pub returns-in-Tidy : goal.returns-in-Tidy
 returns-in-Tidy c =
     let not : c.in-Ok.judged.tidy ≡ false = search rules in
-    rw c.in-Tidy.is (judged_untidy (raw_of c.args.raw) c.in-Ok.judged c.in-Ok.ensures not)
+    rw c.in-Tidy.is (judged_untidy c.in-Ok.ensures not)

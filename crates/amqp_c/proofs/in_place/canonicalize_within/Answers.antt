@@ -2,7 +2,7 @@
 use Rattle.std.proofs.Common.{◌<◌, ◌≤◌, length, rules, arith, sym}
 use Rattle.std.proofs.lemmas.List.{take_rest}
 use Rattle.amqp_c.proofs.Fronts.{going_start, going_stops, going_finishes}
-use Rattle.amqp_c.proofs.InPlace.{going_kept, going_lacks, going_length, going_rest, going_spare, frame_falls, spare_fits}
+use Rattle.amqp_c.proofs.InPlace.{going_lacks, going_length, going_next, going_rest, frame_falls, next_kept, next_spare}
 use Rattle.amqp_c.proofs.in_place.canonicalize_within.Goals as goal
 
 pub frames-init : goal.frames-init
@@ -12,49 +12,47 @@ frames-init c = going_start _ _ _ _
 
 pub move_front-written-requires-clause-inside : goal.move_front-written-requires-clause-inside
 move_front-written-requires-clause-inside c =
-    let kept = rw take_rest at (rw c.in-Ok-Kept.field-0-is at c.in-Ok-Kept.ensures) in
-    (frame_falls c.frames.invariant kept.0 kept.1).1
+    let next = next_kept c.frames.invariant (rw c.in-Ok-Kept.field-0-is at c.in-Ok-Kept.ensures) in
+    (frame_falls c.frames.invariant next).1
 
 pub overflow_add-used : goal.overflow_add-used
 overflow_add-used c =
-    let kept = rw take_rest at (rw c.in-Ok-Kept.field-0-is at c.in-Ok-Kept.ensures) in
-    let falls = frame_falls c.frames.invariant kept.0 kept.1 in
+    let next = next_kept c.frames.invariant (rw c.in-Ok-Kept.field-0-is at c.in-Ok-Kept.ensures) in
+    let falls = frame_falls c.frames.invariant next in
     search (rules, falls.2)
 
 pub frames-smaller-in-Ok-Kept : goal.frames-smaller-in-Ok-Kept
 frames-smaller-in-Ok-Kept c =
-    let kept = rw take_rest at (rw c.in-Ok-Kept.field-0-is at c.in-Ok-Kept.ensures) in
-    let falls = frame_falls c.frames.invariant kept.0 kept.1 in
-    omega (arith, falls.0, falls.1, c.move_front-written.auto.buf)
+    let next = next_kept c.frames.invariant (rw c.in-Ok-Kept.field-0-is at c.in-Ok-Kept.ensures) in
+    omega (arith, frame_falls c.frames.invariant next, c.move_front-written.auto.buf)
 
 pub frames-preserved-in-Ok-Kept : goal.frames-preserved-in-Ok-Kept
 frames-preserved-in-Ok-Kept c =
-    let kept = rw take_rest at (rw c.in-Ok-Kept.field-0-is at c.in-Ok-Kept.ensures) in
-    going_kept c.frames.invariant c.frames.spare c.rewrite_front.new.spare kept c.move_front-written.ensures
+    let next = next_kept c.frames.invariant (rw c.in-Ok-Kept.field-0-is at c.in-Ok-Kept.ensures) in
+    going_next c.frames.invariant next c.move_front-written.ensures
 
 -- ---- a frame that goes through the spare buffer
 
 pub put_bytes-written-requires : goal.put_bytes-written-requires
 put_bytes-written-requires c =
-    let spare = rw take_rest at (rw c.in-Ok-Spare.field-0-is at c.in-Ok-Spare.ensures) in
-    record { room = spare_fits c.frames.invariant c.in-Ok-Spare.more c.in-Ok-Spare.count c.frames.spare c.rewrite_front.new.spare spare }
+    let next = next_spare c.frames.invariant c.rewrite_front.new.spare (rw c.in-Ok-Spare.field-0-is at c.in-Ok-Spare.ensures) in
+    record { room = (frame_falls c.frames.invariant next).3 }
 
 pub overflow_add-used-in-Ok-Spare : goal.overflow_add-used-in-Ok-Spare
 overflow_add-used-in-Ok-Spare c =
-    let spare = rw take_rest at (rw c.in-Ok-Spare.field-0-is at c.in-Ok-Spare.ensures) in
-    let falls = frame_falls c.frames.invariant spare.0 spare.1 in
+    let next = next_spare c.frames.invariant c.rewrite_front.new.spare (rw c.in-Ok-Spare.field-0-is at c.in-Ok-Spare.ensures) in
+    let falls = frame_falls c.frames.invariant next in
     search (rules, falls.2)
 
 pub frames-smaller : goal.frames-smaller
 frames-smaller c =
-    let spare = rw take_rest at (rw c.in-Ok-Spare.field-0-is at c.in-Ok-Spare.ensures) in
-    let falls = frame_falls c.frames.invariant spare.0 spare.1 in
-    omega (arith, falls.0, falls.1, c.put_bytes-written.auto.buf)
+    let next = next_spare c.frames.invariant c.rewrite_front.new.spare (rw c.in-Ok-Spare.field-0-is at c.in-Ok-Spare.ensures) in
+    omega (arith, frame_falls c.frames.invariant next, c.put_bytes-written.auto.buf)
 
 pub frames-preserved : goal.frames-preserved
 frames-preserved c =
-    let spare = rw take_rest at (rw c.in-Ok-Spare.field-0-is at c.in-Ok-Spare.ensures) in
-    going_spare c.frames.invariant c.frames.spare c.rewrite_front.new.spare c.in-Ok-Spare.count spare c.put_bytes-written.ensures
+    let next = next_spare c.frames.invariant c.rewrite_front.new.spare (rw c.in-Ok-Spare.field-0-is at c.in-Ok-Spare.ensures) in
+    going_next c.frames.invariant next c.put_bytes-written.ensures
 
 -- ---- what is returned
 

@@ -1,32 +1,34 @@
 -- `feksroum_canonical_run`: what it ensures, what loops keep, what falls with each iteration and that no place or sum is out of range.
 use Rattle.std.proofs.Common.{rules, arith}
 use Rattle.std.proofs.lemmas.List.{take_rest}
-use Rattle.amqp_c.proofs.InPlace.{run_finishes, run_found, run_missed, run_refused, run_stops, run_unscanned, running_falls, running_on, running_start}
+use Rattle.amqp_types.specs.Levels.{strict}
+use Rattle.amqp_c.proofs.Fronts.{running_falls, running_on, running_start, stops, unscanned}
+use Rattle.amqp_c.proofs.InPlace.{run_finishes, run_found, run_missed, run_refused, run_stops}
 use Rattle.amqp_c.proofs.in_place.feksroum_canonical_run.Goals as goal
 
 pub frames-init : goal.frames-init
-frames-init c = running_start _ _
+frames-init c = running_start _ _ _
 
 pub overflow_add-used : goal.overflow_add-used
 overflow_add-used c =
-    let found = run_found (rw take_rest at c.in-Ok.ensures) (rw take_rest at c.frame_at.ensures) _ c.in-Ok-judge_frame.ensures c.if-judged.true in
-    let falls = running_falls c.frames.invariant c.in-Ok.layout.frame_len found in
+    let found = run_found (rw take_rest at c.in-Ok.ensures) (rw take_rest at c.frame_at.ensures) c.in-Ok-judge_frame.ensures c.if-judged.true in
+    let falls = running_falls c.frames.invariant found in
     search (rules, falls.1)
 
 pub frames-smaller : goal.frames-smaller
 frames-smaller c =
-    let found = run_found (rw take_rest at c.in-Ok.ensures) (rw take_rest at c.frame_at.ensures) _ c.in-Ok-judge_frame.ensures c.if-judged.true in
-    let falls = running_falls c.frames.invariant c.in-Ok.layout.frame_len found in
-    omega (arith, falls.0, falls.1)
+    let found = run_found (rw take_rest at c.in-Ok.ensures) (rw take_rest at c.frame_at.ensures) c.in-Ok-judge_frame.ensures c.if-judged.true in
+    omega (arith, running_falls c.frames.invariant found)
 
 pub frames-preserved : goal.frames-preserved
 frames-preserved c =
-    let found = run_found (rw take_rest at c.in-Ok.ensures) (rw take_rest at c.frame_at.ensures) _ c.in-Ok-judge_frame.ensures c.if-judged.true in
-    running_on c.frames.invariant c.in-Ok.layout.frame_len found
+    running_on c.frames.invariant
+    (run_found (rw take_rest at c.in-Ok.ensures) (rw take_rest at c.frame_at.ensures) c.in-Ok-judge_frame.ensures c.if-judged.true)
 
 pub returns-in-Err : goal.returns-in-Err
 returns-in-Err c =
-    run_stops c.frames.invariant c.are_bytes.ensures (run_unscanned c.args.max_payload _ c.in-Err.field-0 (rw take_rest at c.in-Err.ensures))
+    let error = unscanned strict c.args.max_payload _ c.in-Err.field-0 (rw take_rest at c.in-Err.ensures) in
+    run_stops c.frames.invariant c.are_bytes.ensures (stops _ c.in-Err.field-0 error)
 
 pub returns-in-Err-judge_frame : goal.returns-in-Err-judge_frame
 returns-in-Err-judge_frame c =
@@ -37,7 +39,7 @@ returns-in-Err-judge_frame c =
 pub returns-in-Ok-2 : goal.returns-in-Ok-2
 returns-in-Ok-2 c =
     run_stops c.frames.invariant c.are_bytes.ensures
-    (run_missed (rw take_rest at c.in-Ok.ensures) (rw take_rest at c.frame_at.ensures) c.in-Ok-judge_frame.judged c.in-Ok-judge_frame.ensures c.if-judged.false)
+    (run_missed (rw take_rest at c.in-Ok.ensures) (rw take_rest at c.frame_at.ensures) c.in-Ok-judge_frame.ensures c.if-judged.false)
 
 pub returns : goal.returns
 returns c = run_finishes c.frames.invariant c.are_bytes.ensures c.frames-test.false

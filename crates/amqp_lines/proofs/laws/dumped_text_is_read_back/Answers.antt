@@ -1,6 +1,7 @@
 -- `dumped_text_is_read_back`: what it ensures.
-use Rattle.amqp_lines.proofs.TextLaws.{dumped_back}
-use Rattle.amqp_lines.proofs.laws.dumped_text_is_read_back.Goals as goal
+use Rattle.amqp_lines.proofs
+use proofs.TextLaws.{dumped_back}
+use proofs.laws.dumped_text_is_read_back.Goals as goal
 
 pub returns : goal.returns
 returns c = dumped_back

@@ -1,6 +1,7 @@
 -- `write_header`: what it ensures.
-use Rattle.amqp_lines.proofs.Lining.{header_said}
-use Rattle.amqp_lines.proofs.lines.write_header.Goals as goal
+use Rattle.amqp_lines.proofs
+use proofs.Lining.{header_said}
+use proofs.lines.write_header.Goals as goal
 
 pub returns : goal.returns
 returns c =

@@ -1,7 +1,7 @@
 -- `write_line`: what it ensures.
-use Rattle.std.proofs.Common.{List, ◌∷◌, [], ◌++◌, ℕ, ap, ◌∙◌, append_assoc}
-use Rattle.amqp_lines.specs.Lines.{line, words}
-use Rattle.amqp_lines.proofs.lines.write_line.Goals as goal
+use Rattle.amqp_lines.proofs
+use proofs.Names.{List, ◌∷◌, [], ◌++◌, ℕ, ap, ◌∙◌, append_assoc, line, words}
+use proofs.lines.write_line.Goals as goal
 
 pub returns : goal.returns
 unfolding line

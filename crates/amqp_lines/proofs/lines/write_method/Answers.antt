@@ -1,6 +1,7 @@
 -- `write_method`: what it ensures.
-use Rattle.amqp_lines.proofs.Lining.{method_said}
-use Rattle.amqp_lines.proofs.lines.write_method.Goals as goal
+use Rattle.amqp_lines.proofs
+use proofs.Lining.{method_said}
+use proofs.lines.write_method.Goals as goal
 
 pub returns : goal.returns
 returns c =

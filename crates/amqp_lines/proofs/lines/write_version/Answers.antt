@@ -1,8 +1,8 @@
 -- `write_version`: what it ensures.
-use Rattle.std.proofs.Common.{◌≡◌}
-use Rattle.amqp_wire.specs.declared.version.ProtocolVersion.{ProtocolVersion}
-use Rattle.amqp_lines.proofs.Lining.{version_said}
-use Rattle.amqp_lines.proofs.lines.write_version.Goals as goal
+use Rattle.amqp_lines.proofs
+use proofs.Names.{◌≡◌, ProtocolVersion}
+use proofs.Lining.{version_said}
+use proofs.lines.write_version.Goals as goal
 
 pub returns-in_ok-push-in-Ok-2 : goal.returns-in_ok-push-in-Ok-2
 returns-in_ok-push-in-Ok-2 c = λ major minor revision is.

@@ -1,9 +1,9 @@
 -- `write_set`, which calls itself: what they ensure.
-use Rattle.std.proofs.Common.{◌≡◌, true, false, sym, ◌∙◌, arith}
-use Rattle.std.proofs.lemmas.List.{take_rest}
-use Rattle.amqp_canonical.specs.declared.shapes.Form.TheVariants as forms
-use Rattle.amqp_lines.proofs.RenderedSlots.{no_options, option_said, option_past}
-use Rattle.amqp_lines.proofs.slots.+write_set.Goals as goal
+use Rattle.amqp_lines.proofs
+use proofs.Names.{◌≡◌, true, false, sym, ◌∙◌, arith, take_rest}
+use proofs.Names.forms
+use proofs.RenderedSlots.{no_options, option_said, option_past}
+use proofs.slots.+write_set.Goals as goal
 
 pub returns-in-empty : goal.returns-in-empty
 returns-in-empty t c = no_options _ _ _ _ c.in-empty.len_below

@@ -1,9 +1,10 @@
 -- `write_slots`, which calls itself: what they ensure.
-use Rattle.std.proofs.lemmas.List.{take_rest}
-use Rattle.amqp_canonical.specs.declared.shapes.Form.TheVariants as forms
-use Rattle.amqp_canonical.specs.declared.shapes.Slot.TheVariants as slots
-use Rattle.amqp_lines.proofs.RenderedSlots.{no_slots, slots_said}
-use Rattle.amqp_lines.proofs.slots.+write_slots.Goals as goal
+use Rattle.amqp_lines.proofs
+use proofs.Names.{take_rest}
+use proofs.Names.forms
+use proofs.Names.slots
+use proofs.RenderedSlots.{no_slots, slots_said}
+use proofs.slots.+write_slots.Goals as goal
 
 pub returns-in-empty : goal.returns-in-empty
 returns-in-empty t c = no_slots _ _ _ c.in-empty.len_below

@@ -1,8 +1,8 @@
 -- `gather_lines`: what it ensures, what loops keep and what falls with each iteration.
-use Rattle.std.proofs.Common.{length, ap, refl, arith}
-use Rattle.std.proofs.lemmas.List.{length-drop}
-use Rattle.amqp_lines.proofs.Gathering.{along_begins, along_line, lines_done, lines_error, none_yet}
-use Rattle.amqp_lines.proofs.undumping.gather_lines.Goals as goal
+use Rattle.amqp_lines.proofs
+use proofs.Names.{length, ap, refl, arith, length-drop}
+use proofs.Gathering.{along_begins, along_line, lines_done, lines_error, none_yet}
+use proofs.undumping.gather_lines.Goals as goal
 
 pub lines-init : goal.lines-init
 lines-init g c = record { along = along_begins _ _ _ _ _; within = c.requires.within; none = c.requires.none }

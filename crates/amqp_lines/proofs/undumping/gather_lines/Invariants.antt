@@ -1,8 +1,8 @@
 -- `gather_lines`: what loops keep and what falls with each iteration or call.
-use Rattle.std.proofs.Common.{◌≤◌, length, take}
-use Rattle.amqp_lines.specs.LineReading.{HasNoNewline}
-use Rattle.amqp_lines.proofs.Gathering.{Along}
-use Rattle.amqp_lines.proofs.undumping.gather_lines.Given as goal
+use Rattle.amqp_lines.proofs
+use proofs.Names.{◌≤◌, length, take, HasNoNewline}
+use proofs.Gathering.{Along}
+use proofs.undumping.gather_lines.Given as goal
 
 abbrev pub invariant-lines : goal.invariant-lines
 invariant-lines g l = record {

@@ -1,7 +1,7 @@
 -- `line_end`: what loops keep and what falls with each iteration or call.
-use Rattle.std.proofs.Common.{◌-◌, ◌≤◌, length, take}
-use Rattle.amqp_lines.specs.LineReading.{HasNoNewline}
-use Rattle.amqp_lines.proofs.undumping.line_end.Given as goal
+use Rattle.amqp_lines.proofs
+use proofs.Names.{◌-◌, ◌≤◌, length, take, HasNoNewline}
+use proofs.undumping.line_end.Given as goal
 
 abbrev pub invariant-loop-place : goal.invariant-loop-place
 invariant-loop-place l = record {

@@ -1,10 +1,10 @@
 -- `run`: clause `stream` and what loops keep.
-use Rattle.std.proofs.Common.{length, ap, refl, ◌∙◌, arith}
+use Rattle.amqp_lines.proofs
+use proofs.Names.{length, ap, refl, ◌∙◌, arith, end_of_text}
 use Rattle.amqp_stream.specs.Buffers.{Buffered}
-use Rattle.amqp_lines.specs.LineReading.{end_of_text}
-use Rattle.amqp_lines.proofs.LongLines.{few_kept, holds_first, held_at_end, held_at_lines, held_unflushed, holds_on}
-use Rattle.amqp_lines.proofs.Undumps.{ends_spent, ends_at_read}
-use Rattle.amqp_lines.proofs.undumping.run.Goals as goal
+use proofs.LongLines.{few_kept, holds_first, held_at_end, held_at_lines, held_unflushed, holds_on}
+use proofs.Undumps.{ends_spent, ends_at_read}
+use proofs.undumping.run.Goals as goal
 
 pub reads-init : goal.reads-init
 reads-init g c = record {

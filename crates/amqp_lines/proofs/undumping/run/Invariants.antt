@@ -1,8 +1,8 @@
 -- `run`: what loops keep and what falls with each iteration or call.
-use Rattle.std.proofs.Common.{◌≡◌, ◌+◌, ◌≤◌, length, []}
-use Rattle.amqp_lines.specs.Lines.{longest_line}
-use Rattle.amqp_lines.proofs.LongLines.{Holding}
-use Rattle.amqp_lines.proofs.undumping.run.Given as goal
+use Rattle.amqp_lines.proofs
+use proofs.Names.{◌≡◌, ◌+◌, ◌≤◌, length, [], longest_line}
+use proofs.LongLines.{Holding}
+use proofs.undumping.run.Given as goal
 
 abbrev pub invariant-reads : goal.invariant-reads
 invariant-reads g l = record {

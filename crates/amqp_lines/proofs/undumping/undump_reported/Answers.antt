@@ -1,8 +1,9 @@
 -- `undump_reported`: what it ensures.
-use Rattle.std.proofs.Common.{inl}
-use Rattle.amqp_lines.proofs.Exactly.{undump_run, never_ran}
-use Rattle.amqp_lines.proofs.LineReports.{reported, unreported, never_reported}
-use Rattle.amqp_lines.proofs.undumping.undump_reported.Goals as goal
+use Rattle.amqp_lines.proofs
+use proofs.Names.{inl}
+use proofs.Exactly.{undump_run, never_ran}
+use proofs.LineReports.{reported, unreported, never_reported}
+use proofs.undumping.undump_reported.Goals as goal
 
 pub returns-in-Err : goal.returns-in-Err
 returns-in-Err g c = record {

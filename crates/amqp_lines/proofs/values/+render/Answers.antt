@@ -1,16 +1,10 @@
 -- the calls of cycle `render`: what they ensure and what loops keep.
-use Rattle.std.proofs.Common.{sym, ◌∙◌, arith}
-use Rattle.std.proofs.lemmas.List.{take_rest}
-use Rattle.std.proofs.lemmas.Bool.Decides.{nat_tests}
-use Rattle.amqp_types.specs.Levels.{strict}
-use Rattle.amqp_types.specs.ValueSpelling.{SpellsEntry, SpellsValue}
-use Rattle.amqp_laws.proofs.Exactly.{value_some}
+use Rattle.amqp_lines.proofs
+use proofs.Names.{sym, ◌∙◌, arith, take_rest, strict, SpellsEntry, SpellsValue, value_some, value_text, entry_text, numbers}
 use Rattle.amqp_laws.proofs.Filled.{entry_some}
-use Rattle.amqp_lines.specs.Values.{value_text}
-use Rattle.amqp_lines.specs.Rendering.{entry_text}
-use Rattle.amqp_lines.proofs.Rendered.{value_none, value_unknown, value_rendered, array_written, array_unwritten, table_written, table_unwritten, entry_written}
-use Rattle.amqp_lines.proofs.Rendered.{begins, goes_on, done}
-use Rattle.amqp_lines.proofs.values.+render.Goals as goal
+use proofs.Rendered.{value_none, value_unknown, value_rendered, array_written, array_unwritten, table_written, table_unwritten, entry_written, begins, goes_on}
+use proofs.Rendered.{done}
+use proofs.values.+render.Goals as goal
 
 pub write_value-returns-in-empty-clause-written : goal.write_value-returns-in-empty-clause-written
 write_value-returns-in-empty-clause-written t c = value_none _ _ _ _ _ c.in-empty.len_below
@@ -46,11 +40,11 @@ write_values-loop-rest-init t c = begins
 pub write_values-loop-rest-preserved : goal.write_values-loop-rest-preserved
 write_values-loop-rest-preserved t c =
     goes_on (SpellsValue strict _) value_text (value_some strict _) _ _ _ _ c.loop-rest.invariant
-    (grind (arith, nat_tests)) c.in_ok-used.ensures.written c.bytes_from-rest.ensures c.in_ok-write_comma.ensures
+    (grind numbers) c.in_ok-used.ensures.written c.bytes_from-rest.ensures c.in_ok-write_comma.ensures
 
 pub write_values-returns : goal.write_values-returns
 write_values-returns t c =
-    done (SpellsValue strict _) value_text (value_some strict _) tt c.loop-rest.invariant (grind (arith, nat_tests))
+    done (SpellsValue strict _) value_text (value_some strict _) tt c.loop-rest.invariant (grind numbers)
 
 pub write_entries-loop-rest-init : goal.write_entries-loop-rest-init
 write_entries-loop-rest-init t c = begins
@@ -59,12 +53,12 @@ pub write_entries-loop-rest-preserved : goal.write_entries-loop-rest-preserved
 write_entries-loop-rest-preserved t c =
     let S = SpellsValue strict _ in
     goes_on (SpellsEntry S) entry_text (entry_some S) _ _ _ _ c.loop-rest.invariant
-    (grind (arith, nat_tests)) c.in_ok-used.ensures.written c.bytes_from-rest.ensures c.in_ok-write_comma.ensures
+    (grind numbers) c.in_ok-used.ensures.written c.bytes_from-rest.ensures c.in_ok-write_comma.ensures
 
 pub write_entries-returns : goal.write_entries-returns
 write_entries-returns t c =
     let S = SpellsValue strict _ in
-    done (SpellsEntry S) entry_text (entry_some S) tt c.loop-rest.invariant (grind (arith, nat_tests))
+    done (SpellsEntry S) entry_text (entry_some S) tt c.loop-rest.invariant (grind numbers)
 
 pub write_entry-returns-clause-written : goal.write_entry-returns-clause-written
 write_entry-returns-clause-written t c =

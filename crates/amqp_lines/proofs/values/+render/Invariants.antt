@@ -1,11 +1,8 @@
 -- the calls of cycle `render`: what loops keep and what falls with each iteration or call.
-use Rattle.std.proofs.Common.{◌+◌, ◌*◌, length}
-use Rattle.amqp_types.specs.Levels.{strict}
-use Rattle.amqp_types.specs.ValueSpelling.{SpellsEntry, SpellsValue}
-use Rattle.amqp_lines.specs.Values.{value_text}
-use Rattle.amqp_lines.specs.Rendering.{entry_text}
-use Rattle.amqp_lines.proofs.Rendered.{GoesOn}
-use Rattle.amqp_lines.proofs.values.+render.Given as goal
+use Rattle.amqp_lines.proofs
+use proofs.Names.{◌+◌, ◌*◌, length, strict, SpellsEntry, SpellsValue, value_text, entry_text}
+use proofs.Rendered.{GoesOn}
+use proofs.values.+render.Given as goal
 
 abbrev pub decreases-write_after_tag : goal.decreases-write_after_tag
 decreases-write_after_tag l = 5 * l.depth_left

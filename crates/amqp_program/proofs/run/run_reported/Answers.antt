@@ -1,13 +1,11 @@
 -- `run_reported`: clauses `command`, `select`, `filter`, `usage`, `argument` and `nothing`, and what calls require.
-use Rattle.std.proofs.Common.{◌≡◌, Some, None, sym, ◌∙◌, subst, rules}
+use Rattle.std.proofs.Common.{◌≡◌, Some, sym, ◌∙◌, subst, rules}
 use Rattle.std.specs.Prelude.{codes}
 use Rattle.amqp_program.specs.declared.command.Command.TheVariants as commands
-use Rattle.amqp_select.specs.Refusals.{texts_of}
-use Rattle.amqp_program.specs.Arguments.{IsArgumentPlace}
+use Rattle.amqp_select.specs.Refusals.{texts_of, Spell}
 use Rattle.amqp_program.specs.Commands.{after_word, command_of}
-use Rattle.amqp_select.specs.Refusals.{Spell}
 use Rattle.amqp_program.proofs.Selections.{first_is, no_selecting, no_selection, no_filtering, no_filter, select_alone}
-use Rattle.amqp_program.proofs.Reporting.{asks_none, usage}
+use Rattle.amqp_program.proofs.Reporting.{usage}
 use Rattle.amqp_program.proofs.Numerals.{make_few, recut_fits}
 use Rattle.amqp_program.proofs.Forms.{select_first, filter_first}
 use Rattle.amqp_program.proofs.ArgumentFaults.{rules_place}
@@ -32,7 +30,7 @@ returns-in-Some-clause-usage g c =
 pub returns-in-Some-clause-argument : goal.returns-in-Some-clause-argument
 returns-in-Some-clause-argument g c =
     let after : after_word (codes "select") (texts_of c.args.words.now) ≡ Some (texts_of c.in-Some.rules.now) = search rules in
-    λ none. subst (λ texts. IsArgumentPlace texts c.run_select.result.place) (sym (first_is (codes "select") _ _ after))
+    λ none. rw (first_is (codes "select") (texts_of c.args.words.now) (texts_of c.in-Some.rules.now) after)
     (rules_place (codes "select") _ _ select_first (c.run_select.ensures.fault (c.run_select.ensures.usage.1 (no_selection _ _ after none))))
 
 pub returns-in-Some-clause-nothing : goal.returns-in-Some-clause-nothing
@@ -48,7 +46,7 @@ returns-in-Some-words_after-clause-usage g c =
 pub returns-in-Some-words_after-clause-argument : goal.returns-in-Some-words_after-clause-argument
 returns-in-Some-words_after-clause-argument g c =
     let after : after_word (codes "filter") (texts_of c.args.words.now) ≡ Some (texts_of c.in-Some-words_after.rules.now) = search rules in
-    λ none. subst (λ texts. IsArgumentPlace texts c.run_filter.result.place) (sym (first_is (codes "filter") _ _ after))
+    λ none. rw (first_is (codes "filter") (texts_of c.args.words.now) (texts_of c.in-Some-words_after.rules.now) after)
     (rules_place (codes "filter") _ _ filter_first (c.run_filter.ensures.fault (c.run_filter.ensures.usage.1 (no_filter _ _ after none))))
 
 pub returns-in-Some-words_after-clause-nothing : goal.returns-in-Some-words_after-clause-nothing
@@ -59,8 +57,7 @@ returns-in-Some-words_after-clause-nothing g c =
 pub returns-in-Some-clause-command : goal.returns-in-Some-clause-command
 returns-in-Some-clause-command g c =
     let after : after_word (codes "select") (texts_of c.args.words.now) ≡ Some (texts_of c.in-Some.rules.now) = search rules in
-    let none : command_of (texts_of c.args.words.now) ≡ None = select_alone (texts_of c.args.words.now) (texts_of c.in-Some.rules.now) after in
-    λ command is. absurd (asks_none (texts_of c.args.words.now) none command is)
+    λ command is. absurd (cc (is, select_alone (texts_of c.args.words.now) (texts_of c.in-Some.rules.now) after))
 
 pub returns-in-Some-clause-select : goal.returns-in-Some-clause-select
 returns-in-Some-clause-select g c =

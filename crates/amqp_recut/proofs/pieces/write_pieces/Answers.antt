@@ -1,10 +1,11 @@
 -- `write_pieces`: clause `gathers` and what loops keep.
-use Rattle.std.proofs.Common.{[], ◌++◌, refl, ◌∙◌, ◌-◌, arith, length}
+use Rattle.amqp_recut.proofs
+use Rattle.std.proofs.Common.{[], ◌++◌, refl, ◌∙◌, ◌-◌, arith}
 use Rattle.std.proofs.lemmas.List.{length-append}
-use Rattle.amqp_recut.proofs.Gathering.{gathered_none}
-use Rattle.amqp_recut.proofs.Piecing.{given_of_two, given_fails, given_end, given_short, given_whole, rest_shorter}
-use Rattle.amqp_recut.proofs.pieces.write_pieces.Goals as goal
-use Rattle.amqp_recut.proofs.pieces.write_pieces.Goals.{else-ends-via-then-ends+else-first-second-gt0, else-ends-via-else-ends}
+use proofs.Gathering.{gathered_none}
+use proofs.Piecing.{given_of_two, given_fails, given_end, given_short, given_whole, rest_shorter}
+use proofs.pieces.write_pieces.Goals as goal
+use proofs.pieces.write_pieces.Goals.{else-ends-via-then-ends+else-first-second-gt0, else-ends-via-else-ends}
 
 pub loop-first-init : goal.loop-first-init
 loop-first-init g c =
@@ -14,36 +15,32 @@ pub loop-first-preserved : goal.loop-first-preserved
 loop-first-preserved g c =
     let a = c.loop-first.invariant in
     record {
-      front = rest_shorter c.min-n.result (length c.args.front.now) c.loop-first.first.now a.front;
-      back = rest_shorter (c.args.size - c.min-n.result) (length c.args.back.now) c.loop-first.second.now a.back;
+      front = rest_shorter _ _ _ a.front;
+      back = rest_shorter _ _ _ a.back;
       room = c.in-Ok.ensures.room ∙ a.room;
-      given =
-          given_of_two c.args.size c.args.channel_id c.args.ends c.loop-first.first.now c.loop-first.second.now
-          c.min-n.result _ c.requires.some c.loop-first-test.true c.min-n.ensures refl a.given c.in-Ok.ensures.gathers;
+      given = given_of_two _ _ _ c.requires.some _ _ _ _ c.loop-first-test.true c.min-n.ensures refl a.given c.in-Ok.ensures.gathers;
     }
 
 pub returns-in-Err-clause-gathers : goal.returns-in-Err-clause-gathers
 returns-in-Err-clause-gathers g c =
-    given_fails c.args.size c.args.channel_id c.args.ends c.loop-first.first.now c.loop-first.second.now c.min-n.result
-    _ c.requires.some c.loop-first-test.true c.min-n.ensures refl c.loop-first.invariant.given c.in-Err.ensures.gathers
+    given_fails _ _ _ c.requires.some _ _ _ _ c.loop-first-test.true c.min-n.ensures refl c.loop-first.invariant.given c.in-Err.ensures.gathers
 
 pub returns-then-first-second-gt0-clause-gathers : goal.returns-then-first-second-gt0-clause-gathers
 returns-then-first-second-gt0-clause-gathers g c =
     let first = c.loop-first.first.now in
     let second = c.loop-first.second.now in
-    given_end _ _ c.args.size c.args.channel_id c.args.ends
-    (first ++ second) c.write_piece-last.result c.requires.some (omega (arith, length-append first second))
-    (omega (arith, length-append first second)) c.if-ends.true c.loop-first.invariant.given c.write_piece-last.ensures.gathers
+    let total = length-append first second in
+    given_end c.args.size _ _ c.requires.some (first ++ second) (omega arith) c.loop-first.invariant.given _ _ _ (omega arith) c.if-ends.true
+    c.write_piece-last.ensures.gathers
 
 pub returns-clause-gathers : goal.returns-clause-gathers
 returns-clause-gathers g c =
     let first = c.loop-first.first.now in
     let second = c.loop-first.second.now in
+    let total = length-append first second in
     elim c.else-ends.branch [
       | else-ends-via-then-ends+else-first-second-gt0 w ↦
-          given_whole c.args.size c.args.channel_id c.args.ends (first ++ second) c.requires.some
-          (omega (arith, length-append first second, w.if-first-second-gt0.false)) c.loop-first.invariant.given
+          given_whole c.args.size _ _ c.requires.some (first ++ second) (omega arith) c.loop-first.invariant.given (omega (arith, w.if-first-second-gt0.false))
       | else-ends-via-else-ends w ↦
-          given_short c.args.size c.args.channel_id c.args.ends (first ++ second)
-          (omega (arith, length-append first second)) w.if-ends.false c.loop-first.invariant.given
+          given_short c.args.size _ _ c.requires.some (first ++ second) (omega arith) c.loop-first.invariant.given w.if-ends.false
     ]

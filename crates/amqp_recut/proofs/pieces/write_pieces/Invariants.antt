@@ -1,8 +1,6 @@
 -- `write_pieces`: what loops keep and what falls with each iteration or call.
 use Rattle.std.proofs.Common.{◌≡◌, ◌+◌, ◌≤◌, ◌++◌, length}
-use Rattle.amqp_wire.specs.Canonical.{canon_frames}
-use Rattle.amqp_turns.specs.Splits.{frames_given}
-use Rattle.amqp_recut.proofs.Piecing.{HasGiven}
+use Rattle.amqp_recut.proofs.Piecing.{HasGiven, to_give}
 use Rattle.amqp_recut.proofs.pieces.write_pieces.Given as goal
 
 abbrev pub invariant-loop-first : goal.invariant-loop-first
@@ -11,8 +9,8 @@ invariant-loop-first g l = record {
   back : length l.second ≤ length l.back;
   room : l.out.room ≡ l.fn.out.room;
   given : HasGiven (g.K.Sink.store l.fn.sink) (g.K.Sink.store l.sink) l.fn.out.bytes l.out.bytes
-      (canon_frames (frames_given l.size l.channel_id l.ends (l.front ++ l.back)))
-      (canon_frames (frames_given l.size l.channel_id l.ends (l.first ++ l.second)));
+      (to_give l.size l.channel_id l.ends (l.front ++ l.back))
+      (to_give l.size l.channel_id l.ends (l.first ++ l.second));
 }
 
 abbrev pub decreases-loop-first : goal.decreases-loop-first

@@ -1,10 +1,10 @@
 -- `read_more`: clause `reads`.
-use Rattle.std.proofs.Common.{◌-◌, length, take, refl, sym, ap, ◌∙◌, ◌++◌, List, [], ℕ, append-nil, arith}
-use Rattle.std.proofs.lemmas.List.{length-take-le}
+use Rattle.amqp_stream.proofs
+use proofs.Names.{◌-◌, length, take, refl, sym, ap, ◌∙◌, ◌++◌, List, [], ℕ, append-nil, arith, length-take-le}
 use Rattle.std.proofs.Math.Facts.{Fits-lt-pow}
-use Rattle.amqp_stream.proofs.Adding.{IsBytes-nil}
-use Rattle.amqp_stream.proofs.Spans.{part-put, part-kept, part-bytes}
-use Rattle.amqp_stream.proofs.buffer.read_more.Goals as goal
+use proofs.Adding.{IsBytes-nil}
+use proofs.Spans.{part-put, part-kept, part-bytes}
+use proofs.buffer.read_more.Goals as goal
 
 pub returns-in-Ok-clause-reads : goal.returns-in-Ok-clause-reads
 returns-in-Ok-clause-reads g c =

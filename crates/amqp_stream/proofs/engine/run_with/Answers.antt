@@ -1,8 +1,9 @@
 -- `run_with`: clauses `stream`, `spent` and `unwritten`, what loops keep, what falls with each iteration and what calls require.
-use Rattle.std.proofs.Common.{Some, refl, ap, arith}
-use Rattle.amqp_stream.proofs.Rounds.{first_round, ends_at_fault, frame_has_room, ends_at_frame, frame_shortens, round_after_frame, ends_unflushed, ends_spent}
-use Rattle.amqp_stream.proofs.Rounds.{ends_unread, ends_at_end, round_after_read, all_left, no_fault, no_frame}
-use Rattle.amqp_stream.proofs.engine.run_with.Goals as goal
+use Rattle.amqp_stream.proofs
+use proofs.Names.{Some, refl, ap, arith}
+use proofs.Rounds.{first_round, ends_at_fault, frame_has_room, ends_at_frame, frame_shortens, round_after_frame, ends_unflushed, ends_spent, ends_unread}
+use proofs.Rounds.{ends_at_end, round_after_read, all_left, no_fault, no_frame}
+use proofs.engine.run_with.Goals as goal
 
 pub frames-init : goal.frames-init
 frames-init g c = record {

@@ -1,7 +1,8 @@
 -- `run_with`: what loops keep and what falls with each iteration or call.
-use Rattle.std.proofs.Common.{◌≡◌, ◌+◌, ◌*◌, [], length, drop}
-use Rattle.amqp_stream.proofs.Rounds.{Round}
-use Rattle.amqp_stream.proofs.engine.run_with.Given as goal
+use Rattle.amqp_stream.proofs
+use proofs.Names.{◌≡◌, ◌+◌, ◌*◌, [], length, drop}
+use proofs.Rounds.{Round}
+use proofs.engine.run_with.Given as goal
 
 abbrev pub invariant-frames : goal.invariant-frames
 invariant-frames g l =

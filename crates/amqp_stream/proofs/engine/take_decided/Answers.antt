@@ -1,23 +1,23 @@
 -- `take_decided`: clause `takes`, and what calls require.
-use Rattle.std.proofs.Common.{sym}
-use Rattle.amqp_wire.specs.Frames.{raw_of}
-use Rattle.amqp_stream.proofs.Deciding.{takes_compact, takes_decided, decided_writes}
-use Rattle.amqp_stream.proofs.Standing.{passed_as, room_left, kept_taken, written_taken, left_writes}
-use Rattle.amqp_stream.proofs.engine.take_decided.Goals as goal
+use Rattle.amqp_stream.proofs
+use proofs.Names.{sym, raw_of}
+use proofs.Deciding.{takes_compact, takes_decided, decided_writes}
+use proofs.Standing.{passed_as, room_left, kept_taken, written_taken, left_writes}
+use proofs.engine.take_decided.Goals as goal
 
 pub put_decided-requires-clause-decided : goal.put_decided-requires-clause-decided
 put_decided-requires-clause-decided g c =
     let w = g.W.FrameWriter.manner in
     let passes = passed_as w c.requires.decided.0 c.args.writer.now c.args.decision (sym c.frame_after-raw.ensures.frame) c.requires.decided.1 in
     let takes = rw c.in-Some.is at passes in
-    takes_decided w c.requires.decided.0 c.args.writer.now (raw_of c.frame_after-raw.result) c.in-Some.decision takes
+    takes_decided _ _ _ _ c.in-Some.decision takes
 
 pub put_decided-requires-clause-room : goal.put_decided-requires-clause-room
 put_decided-requires-clause-room g c =
     let w = g.W.FrameWriter.manner in
     let passes = passed_as w c.requires.decided.0 c.args.writer.now c.args.decision (sym c.frame_after-raw.ensures.frame) c.requires.decided.1 in
     let takes = rw c.in-Some.is at passes in
-    let compact = takes_compact w c.requires.decided.0 c.args.writer.now (raw_of c.frame_after-raw.result) c.in-Some.decision takes in
+    let compact = takes_compact _ _ _ _ c.in-Some.decision takes in
     room_left c.args.reader.now.held (raw_of c.frame_after-raw.result) c.frame_after-raw.ensures.frame
     c.in-Ok.ensures.gathers c.front.ensures c.requires.within (c.requires.room compact) c.gather_stretch.ensures.room
 

@@ -1,10 +1,8 @@
 -- `take_frame`: clause `takes`, and what calls require.
-use Rattle.std.proofs.Common.{drop, sym, ap, inr, ◌∙◌}
-use Rattle.amqp_types.proofs.Bytes.{IsBytes-drop}
-use Rattle.amqp_wire.specs.declared.looking.FrameLayout.{FrameLayout}
-use Rattle.amqp_wire.specs.Looks.{laid_out}
-use Rattle.amqp_stream.proofs.Standing.{stands_taken, passed_as, refused_stops}
-use Rattle.amqp_stream.proofs.engine.take_frame.Goals as goal
+use Rattle.amqp_stream.proofs
+use proofs.Names.{sym, inr, ◌∙◌, IsBytes-drop}
+use proofs.Standing.{stands_taken, passed_as, refused_stops}
+use proofs.engine.take_frame.Goals as goal
 
 pub returns-in-Err-clause-takes : goal.returns-in-Err-clause-takes
 returns-in-Err-clause-takes g c = (
@@ -21,14 +19,12 @@ returns-then-stands-clause-takes g c =
 pub take_decided-requires-clause-decided : goal.take_decided-requires-clause-decided
 take_decided-requires-clause-decided g c =
     let passes = rw c.in-Ok.is at c.pass-passed.ensures.passes in
-    let bytes = drop c.args.stretch.len c.args.reader.now.held in
-    let frame = c.frame_after.ensures.frame ∙ ap (λ (l : FrameLayout). laid_out l bytes) (sym c.copy_layout-layout.ensures) in
+    let frame = rw (← c.copy_layout-layout.ensures) at c.frame_after.ensures.frame in
     (c.args.writer.now, passed_as g.W.FrameWriter.manner c.args.writer.now _ c.in-Ok.decision frame passes)
 
 pub returns-in-Ok-clause-takes : goal.returns-in-Ok-clause-takes
 returns-in-Ok-clause-takes g c =
     let passes = rw c.in-Ok.is at c.pass-passed.ensures.passes in
-    let bytes = drop c.args.stretch.len c.args.reader.now.held in
-    let frame = c.frame_after.ensures.frame ∙ ap (λ (l : FrameLayout). laid_out l bytes) (sym c.copy_layout-layout.ensures) in
+    let frame = rw (← c.copy_layout-layout.ensures) at c.frame_after.ensures.frame in
     let takes = rw c.copy_layout-layout.ensures at c.take_decided.ensures.takes in
     takes c.args.writer.now (passed_as g.W.FrameWriter.manner c.args.writer.now _ c.in-Ok.decision frame passes)

@@ -1,10 +1,9 @@
 -- `take_kept`: clause `gathers`.
-use Rattle.std.proofs.Common.{◌≡◌, ℕ, List, ◌++◌, length, take, drop, sym, ap, ◌∙◌, arith}
-use Rattle.std.proofs.lemmas.List.{take-append-drop, take_rest}
-use Rattle.amqp_wire.specs.Frames.{raw_of}
-use Rattle.amqp_stream.proofs.Standing.{kept_in_place, kept_pending}
-use Rattle.amqp_stream.proofs.kept.take_kept.Goals.{then-stretch-gt0-2, else-stretch-gt0-2}
-use Rattle.amqp_stream.proofs.kept.take_kept.Goals as goal
+use Rattle.amqp_stream.proofs
+use proofs.Names.{◌≡◌, ◌++◌, length, take, drop, sym, ap, ◌∙◌, arith, take-append-drop, take_rest, raw_of}
+use proofs.Standing.{kept_in_place, kept_pending}
+use proofs.kept.take_kept.Goals.{then-stretch-gt0-2, else-stretch-gt0-2}
+use proofs.kept.take_kept.Goals as goal
 
 pub returns-then-bytes-pending-clause-gathers : goal.returns-then-bytes-pending-clause-gathers
 returns-then-bytes-pending-clause-gathers c =
@@ -23,7 +22,7 @@ returns-clause-gathers c =
     let held = c.args.reader.now.held in
     let all : c.if-stretch-gt0-2.out.bytes ≡ take pending middle ++ (take passed held ++ drop pending middle) = elim c.if-stretch-gt0-2.branch [
       | then-stretch-gt0-2 w ↦
-          ap (λ o. o.bytes) w.out-is ∙ w.insert.ensures.inserted ∙ ap (λ (xs : List ℕ). take pending middle ++ (xs ++ drop pending middle)) w.front.ensures
+          rw (w.out-is, w.insert.ensures.inserted, w.front.ensures)
       | else-stretch-gt0-2 w ↦
           ap (λ o. o.bytes) w.out-is ∙ sym (take-append-drop pending middle)
           ∙ ap (λ k. take pending middle ++ (take k held ++ drop pending middle)) {x = 0} {y = passed} (omega arith)

@@ -1,8 +1,9 @@
 -- `refill`: clauses `making` and `some`.
-use Rattle.std.proofs.Common.{arith}
-use Rattle.amqp_stream.proofs.MadeSizes.{made_frame-some}
-use Rattle.amqp_stream.proofs.Giving.{refilled_making}
-use Rattle.amqp_stream.proofs.make_source.refill.Goals as goal
+use Rattle.amqp_stream.proofs
+use proofs.Names.{arith}
+use proofs.MadeSizes.{made_frame-some}
+use proofs.Giving.{refilled_making}
+use proofs.make_source.refill.Goals as goal
 
 pub returns-clause-making : goal.returns-clause-making
 returns-clause-making c = refilled_making c.requires c.if-next-frames.false c.put_made-end.ensures

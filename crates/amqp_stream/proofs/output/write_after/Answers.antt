@@ -1,6 +1,7 @@
 -- `write_after`: clause `written`.
-use Rattle.amqp_stream.proofs.Writes.{WritesAll-then, gathered_flushed}
-use Rattle.amqp_stream.proofs.output.write_after.Goals as goal
+use Rattle.amqp_stream.proofs
+use proofs.Writes.{WritesAll-then, gathered_flushed}
+use proofs.output.write_after.Goals as goal
 
 pub returns-in-Ok-clause-written : goal.returns-in-Ok-clause-written
 returns-in-Ok-clause-written g c = gathered_flushed c.in-Ok.ensures.gathers c.flush-in-Ok.ensures.written

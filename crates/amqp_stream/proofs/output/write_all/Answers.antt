@@ -1,7 +1,8 @@
 -- `write_all`: what it ensures and what loops keep.
-use Rattle.std.proofs.Common.{arith}
-use Rattle.amqp_stream.proofs.Writes.{Gains-more, WritesAll-fault}
-use Rattle.amqp_stream.proofs.output.write_all.Goals as goal
+use Rattle.amqp_stream.proofs
+use proofs.Names.{arith}
+use proofs.Writes.{Gains-more, WritesAll-fault}
+use proofs.output.write_all.Goals as goal
 
 pub loop-done-preserved : goal.loop-done-preserved
 loop-done-preserved g c = record {

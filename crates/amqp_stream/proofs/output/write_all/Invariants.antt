@@ -1,7 +1,7 @@
 -- `write_all`: what loops keep and what falls with each iteration or call.
-use Rattle.std.proofs.Common.{◌≤◌, ◌-◌, length, take}
-use Rattle.amqp_stream.specs.Ends.{Gains}
-use Rattle.amqp_stream.proofs.output.write_all.Given as goal
+use Rattle.amqp_stream.proofs
+use proofs.Names.{◌≤◌, ◌-◌, length, take, Gains}
+use proofs.output.write_all.Given as goal
 
 abbrev pub invariant-loop-done : goal.invariant-loop-done
 invariant-loop-done g l = record {

@@ -1,8 +1,9 @@
 -- `write_body`: clause `gathers`.
-use Rattle.std.proofs.Common.{[], ◌∷◌, ◌++◌, length, ap, ◌∙◌, append_assoc}
+use Rattle.amqp_stream.proofs
+use proofs.Names.{arith, [], ◌∷◌, ◌++◌, length, ap, ◌∙◌, append_assoc}
 use Rattle.amqp_wire.specs.Spelling.{head}
-use Rattle.amqp_stream.proofs.Writes.{WritesAll-then, gather_fails, all_but}
-use Rattle.amqp_stream.proofs.output.write_body.Goals as goal
+use proofs.Writes.{WritesAll-then, gather_fails, all_but}
+use proofs.output.write_body.Goals as goal
 
 pub returns-in-Err-clause-gathers : goal.returns-in-Err-clause-gathers
 returns-in-Err-clause-gathers g c =
@@ -15,12 +16,7 @@ pub returns-in-Err-write_all-clause-gathers : goal.returns-in-Err-write_all-clau
 returns-in-Err-write_all-clause-gathers g c =
     let payload = c.args.payload.now in
     gather_fails (206 ∷ []) (WritesAll-then c.in-Ok.ensures.written c.in-Err-write_all.ensures)
-    (cc (
-      c.push.ensures.pushed,
-      c.frame_head.ensures,
-      append_assoc c.push.new.self.bytes payload (206 ∷ []),
-      append_assoc c.args.out.now.bytes (head 3 c.args.channel_id (length payload)) (payload ++ 206 ∷ []),
-    ))
+    (grind (arith, append_assoc, c.push.ensures.pushed, c.frame_head.ensures))
     (ap (λ w. w.bytes) c.in-Ok.ensures.empty)
 
 pub returns-in-Ok-write_all-clause-gathers : goal.returns-in-Ok-write_all-clause-gathers
@@ -28,10 +24,4 @@ returns-in-Ok-write_all-clause-gathers g c =
     let payload = c.args.payload.now in
     let end = c.push-in-Ok-write_all.ensures.pushed ∙ ap (λ w. w.bytes ++ 206 ∷ []) c.in-Ok.ensures.empty in
     all_but (WritesAll-then c.in-Ok.ensures.written c.in-Ok-write_all.ensures)
-    (cc (
-      end,
-      c.push.ensures.pushed,
-      c.frame_head.ensures,
-      append_assoc c.push.new.self.bytes payload (206 ∷ []),
-      append_assoc c.args.out.now.bytes (head 3 c.args.channel_id (length payload)) (payload ++ 206 ∷ []),
-    ))
+    (grind (arith, append_assoc, end, c.push.ensures.pushed, c.frame_head.ensures))

@@ -1,8 +1,8 @@
 -- `write_canonical`: clause `writes`.
-use Rattle.std.proofs.Common.{Ok, Err, ap, refl}
-use Rattle.amqp_wire.specs.Frames.{raw_of}
-use Rattle.amqp_stream.proofs.Writes.{added_refused, refused_by, wrote-body, wrote-beat, wrote-proto, pushed}
-use Rattle.amqp_stream.proofs.output.write_canonical.Goals as goal
+use Rattle.amqp_stream.proofs
+use proofs.Names.{Ok, Err, ap, refl, raw_of}
+use proofs.Writes.{added_refused, refused_by, wrote-body, wrote-beat, wrote-proto, pushed}
+use proofs.output.write_canonical.Goals as goal
 
 pub returns-in-Ok-clause-writes : goal.returns-in-Ok-clause-writes
 returns-in-Ok-clause-writes g c =

@@ -1,8 +1,8 @@
 -- `put_before`: clause `front`.
-use Rattle.std.proofs.Common.{ℕ, ◌+◌, List, length, take, ap, ◌∙◌}
-use Rattle.amqp_types.specs.Writing.{written}
-use Rattle.amqp_stream.proofs.Spans.{put_in_between}
-use Rattle.amqp_stream.proofs.output_buffer.put_before.Goals as goal
+use Rattle.amqp_stream.proofs
+use proofs.Names.{ℕ, ◌+◌, List, length, take, ap, ◌∙◌, written}
+use proofs.Spans.{put_in_between}
+use proofs.output_buffer.put_before.Goals as goal
 
 pub returns-clause-front : goal.returns-clause-front
 returns-clause-front c =

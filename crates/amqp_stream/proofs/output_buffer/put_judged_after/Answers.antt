@@ -1,8 +1,8 @@
 -- `put_judged_after`: clause `adds`.
-use Rattle.std.proofs.Common.{◌+◌, Ok}
-use Rattle.amqp_wire.specs.Frames.{raw_of, frame_length}
-use Rattle.amqp_stream.proofs.Spans.{rewritten_after}
-use Rattle.amqp_stream.proofs.output_buffer.put_judged_after.Goals as goal
+use Rattle.amqp_stream.proofs
+use proofs.Names.{◌+◌, Ok, raw_of, frame_length}
+use proofs.Spans.{rewritten_after}
+use proofs.output_buffer.put_judged_after.Goals as goal
 
 pub returns-clause-adds : goal.returns-clause-adds
 returns-clause-adds c =

@@ -1,7 +1,8 @@
 -- `LineReader::is_line`: what it ensures.
-use Rattle.std.proofs.Common.{◌+◌, length, ap, arith}
-use Rattle.amqp_lines.proofs.LineBack.{none_long, none_large, large_by, within_by, refused_line, rendered_line}
-use Rattle.amqp_lines.proofs.line_reading.LineReader.is_line.Goals as goal
+use Rattle.amqp_lines.proofs
+use proofs.Names.{◌+◌, length, ap, arith}
+use proofs.LineBack.{none_long, none_large, large_by, within_by, refused_line, rendered_line}
+use proofs.line_reading.LineReader.is_line.Goals as goal
 
 pub returns-then-len : goal.returns-then-len
 returns-then-len c =
@@ -27,6 +28,6 @@ returns c =
     (rw (c.without_last.ensures, c.clear.ensures.items) at c.in_ok-found.ensures) _ _ _
     _ (rw c.as_slice.ensures.value at c.are_bytes.ensures) c.short_held.ensures (omega (arith, c.if-len.false, c.len.ensures))
     (rw c.as_slice.ensures.value at c.in-Ok.ensures) (rw c.canonical.ensures at c.are_bytes-2.ensures)
-    (within_by _ (length c.canonical-2.result.now)
-    (c.args.max_payload + 8) _ c.is_within.ensures c.if-not-is_within.false (ap length c.canonical-2.ensures))
+    (within_by
+    (c.args.max_payload + 8) c.is_within.ensures c.if-not-is_within.false (ap length c.canonical-2.ensures))
     (rw c.line.ensures at c.is_same.ensures)

@@ -1,8 +1,8 @@
 -- `LineText::put`: what it ensures.
-use Rattle.std.proofs.Common.{◌∙◌}
-use Rattle.amqp_wire.specs.Frames.{raw_of}
-use Rattle.amqp_lines.proofs.Borrowed.{both_put}
-use Rattle.amqp_lines.proofs.line_text.LineText.put.Goals as goal
+use Rattle.amqp_lines.proofs
+use proofs.Names.{◌∙◌, raw_of}
+use proofs.Borrowed.{both_put}
+use proofs.line_text.LineText.put.Goals as goal
 
 pub returns : goal.returns
 returns c =

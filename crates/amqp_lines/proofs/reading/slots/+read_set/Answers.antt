@@ -1,12 +1,12 @@
 -- `read_set`, which calls itself: what they ensure.
-use Rattle.std.proofs.Common.{rules, Bor, List, ℕ}
-use Rattle.std.proofs.lemmas.List.{take_rest}
-use Rattle.amqp_canonical.specs.declared.shapes.Form.TheVariants as forms
-use Rattle.amqp_lines.proofs.ReadSteps.{set_none, set_other, set_read}
-use Rattle.amqp_lines.proofs.reading.slots.+read_set.Goals as goal
+use Rattle.amqp_lines.proofs
+use proofs.Names.{rules, Bor, List, ℕ, take_rest}
+use proofs.Names.forms
+use proofs.ReadSteps.{set_none, set_other, set_read}
+use proofs.reading.slots.+read_set.Goals as goal
 
 pub returns-in-empty : goal.returns-in-empty
-returns-in-empty t c = set_none _ _ _ c.in-empty.len_below
+returns-in-empty t c = set_none _ c.in-empty.len_below
 
 pub returns-in-None : goal.returns-in-None
 returns-in-None t c =

@@ -1,8 +1,8 @@
 -- `read_properties`: what it ensures.
-use Rattle.amqp_types.specs.Properties.{properties}
-use Rattle.amqp_lines.specs.Reading.{read_set, read_properties}
-use Rattle.amqp_lines.proofs.ReadSteps.{properties_read}
-use Rattle.amqp_lines.proofs.reading.slots.read_properties.Goals as goal
+use Rattle.amqp_lines.proofs
+use proofs.Names.{properties, read_set, read_properties}
+use proofs.ReadSteps.{properties_read}
+use proofs.reading.slots.read_properties.Goals as goal
 
 pub returns : goal.returns
 unfolding read_properties

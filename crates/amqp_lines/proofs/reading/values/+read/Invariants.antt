@@ -1,8 +1,8 @@
 -- the calls of cycle `read`: what loops keep and what falls with each iteration or call.
-use Rattle.std.proofs.Common.{◌+◌, ◌*◌}
-use Rattle.amqp_lines.specs.Reading.{closing, inside, listed, or_comma, read_item, read_value}
-use Rattle.amqp_lines.proofs.ReadSteps.{ReadsOn}
-use Rattle.amqp_lines.proofs.reading.values.+read.Given as goal
+use Rattle.amqp_lines.proofs
+use proofs.Names.{◌+◌, ◌*◌, closing, inside, listed, or_comma, read_item, read_value}
+use proofs.ReadSteps.{ReadsOn}
+use proofs.reading.values.+read.Given as goal
 
 abbrev pub decreases-read_list : goal.decreases-read_list
 decreases-read_list l = 5 * l.depth_left

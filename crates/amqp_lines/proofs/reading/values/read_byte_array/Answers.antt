@@ -1,8 +1,8 @@
 -- `read_byte_array`: what it ensures.
-use Rattle.std.proofs.Common.{arith}
-use Rattle.amqp_lines.specs.Reading.{read_hex, read_byte_array}
-use Rattle.amqp_lines.proofs.ReadSteps.{framed_read}
-use Rattle.amqp_lines.proofs.reading.values.read_byte_array.Goals as goal
+use Rattle.amqp_lines.proofs
+use proofs.Names.{arith, read_hex, read_byte_array}
+use proofs.ReadSteps.{framed_read}
+use proofs.reading.values.read_byte_array.Goals as goal
 
 pub returns : goal.returns
 unfolding read_byte_array

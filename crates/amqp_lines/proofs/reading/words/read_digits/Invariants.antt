@@ -1,7 +1,7 @@
 -- `read_digits`: what loops keep and what falls with each iteration or call.
-use Rattle.std.proofs.Common.{◌≡◌, length}
-use Rattle.amqp_lines.specs.Reading.{read_digits}
-use Rattle.amqp_lines.proofs.reading.words.read_digits.Given as goal
+use Rattle.amqp_lines.proofs
+use proofs.Names.{◌≡◌, length, read_digits}
+use proofs.reading.words.read_digits.Given as goal
 
 abbrev pub invariant-loop-rest : goal.invariant-loop-rest
 invariant-loop-rest l = read_digits 0 l.i ≡ read_digits l.number l.rest

@@ -1,7 +1,8 @@
 -- `read_string`: what it ensures.
-use Rattle.amqp_lines.specs.Reading.{inside, read_escaped, read_string}
-use Rattle.amqp_lines.proofs.ReadSteps.{framed_read}
-use Rattle.amqp_lines.proofs.reading.words.read_string.Goals as goal
+use Rattle.amqp_lines.proofs
+use proofs.Names.{inside, read_escaped, read_string}
+use proofs.ReadSteps.{framed_read}
+use proofs.reading.words.read_string.Goals as goal
 
 pub returns : goal.returns
 unfolding read_string

@@ -1,8 +1,9 @@
 -- `Recutter::write_body`: clauses `compact` and `writes`.
+use Rattle.amqp_recut.proofs
 use Rattle.std.proofs.Common.{arith}
-use Rattle.amqp_recut.proofs.Gathering.{settled, unsettled}
-use Rattle.amqp_recut.proofs.Writing.{error_few}
-use Rattle.amqp_recut.proofs.recutter.Recutter.write_body.Goals as goal
+use proofs.Gathering.{settled, unsettled}
+use proofs.Writing.{error_few}
+use proofs.recutter.Recutter.write_body.Goals as goal
 
 pub returns-in-Err-clause-compact : goal.returns-in-Err-clause-compact
 returns-in-Err-clause-compact g c =

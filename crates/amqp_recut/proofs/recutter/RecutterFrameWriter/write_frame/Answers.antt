@@ -6,11 +6,10 @@ use Rattle.amqp_recut.proofs.recutter.RecutterFrameWriter.write_frame.Goals as g
 
 pub returns-in-ProtocolHeader-clause-writes : goal.returns-in-ProtocolHeader-clause-writes
 returns-in-ProtocolHeader-clause-writes g c =
-    let passed = outside_passed c.args.self.now (raw_of c.args.raw) (inl c.in-ProtocolHeader.is) in
-    rw c.as_run.ensures (passing c.args.self.now (raw_of c.args.raw) _ _ _ _ c.write_canonical.result passed c.write_canonical.ensures.writes)
+    rw c.as_run.ensures (passing _ _ _ _ _ _ c.write_canonical.result
+    (outside_passed c.args.self.now (raw_of c.args.raw) (inl c.in-ProtocolHeader.is)) c.write_canonical.ensures.writes)
 
 pub returns-in-Heartbeat-clause-writes : goal.returns-in-Heartbeat-clause-writes
 returns-in-Heartbeat-clause-writes g c =
-    let passed = outside_passed c.args.self.now (raw_of c.args.raw) (inr c.in-Heartbeat.is) in
-    rw c.as_run-in-Heartbeat.ensures
-    (passing c.args.self.now (raw_of c.args.raw) _ _ _ _ c.write_canonical-in-Heartbeat.result passed c.write_canonical-in-Heartbeat.ensures.writes)
+    rw c.as_run-in-Heartbeat.ensures (passing _ _ _ _ _ _ c.write_canonical-in-Heartbeat.result
+    (outside_passed c.args.self.now (raw_of c.args.raw) (inr c.in-Heartbeat.is)) c.write_canonical-in-Heartbeat.ensures.writes)

@@ -1,7 +1,8 @@
 -- `TidyCanonicalFrameDecider::decide`: clause `decides`.
-use Rattle.std.proofs.Common.{refl, sym, ◌∙◌}
-use Rattle.amqp_stream.proofs.Deciding.{kept_by}
-use Rattle.amqp_stream.proofs.canonical.TidyCanonicalFrameDecider.decide.Goals as goal
+use Rattle.amqp_stream.proofs
+use proofs.Names.{refl, sym, ◌∙◌}
+use proofs.Deciding.{kept_by}
+use proofs.canonical.TidyCanonicalFrameDecider.decide.Goals as goal
 
 pub returns-in-Ok : goal.returns-in-Ok
 returns-in-Ok c = record { decides = kept_by c.in-Ok.ensures (λ f. refl) (sym c.in-Ok.ensures.tidy ∙ c.if-judged.true) refl }

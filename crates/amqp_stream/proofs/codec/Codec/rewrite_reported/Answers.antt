@@ -1,9 +1,10 @@
 -- `Codec::rewrite_reported`: clauses `run` and `memory`.
-use Rattle.amqp_wire.specs.Canonical.{canon_frames}
-use Rattle.amqp_stream.proofs.Transcribing.{canonical, transcribes, never_out_of_memory}
-use Rattle.amqp_stream.proofs.Runs.{canonical_run}
-use Rattle.amqp_stream.proofs.Reporting.{unreported_as_run, report_at}
-use Rattle.amqp_stream.proofs.codec.Codec.rewrite_reported.Goals as goal
+use Rattle.amqp_stream.proofs
+use proofs.Names.{canon_frames}
+use proofs.Transcribing.{canonical, transcribes, never_out_of_memory}
+use proofs.Runs.{canonical_run}
+use proofs.Reporting.{unreported_as_run, report_at}
+use proofs.codec.Codec.rewrite_reported.Goals as goal
 
 pub returns-in-Plain-clause-run : goal.returns-in-Plain-clause-run
 returns-in-Plain-clause-run g c = rw c.in-Plain.is (

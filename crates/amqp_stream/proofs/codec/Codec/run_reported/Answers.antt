@@ -1,7 +1,8 @@
 -- `Codec::run_reported`: clause `run`.
-use Rattle.std.proofs.Common.{ap, refl}
-use Rattle.amqp_stream.proofs.Reporting.{one_run, reports}
-use Rattle.amqp_stream.proofs.codec.Codec.run_reported.Goals as goal
+use Rattle.amqp_stream.proofs
+use proofs.Names.{ap, refl}
+use proofs.Reporting.{one_run, reports}
+use proofs.codec.Codec.run_reported.Goals as goal
 
 pub returns-clause-run : goal.returns-clause-run
 returns-clause-run g c =

@@ -1,7 +1,8 @@
 -- `MakeSourceSource::read`: what loops keep.
-use Rattle.std.proofs.Common.{arith}
-use Rattle.amqp_stream.proofs.Giving.{given_refilled, given_more}
-use Rattle.amqp_stream.proofs.make_source.MakeSourceSource.read.Goals as goal
+use Rattle.amqp_stream.proofs
+use proofs.Names.{arith}
+use proofs.Giving.{given_refilled, given_more}
+use proofs.make_source.MakeSourceSource.read.Goals as goal
 
 pub loop-count-preserved : goal.loop-count-preserved
 loop-count-preserved c =

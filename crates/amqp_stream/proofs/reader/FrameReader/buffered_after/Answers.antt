@@ -1,13 +1,8 @@
 -- `FrameReader::buffered_after`: clause `finds`.
-use Rattle.std.proofs.Common.{◌≡◌, ℕ, ◌-◌, List, Some, Err, length, take, drop, refl, ap}
-use Rattle.std.proofs.lemmas.List.{take_rest}
-use Rattle.amqp_types.specs.Judging.{Fault, fault}
-use Rattle.amqp_wire.specs.HeaderScan.{scan}
-use Rattle.amqp_stream.specs.declared.errors.ReadError.{ReadError}
+use Rattle.amqp_stream.proofs
+use proofs.Names.{◌≡◌, ℕ, ◌-◌, List, Some, Err, length, take, drop, refl, ap, take_rest, Fault, fault, scan, ReadError, read_fault, Finds}
 use Rattle.amqp_stream.specs.declared.errors.ReadError.TheVariants as errors
-use Rattle.amqp_stream.specs.Errors.{read_fault}
-use Rattle.amqp_stream.specs.Reading.{Finds}
-use Rattle.amqp_stream.proofs.reader.FrameReader.buffered_after.Goals as goal
+use proofs.reader.FrameReader.buffered_after.Goals as goal
 
 finds_fault : {m limit : ℕ} {own held : List ℕ} (passed : ℕ) (error : ReadError) {bad : Fault} → read_fault error ≡ Some bad → m ≡ limit → own ≡ held
     → scan (Some m) (take (length own - passed) (drop passed own)) ≡ fault bad → Finds limit (drop passed held) (Err error)

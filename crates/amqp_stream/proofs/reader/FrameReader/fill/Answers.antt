@@ -1,8 +1,8 @@
 -- `FrameReader::fill`: what calls require.
-use Rattle.std.proofs.Common.{◌≤◌, length, ap, arith}
-use Rattle.amqp_wire.proofs.HeaderScan.{scan-past_few}
-use Rattle.amqp_stream.proofs.Spans.{part-length}
-use Rattle.amqp_stream.proofs.reader.FrameReader.fill.Goals as goal
+use Rattle.amqp_stream.proofs
+use proofs.Names.{◌≤◌, length, ap, arith, scan-past_few}
+use proofs.Spans.{part-length}
+use proofs.reader.FrameReader.fill.Goals as goal
 
 pub read_more-count-requires-clause-room : goal.read_more-count-requires-clause-room
 read_more-count-requires-clause-room g c =

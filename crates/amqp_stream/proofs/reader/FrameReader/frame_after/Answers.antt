@@ -1,9 +1,8 @@
 -- `FrameReader::frame_after`: clauses `frame` and `few`.
-use Rattle.std.proofs.Common.{List, ℕ, length, refl, ap, arith}
-use Rattle.amqp_wire.proofs.HeaderScan.{scan-in_bounds}
-use Rattle.amqp_stream.proofs.Spans.{part-behind}
-use Rattle.amqp_stream.proofs.reader.FrameReader.frame_after.Goals as goal
-use Rattle.amqp_wire.proofs.Looked.{raw_with}
+use Rattle.amqp_stream.proofs
+use proofs.Names.{List, ℕ, length, refl, ap, arith, scan-in_bounds, raw_with}
+use proofs.Spans.{part-behind}
+use proofs.reader.FrameReader.frame_after.Goals as goal
 
 pub returns-clause-frame : goal.returns-clause-frame
 returns-clause-frame c =

@@ -1,22 +1,15 @@
 -- `FrameReader::next`: what it ensures.
-use Rattle.std.proofs.Common.{◌+◌, ◌-◌, ◌^◌, ◌<◌, ◌≤◌, ℕ, List, length, take, drop, Ok, Err, None, refl, sym, ap, subst, ◌∙◌, arith}
-use Rattle.amqp_wire.specs.Looks.{laid_out}
-use Rattle.amqp_wire.proofs.HeaderScan.{scan-in_bounds}
-use Rattle.amqp_stream.specs.Changes.{◌⇒◌}
-use Rattle.amqp_stream.specs.Reading.{Holding, LiesIn, IsBorrowed, HasNext}
-use Rattle.amqp_stream.proofs.Spans.{part-drop, part-frame, part-length}
-use Rattle.amqp_stream.proofs.Pulling.{err_as, none_as, some_as}
-use Rattle.amqp_stream.proofs.reader.FrameReader.next.Goals as goal
-use Rattle.amqp_wire.proofs.Looked.{raw_with}
+use Rattle.amqp_stream.proofs
+use proofs.Names.{◌+◌, ◌-◌, ◌^◌, ◌<◌, ◌≤◌, ℕ, List, length, take, drop, refl, ap, ◌∙◌, arith, laid_out, scan-in_bounds, LiesIn, IsBorrowed, raw_with}
+use proofs.Spans.{part-drop, part-frame, part-length}
+use proofs.Pulling.{err_as, none_as, some_as}
+use proofs.reader.FrameReader.next.Goals as goal
 
 pub returns-in-Err : goal.returns-in-Err
 returns-in-Err g c =
     let ran = c.in-Err.ensures in
-    let P : Holding → Type 0 = λ h.
-    HasNext IsBorrowed (g.S.Source.supply c.args.source.now ⇒ g.S.Source.supply c.pull.new.source)
-    (c.args.budget.now ⇒ c.pull.new.budget) (c.args.self.now ⇒ h) (Err c.in-Err.error) in
-    let next : P c.pull.new.self = err_as LiesIn IsBorrowed c.in-Err.error ran.pulls in (
-      (refl, λ _. tt, subst P (sym c.self.view_is) next),
+    let next = err_as LiesIn IsBorrowed c.in-Err.error ran.pulls in (
+      (refl, λ _. tt, rw c.self.view_is next),
       record {
         fits = omega (arith, c.self.invariant.2, ap (λ h. h.limit) c.self.view_is, ran.pulls.limit);
         few = tt;
@@ -30,11 +23,8 @@ returns-in-Err g c =
 pub returns-in-Ok-None : goal.returns-in-Ok-None
 returns-in-Ok-None g c =
     let ran = c.in-Ok-None.ensures in
-    let P : Holding → Type 0 = λ h.
-    HasNext IsBorrowed (g.S.Source.supply c.args.source.now ⇒ g.S.Source.supply c.pull.new.source)
-    (c.args.budget.now ⇒ c.pull.new.budget) (c.args.self.now ⇒ h) (Ok None) in
-    let next : P c.pull.new.self = none_as LiesIn IsBorrowed (rw c.in-Ok-None.field-0-is at ran.pulls) in (
-      (refl, λ _. tt, subst P (sym c.self.view_is) next),
+    let next = none_as LiesIn IsBorrowed (rw c.in-Ok-None.field-0-is at ran.pulls) in (
+      (refl, λ _. tt, rw c.self.view_is next),
       record {
         fits = omega (arith, c.self.invariant.2, ap (λ h. h.limit) c.self.view_is, ran.pulls.limit);
         few = tt;

@@ -1,9 +1,9 @@
 -- `FrameReader::pull`: clause `pulls`, and what loops keep.
-use Rattle.std.proofs.Common.{Ok, Err, Some, refl, ◌∙◌, arith}
+use Rattle.amqp_stream.proofs
+use proofs.Names.{Ok, Err, Some, refl, ◌∙◌, arith, LiesIn}
+use proofs.Pulling.{Pulled-more, pulls_to, ends_fault, ends_unread, ends_short}
 use Rattle.amqp_stream.specs.declared.errors.ReadError.TheVariants as errors
-use Rattle.amqp_stream.specs.Reading.{LiesIn}
-use Rattle.amqp_stream.proofs.Pulling.{Pulled-more, pulls_to, ends_fault, ends_unread, ends_short}
-use Rattle.amqp_stream.proofs.reader.FrameReader.pull.Goals as goal
+use proofs.reader.FrameReader.pull.Goals as goal
 
 pub returns-in-Err-clause-pulls : goal.returns-in-Err-clause-pulls
 returns-in-Err-clause-pulls g c =

@@ -1,7 +1,8 @@
 -- `FrameReader::pull`: what loops keep and what falls with each iteration or call.
-use Rattle.std.proofs.Common.{◌≡◌}
-use Rattle.amqp_stream.proofs.Pulling.{Pulled}
-use Rattle.amqp_stream.proofs.reader.FrameReader.pull.Given as goal
+use Rattle.amqp_stream.proofs
+use proofs.Names.{◌≡◌}
+use proofs.Pulling.{Pulled}
+use proofs.reader.FrameReader.pull.Given as goal
 
 abbrev pub invariant-reads : goal.invariant-reads
 invariant-reads g l = record {

@@ -1,11 +1,8 @@
 -- `FrameReader::replace`: clause `held`.
-use Rattle.std.proofs.Common.{◌≡◌, ℕ, ◌+◌, ◌-◌, ◌≤◌, List, length, drop, ap, ◌∙◌, arith}
-use Rattle.std.proofs.lemmas.List.{take_at}
-use Rattle.amqp_types.specs.Writing.{written}
-use Rattle.amqp_types.proofs.WrittenParts.{written-length}
-use Rattle.amqp_stream.specs.Spans.{held_in}
-use Rattle.amqp_stream.proofs.Spans.{part-length, part-written}
-use Rattle.amqp_stream.proofs.reader.FrameReader.replace.Goals as goal
+use Rattle.amqp_stream.proofs
+use proofs.Names.{◌≡◌, ℕ, ◌+◌, ◌-◌, ◌≤◌, List, length, drop, ap, ◌∙◌, arith, take_at, written, written-length, held_in}
+use proofs.Spans.{part-length, part-written}
+use proofs.reader.FrameReader.replace.Goals as goal
 
 pub returns-clause-held : goal.returns-clause-held
 returns-clause-held c =
